@@ -1,0 +1,8 @@
+pub mod Automaton
+pub mod Lent
+pub mod Meeting
+pub mod Reading
+pub mod Successors
+pub mod SuccessorLaws
+pub mod Questions
+pub mod QuestionLaws

@@ -1,0 +1,1 @@
+// Finite search and endless sequences: specifications only.
