@@ -1,0 +1,39 @@
+-- The three pieces, written one behind the other over LFs, are the line: `pieces`. Assumes nothing.
+use denote.Ref.{now}
+use Rattle.report.specs.ReportLaws.{pieces}
+use borrow.Author.Needs.{needs}
+use Rattle.report.proofs.line.Statement.{statement}
+use Rattle.report.proofs.line.Tie as tie
+
+slice-aggregate-put-bytes : tie.Need-slice-aggregate-put-bytes
+slice-aggregate-put-bytes c = search needs
+
+put-bytes-requires : tie.Need-put-bytes-requires
+put-bytes-requires c κs = search needs
+
+slice-aggregate-put-column : tie.Need-slice-aggregate-put-column
+slice-aggregate-put-column c = search needs
+
+put-column-requires : tie.Need-put-column-requires
+put-column-requires c κs = search needs
+
+slice-aggregate-put-column-2 : tie.Need-slice-aggregate-put-column-2
+slice-aggregate-put-column-2 c = search needs
+
+put-column-requires-2 : tie.Need-put-column-requires-2
+put-column-requires-2 c κs = search needs
+
+returns : tie.Need-returns
+returns c = cc (pieces (now (c .before .before .before .before .before .before .before .before .before .before .args .word)) (c .before .before .before .before .before .before .before .before .before .before .args .a) (c .before .before .before .before .before .before .before .before .before .before .args .b) (c .before .before .before .before .before .before .before .before .before .before .pre))
+
+pub line-spec : {M : Type 1} → statement M
+line-spec =
+    tie.close
+    (tie.spec
+    slice-aggregate-put-bytes
+    put-bytes-requires
+    slice-aggregate-put-column
+    put-column-requires
+    slice-aggregate-put-column-2
+    put-column-requires-2
+    returns)

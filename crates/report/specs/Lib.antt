@@ -1,0 +1,4 @@
+pub mod Report
+pub mod ReportLaws
+pub mod Split
+pub mod SplitLaws

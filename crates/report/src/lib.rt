@@ -1,0 +1,79 @@
+// What the programs print, and where the sheet ends in the input of `verdict`.
+ghost use mathlib.Core.Path.{_≡_};
+ghost use Prim.Native.Nat.{_+_, _<_, _≤_};
+ghost use lib.ListN.{length};
+ghost use Rattle.report.specs.Report.{reportLine, refusalLine, verdictLine};
+ghost use Rattle.report.specs.Split.{EndLine, SheetEnds};
+ghost use Rattle.report.specs.SplitLaws.{Tells};
+use gate::Refusal;
+
+// A word of three letters and two numbers, in a line of 12 bytes.
+fn line(word: &[u8], a: usize, b: usize) -> [u8; 12]
+    requires { ⌜ length (now word) ≡ 3 ⌝ }
+    ensures { λ r. ⌜ r ≡ reportLine (now (word .entry)) a b ⌝ }
+{
+    let mut out = [10u8; 12];
+    text::put_bytes(&mut out, 0, word);
+    text::put_column(&mut out, 3, 3, a);
+    text::put_column(&mut out, 6, 5, b);
+    out
+}
+
+// The line of a refusal.
+pub fn refusal_line(r: Refusal) -> [u8; 12]
+    ensures { λ l. ⌜ l ≡ refusalLine (r .number) (r .line) ⌝ }
+{
+    line(b"REF", r.number as usize, r.line)
+}
+
+// The line of a verdict.
+pub fn verdict_line(yes: bool, least: usize, passes: usize) -> [u8; 12]
+    ensures { λ l. ⌜ l ≡ verdictLine yes least passes ⌝ }
+{
+    if yes {
+        return line(b"YES", least, passes);
+    }
+    line(b" NO", least, passes)
+}
+
+// Whether the line that starts at a, if one does, is just END.
+fn ends_at(s: &[u8], a: usize) -> bool
+    requires { ⌜ a < length (now s) ⌝ }
+    ensures { λ r. ⌜ Tells r (EndLine (now (s .entry)) a) ⌝ }
+{
+    if a > 0 {
+        if s[a - 1] != 10 {
+            return false;
+        }
+    }
+    if s.len() - a < 4 {
+        return false;
+    }
+    if s[a] != 69 {
+        return false;
+    }
+    if s[a + 1] != 78 {
+        return false;
+    }
+    if s[a + 2] != 68 {
+        return false;
+    }
+    if s[a + 3] != 10 {
+        return false;
+    }
+    true
+}
+
+// Where the sheet ends and the plan begins.
+pub fn sheet_end(s: &[u8]) -> usize
+    ensures { λ r. ⌜ SheetEnds (now (s .entry)) r × (r ≤ length (now (s .entry))) ⌝ }
+{
+    let mut a = 0;
+    while a < s.len() {
+        if ends_at(s, a) {
+            return a + 4;
+        }
+        a += 1;
+    }
+    a
+}

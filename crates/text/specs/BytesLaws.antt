@@ -1,0 +1,34 @@
+-- A stretch, byte by byte. Assumes nothing.
+use Prim.Native.Nat.{ℕ, suc, _+_, _-_, _<_, _≤_}
+use mathlib.Core.Path.{_≡_, refl, sym, _∙_, ap}
+use mathlib.Core.List.{List, [], _∷_, _++_}
+use lib.ListN.{length, getD, drop, length-drop}
+use lib.Seq.{drop-cons, length-take-le, getD-take, getD-drop, take-at, drop-at, drop-drop}
+use native.Mathlib.Omega.{arith}
+use native.Mathlib.Numerals.{add-one}
+use Rattle.text.specs.Bytes.{stretch}
+
+pub stretch-none : (s : List ℕ) (a e : ℕ) → e ≤ a → stretch s a e ≡ []
+stretch-none s a e h =
+    let k : e - a ≡ 0 = omega arith in
+    rw k
+
+pub stretch-cons : (s : List ℕ) (a e : ℕ) → a < e → e ≤ length s → stretch s a e ≡ getD s a 0 ∷ stretch s (a + 1) e
+stretch-cons s a e h l =
+    let k : e - a ≡ suc (e - (a + 1)) = omega arith in
+    rw (drop-cons s a 0 (omega arith), ← add-one a, k)
+
+pub stretch-length : (s : List ℕ) (a e : ℕ) → e ≤ length s → length (stretch s a e) ≡ e - a
+stretch-length s a e h = length-take-le (e - a) (drop a s) (simp length-drop (omega arith))
+
+pub stretch-at : (s : List ℕ) (a e i : ℕ) → i < e - a → getD (stretch s a e) i 0 ≡ getD s (a + i) 0
+stretch-at s a e i h = getD-take (e - a) (drop a s) i 0 h ∙ getD-drop a s i 0
+
+-- what a file goes on with is a stretch of it
+pub stretch-is : (s : List ℕ) (a : ℕ) (x rest : List ℕ) → drop a s ≡ x ++ rest → stretch s a (a + length x) ≡ x
+stretch-is s a x rest e =
+    let k : a + length x - a ≡ length x = omega arith in
+    rw (k, e) (take-at x rest (length x) refl)
+
+pub stretch-rest : (s : List ℕ) (a : ℕ) (x rest : List ℕ) → drop a s ≡ x ++ rest → drop (a + length x) s ≡ rest
+stretch-rest s a x rest e = sym (drop-drop (length x) a s) ∙ (ap (drop (length x)) e ∙ drop-at x rest (length x) refl)

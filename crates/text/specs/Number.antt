@@ -1,0 +1,27 @@
+-- A number of a file, read: "decimal, right-justified with spaces in fixed columns, no leading zeros", three columns wide.
+-- Read loosely, and then the three bytes must be the writing of what they come to.
+use Prim.Native.Nat.{ℕ, _+_, _-_, _*_}
+use mathlib.Core.List.{List}
+use lib.ListN.{getD}
+use lib.Dec.{ltb, eqb}
+use Rattle.text.specs.Choice.{choose}
+use Rattle.text.specs.Column.{digitByte}
+use Rattle.text.specs.declared.Number.{Number}
+use Rattle.text.specs.declared.Number.the-variants.{Is, Bad}
+
+-- the digit that a byte is; any other byte counts 0
+unfoldable pub digitOf : ℕ → ℕ
+digitOf b = choose (ltb b 48) 0 (choose (ltb b 58) (b - 48) 0)
+
+unfoldable pub valueOf : ℕ → ℕ → ℕ → ℕ
+valueOf a b c = digitOf a * 100 + digitOf b * 10 + digitOf c
+
+unfoldable pub numberOf : ℕ → ℕ → ℕ → Number
+numberOf a b c =
+    choose (eqb a (digitByte 2 (valueOf a b c)))
+    (choose (eqb b (digitByte 1 (valueOf a b c))) (choose (eqb c (digitByte 0 (valueOf a b c))) (Is (valueOf a b c)) Bad) Bad)
+    Bad
+
+-- the number in the three columns from `at`; a byte past the end is 0, which stands in no column
+unfoldable pub numberAt : List ℕ → ℕ → Number
+numberAt s at = numberOf (getD s at 0) (getD s (at + 1) 0) (getD s (at + 2) 0)

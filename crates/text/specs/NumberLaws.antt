@@ -1,0 +1,81 @@
+-- What is written in three columns is read back, and what is read is what is written there. Assumes nothing.
+use Prim.Native.Nat.{ℕ, _+_, _/_, _%_, _<_}
+use mathlib.Core.Path.{_≡_, refl, sym, _∙_, ap}
+use mathlib.Core.Bool.{Bool, true, false}
+use mathlib.Core.List.{List, _++_}
+use lib.ListN.{length, getD, drop}
+use borrow.Author.Tests.{eq-eqb, eqb-true}
+use native.Mathlib.Omega.{arith}
+use Rattle.text.specs.Choice.{choose}
+use Rattle.text.specs.Column.{digitByte, column}
+use Rattle.text.specs.ColumnLaws.{digit-of, digit-small, column-no-zero, column-length}
+use Rattle.text.specs.Word.{startsAt}
+use Rattle.text.specs.WordLaws.{starts-is, goes-on}
+use Rattle.text.specs.Number.{digitOf, valueOf, numberOf, numberAt}
+use Rattle.text.specs.declared.Number.{Number}
+use Rattle.text.specs.declared.Number.the-variants.{Is, Bad}
+
+value-written : (v : ℕ) → v < 1000 → valueOf (digitByte 2 v) (digitByte 1 v) (digitByte 0 v) ≡ v
+unfolding valueOf
+value-written v h =
+    let a : digitOf (digitByte 2 v) ≡ v / 100 % 10 = digit-of 2 v in
+    let b : digitOf (digitByte 1 v) ≡ v / 10 % 10 = digit-of 1 v in
+    let c : digitOf (digitByte 0 v) ≡ v / 1 % 10 = digit-of 0 v in
+    omega arith
+
+pub read-written : (v : ℕ) → v < 1000 → numberOf (digitByte 2 v) (digitByte 1 v) (digitByte 0 v) ≡ Is v
+unfolding numberOf
+read-written v h =
+    rw value-written
+    (simp (eq-eqb (digitByte 2 v) (digitByte 2 v) refl, eq-eqb (digitByte 1 v) (digitByte 1 v) refl, eq-eqb (digitByte 0 v) (digitByte 0 v) refl))
+
+-- THE LAW, one way: a number below 1000 in the three columns from `at` is read
+pub number-column : (s rest : List ℕ) (at v : ℕ) → v < 1000 → drop at s ≡ column 3 v ++ rest → numberAt s at ≡ Is v
+unfolding numberAt column
+number-column s rest at v h e =
+    let a = goes-on s at _ _ e in
+    let b = goes-on s (at + 1) _ _ (a .1) in
+    let c = goes-on s (at + 1 + 1) _ _ (b .1) in
+    let two : at + 1 + 1 ≡ at + 2 = omega arith in
+    let c′ : getD s (at + 2) 0 ≡ digitByte 0 v = ap (λ (n : ℕ). getD s n 0) (sym two) ∙ c .0 in
+    rw (a .0, b .0, c′) (read-written v h)
+
+pick-is : (t : Bool) (x : Number) (v : ℕ) → choose t x Bad ≡ Is v → (t ≡ true) × (x ≡ Is v)
+pick-is true x v p = (refl, p)
+pick-is false x v p = absurd (let z : _≡_ {A = ℕ} 0 1 = cc in omega arith)
+
+value-small : (a b c : ℕ) → valueOf a b c < 1000
+unfolding valueOf
+value-small a b c = omega (arith, digit-small a, digit-small b, digit-small c)
+
+-- three bytes that are read as v are the writing of v
+pub read-is-written :
+    (a b c v : ℕ) → numberOf a b c ≡ Is v → (v < 1000) × (a ≡ digitByte 2 v) × (b ≡ digitByte 1 v) × (c ≡ digitByte 0 v)
+unfolding numberOf
+read-is-written a b c v p =
+    let p1 = pick-is _ _ v p in
+    let p2 = pick-is _ _ v (p1 .1) in
+    let p3 = pick-is _ _ v (p2 .1) in
+    let e1 : a ≡ digitByte 2 (valueOf a b c) = eqb-true _ _ (p1 .0) in
+    let e2 : b ≡ digitByte 1 (valueOf a b c) = eqb-true _ _ (p2 .0) in
+    let e3 : c ≡ digitByte 0 (valueOf a b c) = eqb-true _ _ (p3 .0) in
+    let q : Is (valueOf a b c) ≡ Is v = p3 .1 in
+    let u : valueOf a b c ≡ v = cc in
+    (omega (arith, value-small a b c), cc, cc, cc)
+
+starts-column :
+    (s : List ℕ) (at v : ℕ) →
+    getD s at 0 ≡ digitByte 2 v →
+    getD s (at + 1) 0 ≡ digitByte 1 v → getD s (at + 2) 0 ≡ digitByte 0 v → startsAt s at (column 3 v) ≡ true
+unfolding startsAt column
+starts-column s at v a b c =
+    let two : at + 1 + 1 ≡ at + 2 = omega arith in
+    simp (eq-eqb _ _ a, eq-eqb _ _ b, two, eq-eqb _ _ c)
+
+-- THE LAW, the other way: a number that is read is below 1000, and the file goes on with its writing
+pub number-is : (s : List ℕ) (at v : ℕ) → numberAt s at ≡ Is v → (v < 1000) × (drop at s ≡ column 3 v ++ drop (at + 3) s)
+unfolding numberAt
+number-is s at v e =
+    let w = read-is-written _ _ _ v e in
+    let l : length (column 3 v) ≡ 3 = column-length 3 v in
+    (w .0, starts-is s at (column 3 v) (column-no-zero 3 v) (starts-column s at v (w .1) (w .2) (w .3)) ∙ rw l)

@@ -1,0 +1,20 @@
+-- A word that stands at a place of a file, as SHEET in "the first line opens with the five letters SHEET".
+use Prim.Native.Nat.{ℕ, _+_}
+use mathlib.Core.Bool.{Bool, true, false}
+use mathlib.Core.List.{List, [], _∷_}
+use lib.ListN.{getD}
+use lib.Dec.{eqb}
+use Rattle.text.specs.Choice.{choose}
+
+unfoldable pub startsAt : List ℕ → ℕ → List ℕ → Bool
+startsAt s at [] = true
+startsAt s at (b ∷ word) = choose (eqb (getD s at 0) b) (startsAt s (at + 1) word) false
+
+-- a byte stands nowhere in a list
+abbrev pub without : ℕ → List ℕ → Bool
+without b [] = true
+without b (x ∷ xs) = choose (eqb x b) false (without b xs)
+
+-- no byte of a word is 0, which is what stands past the end of a file
+abbrev pub noZero : List ℕ → Bool
+noZero word = without 0 word

@@ -1,0 +1,150 @@
+// The bytes of the files: numbers in columns, fixed words, the ends of lines.
+ghost use mathlib.Core.Path.{_≡_};
+ghost use Prim.Native.Nat.{_+_, _<_, _≤_, _^_};
+ghost use lib.ListN.{getD, length};
+ghost use lib.Seq.{sets};
+ghost use Rattle.text.specs.Column.{digitByte, column};
+ghost use Rattle.text.specs.Number.{digitOf, numberOf, numberAt};
+ghost use Rattle.text.specs.Word.{startsAt};
+ghost use Rattle.text.specs.Line.{lineAt};
+
+// A number that was read, or none.
+pub enum Number {
+    Is(usize),
+    Bad,
+}
+
+// Where a line ends.
+pub enum Line {
+    // The position of its LF.
+    Ends(usize),
+    // No LF is left.
+    Open,
+}
+
+// The byte at a position, and 0 past the end.
+pub fn byte_at(s: &[u8], at: usize) -> u8
+    ensures { λ r. ⌜ r ≡ getD (now (s .entry)) at 0 ⌝ }
+{
+    if at < s.len() { s[at] } else { 0 }
+}
+
+// The digit that a byte is, and 0 for any other byte.
+fn digit(b: u8) -> usize
+    ensures { λ r. ⌜ (r ≡ digitOf b) × (r < 10) ⌝ }
+{
+    if b < 48 {
+        return 0;
+    }
+    if b < 58 { (b - 48) as usize } else { 0 }
+}
+
+// The byte of v at place i, whose power is p, 10 to the i.
+fn digit_byte(i: usize, p: usize, v: usize) -> u8
+    requires { ⌜ (p ≡ 10 ^ i) × (0 < p) ⌝ }
+    ensures { λ r. ⌜ r ≡ digitByte i v ⌝ }
+{
+    if i == 0 {
+        return (48 + v % 10) as u8;
+    }
+    if v < p {
+        return 32;
+    }
+    (48 + v / p % 10) as u8
+}
+
+// The number that three bytes are, if they are what it is written with.
+fn number_of(a: u8, b: u8, c: u8) -> Number
+    ensures { λ r. ⌜ r ≡ numberOf a b c ⌝ }
+{
+    let v = digit(a) * 100 + digit(b) * 10 + digit(c);
+    if a != digit_byte(2, 100, v) {
+        return Number::Bad;
+    }
+    if b != digit_byte(1, 10, v) {
+        return Number::Bad;
+    }
+    if c != digit_byte(0, 1, v) {
+        return Number::Bad;
+    }
+    Number::Is(v)
+}
+
+// The number in the three columns from `at`.
+pub fn number_at(s: &[u8], at: usize) -> Number
+    requires { ⌜ at < 2 ^ 31 ⌝ }
+    ensures { λ r. ⌜ r ≡ numberAt (now (s .entry)) at ⌝ }
+{
+    number_of(byte_at(s, at), byte_at(s, at + 1), byte_at(s, at + 2))
+}
+
+// Whether a word stands at `at`.
+pub fn starts_at(s: &[u8], at: usize, word: &[u8]) -> bool
+    requires { ⌜ at < 2 ^ 31 ⌝ }
+    ensures { λ r. ⌜ r ≡ startsAt (now (s .entry)) at (now (word .entry)) ⌝ }
+{
+    let mut i = 0;
+    while i < word.len() {
+        if byte_at(s, at + i) != word[i] {
+            return false;
+        }
+        i += 1;
+    }
+    true
+}
+
+// Where the line that goes on at `at` ends.
+pub fn line_end(s: &[u8], at: usize) -> Line
+    ensures { λ r. ⌜ r ≡ lineAt (now (s .entry)) at ⌝ }
+{
+    let mut i = at;
+    while i < s.len() {
+        if s[i] == 10 {
+            return Line::Ends(i);
+        }
+        i += 1;
+    }
+    Line::Open
+}
+
+// 10 to the power w.
+fn power(w: usize) -> usize
+    requires { ⌜ w ≤ 6 ⌝ }
+    ensures { λ r. ⌜ r ≡ 10 ^ w ⌝ }
+{
+    let mut p = 1;
+    let mut i = 0;
+    while i < w {
+        p *= 10;
+        i += 1;
+    }
+    p
+}
+
+// v in the w columns from `at` on.
+pub fn put_column(out: &mut [u8], at: usize, w: usize, v: usize)
+    requires { ⌜ (w ≤ 6) × (at + w ≤ length (now out)) ⌝ }
+    ensures { λ _. ⌜ now (out .exit) ≡ sets (now (out .entry)) at (column w v) ⌝ }
+{
+    let mut k = w;
+    let mut i = at;
+    let mut p = power(w);
+    while k > 0 {
+        k -= 1;
+        p /= 10;
+        out[i] = digit_byte(k, p, v);
+        i += 1;
+    }
+}
+
+// A word from `at` on.
+pub fn put_bytes(out: &mut [u8], at: usize, word: &[u8])
+    requires { ⌜ at + length (now word) ≤ length (now out) ⌝ }
+    ensures { λ _. ⌜ now (out .exit) ≡ sets (now (out .entry)) at (now (word .entry)) ⌝ }
+{
+    let mut i = 0;
+    while i < word.len() {
+        out[at + i] = word[i];
+        i += 1;
+    }
+}

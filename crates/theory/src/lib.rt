@@ -1,0 +1,2 @@
+// The determinization theorem: specifications only.
+pub fn nothing() {}

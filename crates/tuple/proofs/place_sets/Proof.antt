@@ -1,0 +1,46 @@
+-- The successors, and the new set at the place behind them. Assumes nothing.
+use native.Mathlib.Omega.{arith}
+use denote.Ref.{now}
+use Rattle.automaton.specs.Automaton.{automaton}
+use Rattle.tuple.specs.StepLaws.{cells-length, count-few, place-done}
+use borrow.Author.Needs.{needs}
+use Rattle.tuple.proofs.place_sets.Statement.{statement}
+use Rattle.tuple.proofs.place_sets.Tie as tie
+
+advance-requires : tie.Need-advance-requires
+advance-requires c κs =
+    let s = c .before .before .before .pre in
+    let g = c .before .before .before .args in
+    (omega (arith, s .letter, s .fits .range .3), cells-length (automaton (g .a) (now (g .table))) (g .letter) (now (g .w)) s)
+
+slice-read-first : tie.Need-slice-read-first
+slice-read-first c =
+    omega (arith, c .before .before .before .advance .kept .1 .1 .0, cells-length (automaton (c .before .before .before .before .before .before .before .args .a) (now (c .before .before .before .before .before .before .before .args .table))) (c .before .before .before .before .before .before .before .args .letter) (now (c .before .before .before .before .before .before .before .args .w)) (c .before .before .before .before .before .before .before .pre))
+
+recurrent-of-requires : tie.Need-recurrent-of-requires
+recurrent-of-requires c κs = search needs
+
+mul-w : tie.Need-mul-w
+mul-w c = omega (arith, count-few (automaton (c .before .before .before .before .before .before .before .before .args .a) (now (c .before .before .before .before .before .before .before .before .args .table))) (c .before .before .before .before .before .before .before .before .args .letter) (now (c .before .before .before .before .before .before .before .before .args .w)) (c .before .before .before .before .before .before .before .before .pre) (c .before .before .before .before .advance .ensures))
+
+slice-write-w : tie.Need-slice-write-w
+slice-write-w c =
+    omega (arith, c .before .before .before .before .advance .kept .1 .1 .0, cells-length (automaton (c .before .before .before .before .before .before .before .before .args .a) (now (c .before .before .before .before .before .before .before .before .args .table))) (c .before .before .before .before .before .before .before .before .args .letter) (now (c .before .before .before .before .before .before .before .before .args .w)) (c .before .before .before .before .before .before .before .before .pre), count-few (automaton (c .before .before .before .before .before .before .before .before .args .a) (now (c .before .before .before .before .before .before .before .before .args .table))) (c .before .before .before .before .before .before .before .before .args .letter) (now (c .before .before .before .before .before .before .before .before .args .w)) (c .before .before .before .before .before .before .before .before .pre) (c .before .before .before .before .advance .ensures))
+
+same-length : tie.Need-same-length
+same-length c = search needs
+
+returns : tie.Need-returns
+returns c = rw (c .recurrent-of .ensures) (place-done (automaton (c .before .before .before .before .before .before .before .before .args .a) (now (c .before .before .before .before .before .before .before .before .args .table))) (c .before .before .before .before .before .before .before .before .args .letter) (now (c .before .before .before .before .before .before .before .before .args .w)) (c .before .before .before .before .before .before .before .before .pre) (c .before .before .before .before .advance .ensures))
+
+pub place-sets-spec : {M : Type 1} → statement M
+place-sets-spec =
+    tie.close
+    (tie.spec
+    advance-requires
+    slice-read-first
+    recurrent-of-requires
+    mul-w
+    slice-write-w
+    same-length
+    returns)

@@ -1,0 +1,57 @@
+-- The loop that replaces each set by its successors. Assumes nothing.
+use Prim.Native.Nat.{ℕ, suc, _+_, _-_, _≤_, _<_}
+use mathlib.Core.Path.{_≡_, refl, sym, ap, _∙_}
+use mathlib.Core.List.{List, [], _∷_, _++_, map, append-assoc, append-nil}
+use native.Mathlib.Omega.{arith}
+use native.Mathlib.Numerals.{add-one}
+use lib.ListN.{length, getD, set, take, drop, length-map, drop-of-length-le}
+use lib.Seq.{take-suc, drop-cons, getD-at, getD-take, set-at, length-take-le}
+use Rattle.automaton.specs.Successors.{successorsOf}
+use Rattle.tuple.specs.Row.{setCells, leading}
+use Rattle.tuple.specs.RowLaws.{leading-stop, leading-more}
+use Rattle.tuple.specs.Parts.{Advanced}
+
+-- the first i cells are sets, and replaced
+pub record Advancing (table : List ℕ) (l : ℕ) (cells result : List ℕ) (i : ℕ) : Type 0 where
+  pub leads : leading (take setCells cells) ≡ take i cells ++ leading (drop i (take setCells cells))
+  pub replaced : result ≡ map (successorsOf table l) (take i cells) ++ drop i cells
+
+module _ (table : List ℕ) (l : ℕ) (cells : List ℕ) (long : setCells < length cells) where
+  pub advance-none : Advancing table l cells cells 0
+  advance-none = record { leads = refl; replaced = refl }
+
+  module _ {result : List ℕ} {i : ℕ} (a : Advancing table l cells result i) where
+    front : i ≤ setCells → length (map (successorsOf table l) (take i cells)) ≡ i
+    front h = length-map (take i cells) (successorsOf table l) ∙ length-take-le i cells (omega arith)
+
+    pub advance-read : i < setCells → getD result i 0 ≡ getD cells i 0
+    advance-read h = rw (a .replaced, drop-cons cells i 0 (omega arith)) (getD-at (map (successorsOf table l) (take i cells)) (getD cells i 0) (drop (suc i) cells) 0 i (front (omega arith)))
+
+    next-cell : i < setCells → drop i (take setCells cells) ≡ getD cells i 0 ∷ drop (suc i) (take setCells cells)
+    next-cell h = drop-cons (take setCells cells) i 0 (omega (arith, length-take-le setCells cells (omega arith))) ∙ ap (λ (x : ℕ). x ∷ drop (suc i) (take setCells cells)) (getD-take setCells cells i 0 h)
+
+    stopped : i ≤ setCells → leading (drop i (take setCells cells)) ≡ [] → Advanced table l cells result i
+    stopped h e =
+        let all : leading (take setCells cells) ≡ take i cells = a .leads ∙ rw (e, append-nil) in
+        record { counted = rw all (sym (length-take-le i cells (omega arith))); replaced = rw all (a .replaced) }
+
+    pub advance-stop : i < setCells → getD result i 0 ≡ 0 → Advanced table l cells result i
+    advance-stop h e = stopped (omega arith) (rw (next-cell h) (leading-stop (getD cells i 0) (drop (suc i) (take setCells cells)) (sym (advance-read h) ∙ e)))
+
+    pub advance-end : i ≡ setCells → Advanced table l cells result i
+    unfolding leading
+    advance-end e = stopped (omega arith) (let n : length (take setCells cells) ≤ i = omega (arith, length-take-le setCells cells (omega arith)) in rw (drop-of-length-le (take setCells cells) n))
+
+    pub advance-more : i < setCells → (getD result i 0 ≡ 0 → ⊥) → Advancing table l cells (set result i (successorsOf table l (getD result i 0))) (i + 1)
+    advance-more h n =
+        let x = getD cells i 0 in
+        let r : getD result i 0 ≡ x = advance-read h in
+        let m : x ≡ 0 → ⊥ = λ e. n (r ∙ e) in
+        record {
+          leads = a .leads ∙ rw (next-cell h, leading-more x (drop (suc i) (take setCells cells)) m, add-one, take-suc cells i 0 (omega arith), append-assoc);
+          replaced = rw r (rw (a .replaced, drop-cons cells i 0 (omega arith), set-at (map (successorsOf table l) (take i cells)) x (drop (suc i) cells) (successorsOf table l x) i (front (omega arith)), add-one, take-suc cells i 0 (omega arith)) (snoc (take i cells) x (drop (suc i) cells)));
+        }
+      where
+        snoc : (s : List ℕ) (x : ℕ) (r : List ℕ) → map (successorsOf table l) s ++ (successorsOf table l x ∷ r) ≡ map (successorsOf table l) (s ++ (x ∷ [])) ++ r
+        snoc [] x r = refl
+        snoc (y ∷ s) x r = ap (λ (t : List ℕ). successorsOf table l y ∷ t) (snoc s x r)

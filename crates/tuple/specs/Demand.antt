@@ -1,0 +1,107 @@
+-- The verdict is right: the least colour entered without end is even exactly if the sheet passes the word. Assumes nothing.
+use Prim.Native.Nat.{ℕ, zero, suc, _+_, _%_, _≤_, _<_}
+use mathlib.Core.Path.{_≡_, sym, subst, ap, _∙_}
+use mathlib.Core.Logic.{_↔_}
+use native.Mathlib.Omega.{arith}
+use native.Mathlib.Decide.{ℕ-discrete}
+use Rattle.sets.specs.Sets.{Member}
+use Rattle.sets.specs.SetLaws.{member-dec}
+use Rattle.automaton.specs.Automaton.{Automaton, Edge, Fits}
+use Rattle.automaton.specs.Meeting.{Walk, Meet, Free, Everywhere}
+use Rattle.automaton.specs.Reading.{Reading, Recurs, Passes}
+use Rattle.finite.specs.Finite.{lowest, glue, glue-lt, glue-ge, extend}
+use Rattle.theory.specs.Run.{Path, Often, Alone, Least}
+use Rattle.theory.specs.Endless.{LPO, least}
+use Rattle.theory.specs.Theorem.{repeating, endless}
+use Rattle.tuple.specs.Step.{setAt, next, run}
+use Rattle.tuple.specs.PassLaws.{In}
+use Rattle.tuple.specs.PlaceLaws.{Recurrent, edge-dec}
+use Rattle.tuple.specs.TupleLaws.{first-in, first-of}
+use Rattle.tuple.specs.RunLaws.{entered, run-repeats, is-run, set-zero}
+
+-- The readings of a sheet are the paths of the theory, and to visit must-recur states without end is to take recurrent transitions
+-- without end
+
+abbrev Paths : Automaton → (ℕ → ℕ) → (ℕ → ℕ) → Type 0
+Paths A w x = Path (λ t. Edge A (w t)) (λ t. In (run A w t .sets)) x
+
+path-of : (A : Automaton) (w x : ℕ → ℕ) → Reading A w x → Paths A w x
+unfolding run
+path-of A w x h = record { starts = first-of A (x 0) (h .starts); goes = h .goes }
+
+reading-of : (A : Automaton) (w x : ℕ → ℕ) → Paths A w x → Reading A w x
+unfolding run
+reading-of A w x h = record { starts = first-in A 0 (x 0) (h .starts) .1; goes = h .goes }
+
+often-of : (A : Automaton) (w x : ℕ → ℕ) → Reading A w x → Recurs A x → Often (λ t. Recurrent A (w t)) x
+often-of A w x h recurs t = let (u, l, m) = recurs (suc t) in at u l m
+  where
+    at : (u : ℕ) → suc t < u → Member (A .recurring) (x u) → (u : ℕ) × (t < u) × Recurrent A (w u) (x u) (x (suc u))
+    at zero l m = absurd (omega arith)
+    at (suc u) l m = (u, omega arith, record { edge = h .goes u; into = m })
+
+recurs-of : (A : Automaton) (w x : ℕ → ℕ) → Often (λ t. Recurrent A (w t)) x → Recurs A x
+recurs-of A w x o t = let (u, l, m) = o t in (suc u, omega arith, m .into)
+
+passes-both : (A : Automaton) (w : ℕ → ℕ) → ((x : ℕ → ℕ) × Paths A w x × Often (λ t. Recurrent A (w t)) x) ↔ Passes A w
+passes-both A w = (
+  λ (x, h, o). (x, reading-of A w x h, recurs-of A w x o),
+  λ (x, h, r). (x, path-of A w x h, often-of A w x h r),
+)
+
+-- An automaton without walks that meet in states that count, and every state of a reading counts
+module _ {A : Automaton} (fits : Fits A) (Counts : ℕ → Type 0) (count : (w x : ℕ → ℕ) → Reading A w x → (t : ℕ) → Counts (x t)) (free : Free A Counts)
+    (w : ℕ → ℕ) (letters : (t : ℕ) → w t < A .k) where
+  -- Any other state of set 0 that steps to the reading's next state would give a second walk to it.
+  alone : Alone (λ t. Edge A (w t)) (λ t. In (run A w t .sets))
+  alone ξ path t q s e = by (ℕ-discrete q (ξ t))
+    where
+      meet : (q ≡ ξ t → ⊥) → (x : ℕ → ℕ) → Walk A w t x → x t ≡ q → Meet A Counts w (suc t) ξ (glue x (λ s. ξ (suc t)) (suc t))
+      meet f x walk end =
+          let h = reading-of A w ξ path in
+          let y = glue x (λ s. ξ (suc t)) (suc t) in
+          let y-first : y 0 ≡ x 0 = glue-lt x (λ s. ξ (suc t)) (suc t) 0 (omega arith) in
+          let y-t : y t ≡ x t = glue-lt x (λ s. ξ (suc t)) (suc t) t (omega arith) in
+          let y-end : y (suc t) ≡ ξ (suc t) = glue-ge x (λ s. ξ (suc t)) (suc t) (suc t) (omega arith) in
+          record {
+            one = record { starts = h .starts; goes = λ s l. h .goes s };
+            other = record {
+              starts = subst (λ (z : ℕ). Member (A .initial) z) (sym y-first) (walk .starts);
+              goes = λ s l. extend (λ t. Edge A (w t)) 0 t (ξ (suc t)) x (λ s b l. walk .goes s l) (subst (λ (z : ℕ). Edge A (w t) z (ξ (suc t))) (sym end) e) s (omega arith) l;
+            };
+            differ = (t, omega arith, λ g. f (sym end ∙ sym y-t ∙ sym g));
+            shared = sym y-end;
+            counts = count w ξ h (suc t);
+          }
+
+      by : Dec (q ≡ ξ t) → q ≡ ξ t
+      by (yes g) = g
+      by (no f) = let (x, walk, end) = set-zero fits w letters t q .0 s in absurd (free w (suc t) ξ (glue x (λ s. ξ (suc t)) (suc t)) (meet f x walk end))
+
+  colours-repeat : (T d : ℕ) → ((t : ℕ) → T ≤ t → w (t + suc d) ≡ w t) → run A w (T + suc d) ≡ run A w T → (t : ℕ) → T ≤ t → entered A w (t + suc d) ≡ entered A w t
+  colours-repeat T d word again t l =
+      let e : suc (t + suc d) ≡ suc t + suc d = omega arith in
+      ap (λ v. run A w v .colour) e ∙ ap (λ u. u .colour) (run-repeats A w T d word again (suc t) (omega arith))
+
+  -- The word and the tuples repeat from T on with period d + 1: the least colour entered after T, up to and with T + d + 1, is even
+  -- exactly if the sheet passes the word.
+  pub verdict : (T d : ℕ) → ((t : ℕ) → T ≤ t → w (t + suc d) ≡ w t) → run A w (T + suc d) ≡ run A w T → (lowest (entered A w) T d % 2 ≡ 0) ↔ Passes A w
+  verdict T d word again =
+      let r = repeating (is-run fits w letters) alone T d (λ s q r l e. subst (λ (a : ℕ). Edge A a q r) (sym (word s l)) e) (colours-repeat T d word again) in
+      let p = passes-both A w in
+      (λ e. p .0 (r .0 e), λ h. r .1 (p .1 h))
+
+  -- Any endless word, with the premise LPO: there is a least colour entered without end, and it is even exactly if the sheet passes the word.
+  pub least-colour : LPO → (c : ℕ) × Least (entered A w) c
+  least-colour lpo = least lpo (is-run fits w letters) (λ t. edge-dec A (w t)) (λ t j q. member-dec (setAt (run A w t .sets) j) q)
+
+  pub verdict-endless : LPO → (c : ℕ) → Least (entered A w) c → (c % 2 ≡ 0) ↔ Passes A w
+  verdict-endless lpo c low =
+      let r = endless (is-run fits w letters) lpo (λ t. edge-dec A (w t)) (λ t j q. member-dec (setAt (run A w t .sets) j) q) alone c low in
+      let p = passes-both A w in
+      (λ e. p .0 (r .0 e), λ h. r .1 (p .1 h))
+
+-- Demand 3: an accepted sheet has no meeting walks at all.
+pub demand : {A : Automaton} → Fits A → Free A Everywhere → (w : ℕ → ℕ) → ((t : ℕ) → w t < A .k)
+    → (T d : ℕ) → ((t : ℕ) → T ≤ t → w (t + suc d) ≡ w t) → run A w (T + suc d) ≡ run A w T → (lowest (entered A w) T d % 2 ≡ 0) ↔ Passes A w
+demand fits free = verdict fits Everywhere (λ w x h t. tt) free

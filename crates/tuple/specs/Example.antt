@@ -1,0 +1,34 @@
+-- Document 01's Sheet B, "from some job on only a": the four tuples of its listing, by computation.
+use mathlib.Core.Path.{_≡_, refl}
+use mathlib.Core.List.{[], _∷_, map}
+use Rattle.sets.specs.Sets.{bit, unionOf, interOf, minusOf, isWithin}
+use Rattle.automaton.specs.Automaton.{Automaton}
+use Rattle.automaton.specs.Successors.{given, successorsBelow, successorsOf}
+use Rattle.tuple.specs.Step.{Tuple, places, unionAll, isMarked, removed, turns, pass, colourAt, least, deadOr, colourOf, unlessEmpty, closed, closeUp, first, next}
+
+sheetB : Automaton
+sheetB = record { n = 2; k = 2; initial = 3; recurring = 2; table = 1 ∷ 3 ∷ 0 ∷ 0 ∷ 0 ∷ 0 ∷ 0 ∷ 0 ∷ 2 ∷ [] }
+
+t0 : Tuple
+t0 = record { sets = 3 ∷ []; colour = 5 }
+
+t1 : Tuple
+t1 = record { sets = 3 ∷ 2 ∷ []; colour = 5 }
+
+t2 : Tuple
+t2 = record { sets = 3 ∷ 2 ∷ []; colour = 4 }
+
+t3 : Tuple
+t3 = record { sets = 3 ∷ 2 ∷ []; colour = 3 }
+
+begins : first sheetB ≡ t0
+unfolding sheetB t0 first closed unlessEmpty
+begins = refl
+
+follows : map (λ u. next sheetB 0 u) (t0 ∷ t1 ∷ t2 ∷ t3 ∷ []) ≡ t1 ∷ t2 ∷ t2 ∷ t2 ∷ []
+unfolding sheetB t0 t1 t2 t3 places unionAll isMarked removed turns pass colourAt least deadOr colourOf unlessEmpty closed closeUp next given successorsBelow successorsOf bit unionOf interOf minusOf isWithin
+follows = refl
+
+follows-b : map (λ u. next sheetB 1 u) (t0 ∷ t1 ∷ t2 ∷ t3 ∷ []) ≡ t1 ∷ t3 ∷ t3 ∷ t3 ∷ []
+unfolding sheetB t0 t1 t2 t3 places unionAll isMarked removed turns pass colourAt least deadOr colourOf unlessEmpty closed closeUp next given successorsBelow successorsOf bit unionOf interOf minusOf isWithin
+follows-b = refl

@@ -1,0 +1,17 @@
+pub mod Colour
+pub mod Step
+pub mod Row
+pub mod Parts
+pub mod Example
+pub mod PassLaws
+pub mod CloseLaws
+pub mod ColourLaws
+pub mod PlaceLaws
+pub mod TupleLaws
+pub mod RunLaws
+pub mod Demand
+pub mod RowLaws
+pub mod AdvanceLaws
+pub mod UnionLaws
+pub mod SweepLaws
+pub mod StepLaws

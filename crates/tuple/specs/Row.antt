@@ -1,0 +1,38 @@
+-- Document 01: "Tuple t has numbers 17t to 17t+16, sets 0 to 15 and then the colour".
+use Prim.Native.Nat.{ℕ, _-_, _<_}
+use mathlib.Core.Path.{_≡_}
+use mathlib.Core.Bool.{Bool, true, false}
+use mathlib.Core.List.{List, [], _∷_, _++_}
+use lib.ListN.{length, getD, take, replicate}
+use Rattle.automaton.specs.Automaton.{Automaton, Fits}
+use Rattle.tuple.specs.Step.{Tuple, isEmpty}
+
+-- the cells of a row that hold sets, and all that make tuples equal: sets and colour
+abbrev pub setCells : ℕ
+setCells = 16
+
+abbrev pub rowCells : ℕ
+rowCells = 17
+
+-- the numbers of a tuple: its sets, then empty sets, then the colour
+unfoldable pub row : Tuple → List ℕ
+row u = u .sets ++ (replicate (setCells - length (u .sets)) 0 ++ (u .colour ∷ []))
+
+unfoldable pub consUnless : Bool → ℕ → List ℕ → List ℕ
+consUnless true x sets = []
+consUnless false x sets = x ∷ sets
+
+-- the sets before the first empty one
+unfoldable pub leading : List ℕ → List ℕ
+leading [] = []
+leading (x ∷ cells) = consUnless (isEmpty x) x (leading cells)
+
+-- the tuple of a row
+unfoldable pub tupleOf : List ℕ → Tuple
+tupleOf cells = record { sets = leading (take setCells cells); colour = getD cells setCells 0 }
+
+-- what a step asks: the numbers fit, the letter is one of the sheet's, and the cells are the row of a tuple
+pub record Steps (A : Automaton) (l : ℕ) (cells : List ℕ) : Type 0 where
+  pub fits : Fits A
+  pub letter : l < A .k
+  pub is-row : cells ≡ row (tupleOf cells)

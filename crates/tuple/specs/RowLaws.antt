@@ -1,0 +1,102 @@
+-- A tuple has one row, and a row one tuple. Assumes nothing.
+use Prim.Native.Nat.{ℕ, zero, suc, _+_, _-_, _≤_, _<_}
+use mathlib.Core.Path.{_≡_, refl, sym, ap, _∙_}
+use mathlib.Core.Bool.{Bool, true, false}
+use mathlib.Core.List.{List, [], _∷_, _++_, append-assoc}
+use native.Mathlib.Omega.{arith}
+use borrow.Author.Tests.{eq-eqb, ne-eqb}
+use lib.ListN.{length, getD, take, replicate, length-append, length-replicate, List·getD-append}
+use lib.Seq.{take-at, getD-at}
+use Rattle.automaton.specs.Automaton.{Automaton, Fits}
+use Rattle.tuple.specs.Step.{Tuple, setAt, isEmpty}
+use Rattle.tuple.specs.Row.{setCells, rowCells, row, consUnless, leading, tupleOf, Steps}
+use Rattle.tuple.specs.TupleLaws.{Formed}
+
+-- The leading sets
+
+pub leading-stop : (x : ℕ) (cells : List ℕ) → x ≡ 0 → leading (x ∷ cells) ≡ []
+unfolding leading consUnless
+leading-stop x cells e = rw (eq-eqb x 0 e)
+
+pub leading-more : (x : ℕ) (cells : List ℕ) → (x ≡ 0 → ⊥) → leading (x ∷ cells) ≡ x ∷ leading cells
+unfolding leading consUnless
+leading-more x cells e = rw (ne-eqb x 0 e)
+
+pub leading-length : (cells : List ℕ) → length (leading cells) ≤ length cells
+unfolding leading consUnless
+leading-length [] = omega arith
+leading-length (x ∷ cells) = by (isEmpty x) (leading-length cells)
+  where
+    by : (b : Bool) → length (leading cells) ≤ length cells → length (consUnless b x (leading cells)) ≤ suc (length cells)
+    by true h = omega arith
+    by false h = omega arith
+
+leading-zeros : (k : ℕ) → leading (replicate k 0) ≡ []
+unfolding leading
+leading-zeros zero = refl
+leading-zeros (suc k) = leading-stop 0 (replicate k 0) refl
+
+leading-sets : (sets : List ℕ) (k : ℕ) → ((i : ℕ) → i < length sets → getD sets i 0 ≡ 0 → ⊥) → leading (sets ++ replicate k 0) ≡ sets
+leading-sets [] k full = leading-zeros k
+leading-sets (x ∷ sets) k full =
+    leading-more x (sets ++ replicate k 0) (full 0 (omega arith))
+    ∙ ap (λ (l : List ℕ). x ∷ l) (leading-sets sets k (λ i h. full (suc i) (omega arith)))
+
+-- Rows
+
+zeros-behind : (sets : List ℕ) (k i : ℕ) → getD (sets ++ replicate k 0) i 0 ≡ getD sets i 0
+zeros-behind [] zero i = refl
+zeros-behind [] (suc k) zero = refl
+zeros-behind [] (suc k) (suc i) = zeros-behind [] k i
+zeros-behind (x ∷ sets) k zero = refl
+zeros-behind (x ∷ sets) k (suc i) = zeros-behind sets k i
+
+module _ (u : Tuple) (few : length (u .sets) ≤ setCells) where
+  abbrev zeros : List ℕ
+  zeros = replicate (setCells - length (u .sets)) 0
+
+  pub row-split : row u ≡ (u .sets ++ zeros) ++ (u .colour ∷ [])
+  unfolding row
+  row-split = sym (append-assoc (u .sets) zeros (u .colour ∷ []))
+
+  pub front-length : length (u .sets ++ zeros) ≡ setCells
+  front-length = simp (length-append, length-replicate) (omega arith)
+
+  pub row-length : length (row u) ≡ rowCells
+  row-length = ap length row-split ∙ length-append (u .sets ++ zeros) (u .colour ∷ []) ∙ omega (arith, front-length)
+
+  pub row-colour : getD (row u) setCells 0 ≡ u .colour
+  row-colour = rw row-split (getD-at (u .sets ++ zeros) (u .colour) [] 0 setCells front-length)
+
+  pub row-front : take setCells (row u) ≡ u .sets ++ zeros
+  row-front = rw row-split (take-at (u .sets ++ zeros) (u .colour ∷ []) setCells front-length)
+
+  pub row-set : (i : ℕ) → i < setCells → getD (row u) i 0 ≡ setAt (u .sets) i
+  row-set i h =
+      rw row-split (List·getD-append (u .sets ++ zeros) (u .colour ∷ []) 0 i (omega (arith, front-length)) ∙ zeros-behind (u .sets) (setCells - length (u .sets)) i)
+
+  pub tuple-row : ((i : ℕ) → i < length (u .sets) → setAt (u .sets) i ≡ 0 → ⊥) → tupleOf (row u) ≡ u
+  unfolding tupleOf
+  tuple-row full =
+      let s : leading (take setCells (row u)) ≡ u .sets = rw row-front (leading-sets (u .sets) (setCells - length (u .sets)) full) in
+      rw (s, row-colour)
+
+-- Tuples as steps enter them
+
+module _ {A : Automaton} (fits : Fits A) where
+  formed-few : {u : Tuple} → Formed A u → length (u .sets) ≤ setCells
+  formed-few f = let a = f .few in let b = fits .range .1 in omega arith
+
+  pub formed-length : {u : Tuple} → Formed A u → length (row u) ≡ rowCells
+  formed-length {u} f = row-length u (formed-few f)
+
+  pub formed-row : {u : Tuple} → Formed A u → tupleOf (row u) ≡ u
+  formed-row {u} f = tuple-row u (formed-few f) (f .full)
+
+  -- "Tuples are equal when sets and colour are", so when their rows are
+  pub row-injective : {u v : Tuple} → Formed A u → Formed A v → row u ≡ row v → u ≡ v
+  row-injective {u} {v} f g e = sym (formed-row f) ∙ ap tupleOf e ∙ formed-row g
+
+  -- what a step asks of the row of such a tuple
+  pub formed-steps : {u : Tuple} (l : ℕ) → l < A .k → Formed A u → Steps A l (row u)
+  formed-steps {u} l letter f = record { fits = fits; letter = letter; is-row = ap row (sym (formed-row f)) }

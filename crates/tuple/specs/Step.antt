@@ -1,0 +1,118 @@
+-- Document 01, "One step of the tuple", point by point.
+use Prim.Native.Nat.{ℕ, zero, suc, min}
+use mathlib.Core.Bool.{Bool, true, false, not, _&&_}
+use mathlib.Core.List.{List, [], _∷_, _++_, map}
+use lib.Dec.{eqb, ltb}
+use lib.ListN.{length, getD}
+use Rattle.sets.specs.Sets.{unionOf, interOf, minusOf, isWithin}
+use Rattle.automaton.specs.Automaton.{Automaton}
+use Rattle.automaton.specs.Successors.{successorsOf}
+use Rattle.tuple.specs.Colour.{neutral, marked, emptied, dead}
+
+-- "A tuple is n sets, the non-empty ones first, and the colour of the step that entered it." Listed are the non-empty sets: their
+-- count is the list's length, and each place behind them is empty. "Tuples are equal when sets and colour are."
+pub record Tuple : Type 0 where
+  pub sets : List ℕ
+  pub colour : ℕ
+
+-- the set at place i
+abbrev pub setAt : List ℕ → ℕ → ℕ
+setAt sets i = getD sets i 0
+
+abbrev pub isEmpty : ℕ → Bool
+isEmpty x = eqb x 0
+
+-- 1. "Replace each set by its successors."
+abbrev pub successorsEach : Automaton → ℕ → List ℕ → List ℕ
+successorsEach A l sets = map (successorsOf (A .table) l) sets
+
+-- 2. "the must-recur states in the new set 0", where x is set 0 before the step
+abbrev pub recurrent : Automaton → ℕ → ℕ → ℕ
+recurrent A l x = interOf (successorsOf (A .table) l x) (A .recurring)
+
+-- "At place p, the count of non-empty sets before the step, put" these. "This may be place n, a spare."
+unfoldable pub places : Automaton → ℕ → List ℕ → List ℕ
+places A l sets = successorsEach A l sets ++ (recurrent A l (setAt sets 0) ∷ [])
+
+-- the members of all of these places
+unfoldable pub unionAll : List ℕ → ℕ
+unionAll [] = 0
+unionAll (x ∷ later) = unionOf x (unionAll later)
+
+-- 3. "place i is marked if its set is non-empty and each member lies in some later place"
+unfoldable pub isMarked : ℕ → List ℕ → Bool
+isMarked x later = not (isEmpty x) && isWithin x (unionAll later)
+
+-- "if it is marked, and only then, its members are removed from all later places"
+unfoldable pub removed : Bool → ℕ → List ℕ → List ℕ
+removed true x later = map (λ y. minusOf y x) later
+removed false x later = later
+
+-- a place after its turn: its set, and whether it is marked
+pub record Place : Type 0 where
+  pub states : ℕ
+  pub mark : Bool
+
+abbrev pub place : ℕ → Bool → Place
+place x m = record { states = x; mark = m }
+
+-- "For i from 0 upward": the turns of the next k places
+unfoldable pub turns : ℕ → List ℕ → List Place
+turns zero sets = []
+turns (suc k) [] = []
+turns (suc k) (x ∷ later) = place x (isMarked x later) ∷ turns k (removed (isMarked x later) x later)
+
+-- the marking pass over all places
+unfoldable pub pass : List ℕ → List Place
+pass sets = turns (length sets) sets
+
+-- 4. the colour of place i: is it marked, is it emptied
+unfoldable pub colourAt : ℕ → ℕ → Bool → Bool → ℕ
+colourAt n i true e = marked i
+colourAt n i false true = emptied i
+colourAt n i false false = neutral n
+
+-- "the least of 2i+2 for marked i and 2i+1 for each i non-empty before the step and empty now; 2n+1 if there is none", over the
+-- places from i on. The first p places were non-empty before the step.
+unfoldable pub least : ℕ → ℕ → ℕ → List Place → ℕ
+least n p i [] = neutral n
+least n p i (x ∷ later) = min (colourAt n i (x .mark) (isEmpty (x .states) && ltb i p)) (least n p (suc i) later)
+
+unfoldable pub deadOr : Bool → ℕ → ℕ
+deadOr true c = dead
+deadOr false c = c
+
+-- the set at place i after the pass, before closing up
+abbrev pub statesAt : List Place → ℕ → ℕ
+statesAt w i = getD w i (place 0 false) .states
+
+-- "1 if set 0 is empty"
+unfoldable pub colourOf : ℕ → ℕ → List Place → ℕ
+colourOf n p w = deadOr (isEmpty (statesAt w 0)) (least n p 0 w)
+
+-- 5. "Close up the gaps, keeping order."
+unfoldable pub unlessEmpty : Bool → ℕ → List ℕ → List ℕ
+unlessEmpty true x sets = sets
+unlessEmpty false x sets = x ∷ sets
+
+unfoldable pub closed : List ℕ → List ℕ
+closed [] = []
+closed (x ∷ sets) = unlessEmpty (isEmpty x) x (closed sets)
+
+unfoldable pub closeUp : List Place → List ℕ
+closeUp w = closed (map (λ x. x .states) w)
+
+-- "The first tuple: the initial states, then empty sets, colour 2n+1."
+unfoldable pub first : Automaton → Tuple
+first A = record { sets = closed (A .initial ∷ []); colour = neutral (A .n) }
+
+-- "On a letter": the tuple that the step from u on letter l enters. Its colour is read before closing up.
+unfoldable pub next : Automaton → ℕ → Tuple → Tuple
+next A l u =
+    let w = pass (places A l (u .sets)) in
+    record { sets = closeUp w; colour = colourOf (A .n) (length (u .sets)) w }
+
+-- the tuple after the first t letters of the endless word w
+unfoldable pub run : Automaton → (ℕ → ℕ) → ℕ → Tuple
+run A w zero = first A
+run A w (suc t) = next A (w t) (run A w t)

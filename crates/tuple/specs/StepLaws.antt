@@ -1,0 +1,149 @@
+-- The parts of the code, one after the other, make the step. Assumes nothing.
+use Prim.Native.Nat.{ℕ, zero, suc, _+_, _-_, _≤_, _<_}
+use mathlib.Core.Path.{_≡_, refl, sym, ap, ap₂, _∙_}
+use mathlib.Core.List.{List, [], _∷_, _++_, map, append-assoc, append-nil}
+use native.Mathlib.Omega.{arith}
+use native.Mathlib.Numerals.{add-one}
+use lib.ListN.{length, getD, set, take, drop, replicate, length-append, length-replicate, length-map, length-take, replicate-append-replicate}
+use lib.Seq.{drop-cons, take-at, drop-at, set-at, getD-take, drop-append-add}
+use Rattle.sets.specs.Sets.{interOf}
+use Rattle.automaton.specs.Automaton.{Automaton}
+use Rattle.automaton.specs.Successors.{successorsOf}
+use Rattle.automaton.specs.SuccessorLaws.{successors-empty}
+use Rattle.tuple.specs.Step.{setAt, isEmpty, recurrent, places, turns, pass, statesAt, deadOr, colourOf, closeUp, next}
+use Rattle.tuple.specs.PassLaws.{turns-length}
+use Rattle.tuple.specs.CloseLaws.{closeUp-length}
+use Rattle.tuple.specs.PlaceLaws.{places-length}
+use Rattle.tuple.specs.TupleLaws.{next-formed}
+use Rattle.tuple.specs.Row.{setCells, rowCells, row, leading, tupleOf, Steps}
+use Rattle.tuple.specs.RowLaws.{leading-length, row-length, row-set}
+use Rattle.tuple.specs.Parts.{Advanced, Swept, Placed, settled}
+
+-- the pass does not touch place 0
+pass-first : (l : List ℕ) → statesAt (pass l) 0 ≡ setAt l 0
+unfolding pass turns
+pass-first [] = refl
+pass-first (x ∷ l) = refl
+
+-- cells behind the first m, of zeros and one last number, after p + 1 - s zeros: zeros again, and one last number
+refill : (s p k : ℕ) → s ≤ setCells → s ≤ p + 1 → p ≤ setCells
+    → (y : ℕ) × (replicate (p + 1 - s) 0 ++ drop 1 (replicate (setCells - p) 0 ++ (k ∷ [])) ≡ replicate (setCells - s) 0 ++ (y ∷ []))
+refill s p k a b h = by (setCells - p) refl
+  where
+    by : (m : ℕ) → setCells - p ≡ m → (y : ℕ) × (replicate (p + 1 - s) 0 ++ drop 1 (replicate (setCells - p) 0 ++ (k ∷ [])) ≡ replicate (setCells - s) 0 ++ (y ∷ []))
+    by zero e =
+        let d : p + 1 - s ≡ setCells - s + 1 = omega arith in
+        (0, rw (e, d, append-nil, ← replicate-append-replicate {A = ℕ} (setCells - s) 1 0))
+    by (suc m) e =
+        let d : p + 1 - s + m ≡ setCells - s = omega arith in
+        (k, rw (e, ← append-assoc (replicate (p + 1 - s) 0) (replicate m 0) (k ∷ []), replicate-append-replicate {A = ℕ} (p + 1 - s) m 0, d))
+
+-- the marking pass and the colour
+pub settle-done : (n p : ℕ) (cells result : List ℕ) (c : ℕ) → p < length cells → Swept n p (p + 1) cells result c
+    → set result setCells (deadOr (isEmpty (getD cells 0 0)) c) ≡ settled n p cells
+unfolding colourOf
+settle-done n p cells result c h swept =
+    let z : getD cells 0 0 ≡ statesAt (pass (take (p + 1) cells)) 0 = sym (getD-take (p + 1) cells 0 0 (omega arith)) ∙ sym (pass-first (take (p + 1) cells)) in
+    rw (swept .closes, swept .coloured, z)
+
+module _ (A : Automaton) (l : ℕ) (cells : List ℕ) (steps : Steps A l cells) where
+  few : length (leading (take setCells cells)) ≤ setCells
+  few = let a = leading-length (take setCells cells) in let b = length-take setCells cells in omega arith
+
+  pub cells-length : length cells ≡ rowCells
+  unfolding tupleOf
+  cells-length = ap length (steps .is-row) ∙ row-length (tupleOf cells) few
+
+  first-cell : getD cells 0 0 ≡ setAt (leading (take setCells cells)) 0
+  unfolding tupleOf
+  first-cell = ap (λ (z : List ℕ). getD z 0 0) (steps .is-row) ∙ row-set (tupleOf cells) few 0 (omega arith)
+
+  module _ {w : List ℕ} {p : ℕ} (advanced : Advanced (A .table) l cells w p) where
+    pub count-few : p ≤ setCells
+    count-few = let a = advanced .counted in let b = few in omega arith
+
+    new-first : getD w 0 0 ≡ successorsOf (A .table) l (setAt (leading (take setCells cells)) 0)
+    new-first = ap (λ (z : List ℕ). getD z 0 0) (advanced .replaced) ∙ by (leading (take setCells cells)) (advanced .counted) first-cell
+      where
+        by : (s : List ℕ) → p ≡ length s → getD cells 0 0 ≡ setAt s 0 → getD (map (successorsOf (A .table) l) s ++ drop p cells) 0 0 ≡ successorsOf (A .table) l (setAt s 0)
+        by [] e f = rw e (f ∙ sym (successors-empty (A .table) l))
+        by (x ∷ s) e f = refl
+
+    put : set w p (interOf (getD w 0 0) (A .recurring)) ≡ places A l (leading (take setCells cells)) ++ drop (p + 1) cells
+    unfolding places
+    put =
+        let s = leading (take setCells cells) in
+        let f = successorsOf (A .table) l in
+        let n : length (map (successorsOf (A .table) l) (leading (take setCells cells))) ≡ p = length-map (leading (take setCells cells)) (successorsOf (A .table) l) ∙ sym (advanced .counted) in
+        let r : interOf (getD w 0 0) (A .recurring) ≡ recurrent A l (setAt (leading (take setCells cells)) 0) = ap (λ (z : ℕ). interOf z (A .recurring)) new-first in
+        ap₂ (λ (z : List ℕ) (x : ℕ). set z p x) (advanced .replaced ∙ ap (λ (z : List ℕ). map f s ++ z) (drop-cons cells p 0 (omega (arith, cells-length, count-few)))) r
+        ∙ set-at (map f s) (getD cells p 0) (drop (suc p) cells) (recurrent A l (setAt s 0)) p n
+        ∙ sym (append-assoc (map f s) (recurrent A l (setAt s 0) ∷ []) (drop (suc p) cells))
+        ∙ rw add-one
+
+    -- the new set is put at place p
+    pub place-done : Placed A l cells (set w p (interOf (getD w 0 0) (A .recurring))) p
+    place-done = record { counted = advanced .counted; places-put = put }
+
+  module _ {w : List ℕ} {p : ℕ} (placed : Placed A l cells w p) where
+    abbrev before : List ℕ
+    before = places A l (leading (take setCells cells))
+
+    pub placed-few : p ≤ setCells
+    placed-few = let a = placed .counted in let b = few in omega arith
+
+    before-length : length before ≡ p + 1
+    before-length = places-length A l (leading (take setCells cells)) ∙ omega (arith, placed .counted)
+
+    before-take : take (p + 1) w ≡ before
+    before-take = ap (take (p + 1)) (placed .places-put) ∙ take-at before (drop (p + 1) cells) (p + 1) before-length
+
+    before-drop : drop (p + 1) w ≡ drop (p + 1) cells
+    before-drop = ap (drop (p + 1)) (placed .places-put) ∙ drop-at before (drop (p + 1) cells) (p + 1) before-length
+
+    abbrev after : List ℕ
+    after = closeUp (pass before)
+
+    after-is : after ≡ next A l (tupleOf cells) .sets
+    unfolding next tupleOf
+    after-is = refl
+
+    colour-is : colourOf (A .n) p (pass before) ≡ next A l (tupleOf cells) .colour
+    unfolding next tupleOf
+    colour-is = ap (λ (q : ℕ). colourOf (A .n) q (pass before)) (placed .counted)
+
+    after-few : length after ≤ setCells
+    after-few =
+        let a = next-formed (steps .fits) l (steps .letter) (tupleOf cells) .few in
+        let b = steps .fits .range .1 in
+        let e = ap length after-is in
+        omega arith
+
+    after-less : length after ≤ p + 1
+    unfolding pass
+    after-less = let a = closeUp-length (pass before) in let b = turns-length (length before) before (omega arith) in omega (arith, before-length)
+
+    -- the cells behind the places
+    rest : drop (p + 1) cells ≡ drop 1 (replicate (setCells - p) 0 ++ (tupleOf cells .colour ∷ []))
+    unfolding row tupleOf
+    rest =
+        let s = leading (take setCells cells) in
+        let e : p + 1 ≡ length (leading (take setCells cells)) + 1 = omega (arith, placed .counted) in
+        let f : length (leading (take setCells cells)) ≡ p = sym (placed .counted) in
+        ap₂ (λ (n : ℕ) (z : List ℕ). drop n z) e (steps .is-row)
+        ∙ drop-append-add s (replicate (setCells - length s) 0 ++ (tupleOf cells .colour ∷ [])) 1
+        ∙ rw f
+
+    pub step-done : settled (A .n) p w ≡ row (next A l (tupleOf cells))
+    unfolding row
+    step-done =
+        let (y, e) = refill (length after) p (tupleOf cells .colour) after-few after-less placed-few in
+        let d = colourOf (A .n) p (pass before) in
+        let r : after ++ (replicate (p + 1 - length after) 0 ++ drop (p + 1) cells) ≡ after ++ (replicate (setCells - length after) 0 ++ (y ∷ [])) =
+        ap (λ (z : List ℕ). after ++ z) (rw rest e) in
+        let n : length (after ++ replicate (setCells - length after) 0) ≡ 16 = simp (length-append, length-replicate) (omega (arith, after-few)) in
+        rw (before-take, before-drop)
+        (ap (λ (z : List ℕ). set z 16 d) (r ∙ sym (append-assoc after (replicate (setCells - length after) 0) (y ∷ [])))
+        ∙ set-at (after ++ replicate (setCells - length after) 0) y [] d 16 n
+        ∙ append-assoc after (replicate (setCells - length after) 0) (d ∷ [])
+        ∙ ap₂ (λ (s : List ℕ) (k : ℕ). s ++ (replicate (setCells - length s) 0 ++ (k ∷ []))) after-is colour-is)

@@ -1,0 +1,186 @@
+// One step of the tuple, on its row of 17 cells: 16 sets, the non-empty ones first, and the colour.
+use automaton::Numbers;
+ghost use mathlib.Core.Path.{_≡_};
+ghost use mathlib.Core.Bool.{not, _&&_};
+ghost use Prim.Native.Nat.{_+_, _≤_, _<_, min};
+ghost use lib.Dec.{ltb};
+ghost use lib.ListN.{length};
+ghost use Rattle.sets.specs.Sets.{unionOf, interOf, minusOf, isWithin};
+ghost use Rattle.automaton.specs.Automaton.{automaton};
+ghost use Rattle.automaton.specs.Successors.{successorsOf};
+ghost use Rattle.tuple.specs.Colour.{neutral, marked, emptied, dead};
+ghost use Rattle.tuple.specs.Step.{isEmpty, colourAt, deadOr, next};
+ghost use Rattle.tuple.specs.Parts.{outOf, Advanced, Unions, Swept, Placed, settled};
+ghost use Rattle.tuple.specs.Row.{row, tupleOf, Steps};
+
+// The colour of a step.
+pub struct Colour(pub u16);
+
+impl Colour {
+    // Set 0 is empty.
+    pub const DEAD: Colour = Colour(1);
+
+    // No place is marked or emptied, of n.
+    pub fn neutral(n: usize) -> Colour
+        requires { ⌜ n ≤ 16 ⌝ }
+        ensures { λ r. ⌜ r .0 ≡ neutral n ⌝ }
+    {
+        Colour(2 * (n as u16) + 1)
+    }
+
+    // Place i is marked.
+    pub fn marked(i: usize) -> Colour
+        requires { ⌜ i ≤ 16 ⌝ }
+        ensures { λ r. ⌜ r .0 ≡ marked i ⌝ }
+    {
+        Colour(2 * (i as u16) + 2)
+    }
+
+    // Place i was not empty before the step, and is now.
+    pub fn emptied(i: usize) -> Colour
+        requires { ⌜ i ≤ 16 ⌝ }
+        ensures { λ r. ⌜ r .0 ≡ emptied i ⌝ }
+    {
+        Colour(2 * (i as u16) + 1)
+    }
+
+    pub fn least(self, other: Colour) -> Colour
+        ensures { λ r. ⌜ r .0 ≡ min (self .0) (other .0) ⌝ }
+    {
+        if self.0 < other.0 { self } else { other }
+    }
+}
+
+// "1 if set 0 is empty": the colour of a step whose set 0 is given.
+fn dead_or(first: u16, colour: Colour) -> Colour
+    ensures { λ r. ⌜ r .0 ≡ deadOr (isEmpty first) (colour .0) ⌝ }
+{
+    if first == 0 { Colour::DEAD } else { colour }
+}
+
+// The colour of place i with set x after its turn: marked, or one of the first p places and empty now, or neither.
+fn colour_at(n: usize, i: usize, p: usize, x: u16, mark: bool) -> Colour
+    requires { ⌜ (n ≤ 16) × (i ≤ 16) ⌝ }
+    ensures { λ r. ⌜ r .0 ≡ colourAt n i mark (isEmpty x && ltb i p) ⌝ }
+{
+    if mark {
+        return Colour::marked(i);
+    }
+    if x == 0 {
+        if i < p {
+            return Colour::emptied(i);
+        }
+    }
+    Colour::neutral(n)
+}
+
+// Is a place with set x marked, where the later places have the members given?
+fn is_marked(x: u16, later: u16) -> bool
+    ensures { λ r. ⌜ r ≡ (not (isEmpty x) && isWithin x later) ⌝ }
+{
+    if x == 0 {
+        return false;
+    }
+    sets::within(x, later)
+}
+
+// What is removed from all later places, after the turn of a place with set x.
+fn out_of(mark: bool, out: u16, x: u16) -> u16
+    ensures { λ r. ⌜ r ≡ outOf mark out x ⌝ }
+{
+    if mark { sets::union(out, x) } else { out }
+}
+
+// The must-recur states in the new set 0.
+fn recurrent_of(a: Numbers, first: u16) -> u16
+    ensures { λ r. ⌜ r ≡ interOf first (a .recurring) ⌝ }
+{
+    sets::inter(first, a.recurring)
+}
+
+// Replaces each set by its successors, and gives the count of sets.
+fn advance(table: &[u16], letter: usize, w: &mut [u16]) -> usize
+    requires { ⌜ (letter < 8) × (length (now w) ≡ 17) ⌝ }
+    ensures { λ r. ⌜ Advanced (now (table .entry)) letter (now (w .entry)) (now (w .exit)) r ⌝ }
+{
+    let mut i: usize = 0;
+    while i < 16 {
+        let x = w[i];
+        if x == 0 {
+            return i;
+        }
+        w[i] = automaton::successors_of(table, letter, x);
+        i += 1;
+    }
+    i
+}
+
+// The members of the places behind each of the first count places.
+fn unions(w: &[u16], count: usize, later: &mut [u16])
+    requires { ⌜ (count ≤ length (now w)) × (count ≤ length (now later)) ⌝ }
+    ensures { λ _. ⌜ Unions count (now (w .entry)) (now (later .exit)) ⌝ }
+{
+    let mut all: u16 = 0;
+    let mut i = count;
+    while 0 < i {
+        i -= 1;
+        later[i] = all;
+        all = sets::union(w[i], all);
+    }
+}
+
+// The marking pass over the places 0 to p, closing up as it goes, and the least colour of a place.
+fn sweep(n: usize, p: usize, later: &[u16], w: &mut [u16]) -> Colour
+    requires { ⌜ (n ≤ 16) × (p ≤ 16) × (length (now w) ≡ 17) × (length (now later) ≡ 17) × Unions (p + 1) (now w) (now later) ⌝ }
+    ensures { λ r. ⌜ Swept n p (p + 1) (now (w .entry)) (now (w .exit)) (r .0) ⌝ }
+{
+    let mut colour = Colour::neutral(n);
+    let mut out: u16 = 0;
+    let mut j: usize = 0;
+    let mut i: usize = 0;
+    while i <= p {
+        let x = sets::minus(w[i], out);
+        let mark = is_marked(x, later[i]);
+        colour = colour.least(colour_at(n, i, p, x, mark));
+        out = out_of(mark, out, x);
+        w[i] = 0;
+        if x != 0 {
+            w[j] = x;
+            j += 1;
+        }
+        i += 1;
+    }
+    colour
+}
+
+// Points 1 and 2 of the step: the successors of each set, and behind them the new set. Gives the count of sets before the step.
+fn place_sets(a: Numbers, table: &[u16], letter: usize, w: &mut [u16]) -> usize
+    requires { ⌜ Steps (automaton a (now table)) letter (now w) ⌝ }
+    ensures { λ r. ⌜ Placed (automaton a (now (table .entry))) letter (now (w .entry)) (now (w .exit)) r ⌝ }
+{
+    let p = advance(table, letter, w);
+    let first = w[0];
+    w[p] = recurrent_of(a, first);
+    p
+}
+
+// Points 3 to 5 over the places 0 to p, and the colour in the last cell.
+fn settle(n: usize, p: usize, w: &mut [u16])
+    requires { ⌜ (n ≤ 16) × (p ≤ 16) × (length (now w) ≡ 17) ⌝ }
+    ensures { λ _. ⌜ now (w .exit) ≡ settled n p (now (w .entry)) ⌝ }
+{
+    let mut later = [0u16; 17];
+    unions(w, p + 1, &mut later);
+    let first = w[0];
+    let colour = dead_or(first, sweep(n, p, &later, w));
+    w[16] = colour.0;
+}
+
+// The step on a letter from the tuple whose row is given.
+pub fn step(a: Numbers, table: &[u16], letter: usize, w: &mut [u16])
+    requires { ⌜ Steps (automaton a (now table)) letter (now w) ⌝ }
+    ensures { λ _. ⌜ now (w .exit) ≡ row (next (automaton a (now (table .entry))) letter (tupleOf (now (w .entry)))) ⌝ }
+{
+    let p = place_sets(a, table, letter, w);
+    settle(a.n, p, w);
+}
