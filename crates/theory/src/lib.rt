@@ -1,2 +1,1 @@
 // The determinization theorem: specifications only.
-pub fn nothing() {}

@@ -7,8 +7,8 @@ const SHEET_B: &str = "SHEET  2  2\nN  0 a\nN  1 b\nS  0  1  0\nS  1  1  1\nT  0
 #[test]
 fn sheet_b() {
     let listing = "TRACK  2  2    4\nQ    0  5     3     0    1    1\nQ    1  5     3     2    2    3\nQ    2  4     3     2    2    3\nQ    3  3     3     2    2    3\nEND\n";
-    assert_eq!(expected_listing(SHEET_B.as_bytes()), Ok(listing.to_string()));
-    let with = |plan: &str| expected_verdict(format!("{SHEET_B}{plan}").as_bytes());
+    assert_eq!(expected_listing(SHEET_B.as_bytes(), ROOM), Ok(listing.to_string()));
+    let with = |plan: &str| expected_verdict(format!("{SHEET_B}{plan}").as_bytes(), ROOM);
     assert_eq!(with("PLAN  1  1\nb\na\nEND\n"), Ok("YES  4    2\n".to_string()));
     assert_eq!(with("PLAN  0  2\na\nb\nEND\n"), Ok(" NO  3    2\n".to_string()));
     assert_eq!(with("PLAN  0  0\nEND\n"), Err((13, 1)));
@@ -16,7 +16,7 @@ fn sheet_b() {
 
 #[test]
 fn refusals() {
-    let listing = |s: &str| expected_listing(s.as_bytes());
+    let listing = |s: &str| expected_listing(s.as_bytes(), ROOM);
     assert_eq!(listing(""), Err((3, 1)));
     assert_eq!(listing("SHEET 17  1\n"), Err((4, 1)));
     let meeting = "SHEET  2  2\nN  0 a\nN  1 b\nS  0  1  0\nS  1  0  0\nT  0  0  0\nT  0  0  1\nT  0  1  0\nT  1  0  1\nEND\n";

@@ -3,7 +3,9 @@
 //!
 //! outside PROGRAMS [COUNT]: PROGRAMS is the folder of the built programs `track`, `verdict` and `rewrite`; COUNT (600) is how many
 //! sheets are made. Its last line is `outside: N passed, M failed`.
+//! outside cases FOLDER INPUTS: writes the case files of crates/cases and their answers; INPUTS is bench/inputs.
 
+mod cases;
 mod equal;
 mod families;
 mod graph;
@@ -44,9 +46,9 @@ fn accepted(bytes: &[u8]) -> Result<Sheet, No> {
     }
 }
 
-fn expected_listing(bytes: &[u8]) -> Result<String, No> {
+fn expected_listing(bytes: &[u8], room: usize) -> Result<String, No> {
     let s = accepted(bytes)?;
-    let t = tuples::build(&s, ROOM).ok_or((11, 0))?;
+    let t = tuples::build(&s, room).ok_or((11, 0))?;
     Ok(tuples::listing(&s, &t))
 }
 
@@ -62,13 +64,13 @@ fn split(input: &[u8]) -> (&[u8], &[u8]) {
     (input, &[])
 }
 
-fn expected_verdict(input: &[u8]) -> Result<String, No> {
+fn expected_verdict(input: &[u8], room: usize) -> Result<String, No> {
     let (sheet, plan) = split(input);
     if sheet.len() > 24_576 || plan.len() > 12_288 {
         return Err((2, 0));
     }
     let s = accepted(sheet)?;
-    let t = tuples::build(&s, ROOM).ok_or((11, 0))?;
+    let t = tuples::build(&s, room).ok_or((11, 0))?;
     let p = read_plan(plan, &s)?;
     let (yes, least, passes) = tuples::verdict(&t, &p);
     assert_eq!(yes, product::passes(&s, &p), "tuples and product differ");
@@ -149,18 +151,18 @@ impl Bench {
     fn sheet(&mut self, r: &mut Random, most: usize) {
         let s = families::sheet(r, most);
         let file = write_sheet(&s, false);
-        self.same("listing", "track", &file, expected_listing(&file));
+        self.same("listing", "track", &file, expected_listing(&file, ROOM));
         self.rewritten(&file);
         for _ in 0..2 {
             let p = families::plan(r, s.k);
             let input = [file.clone(), write_plan(&s, &p)].concat();
-            self.same("verdict", "verdict", &input, expected_verdict(&input));
+            self.same("verdict", "verdict", &input, expected_verdict(&input, ROOM));
             let broken = families::damaged(r, &input);
-            self.same("damaged input", "verdict", &broken, expected_verdict(&broken));
+            self.same("damaged input", "verdict", &broken, expected_verdict(&broken, ROOM));
         }
         for _ in 0..2 {
             let broken = families::damaged(r, &file);
-            self.same("damaged sheet", "track", &broken, expected_listing(&broken));
+            self.same("damaged sheet", "track", &broken, expected_listing(&broken, ROOM));
         }
         if walks::shortest_meeting(&s).is_none() && s.n <= 9 {
             if let (Some(t), Some(d)) = (tuples::build(&s, ROOM), safra::rabin(&s, 3000)) {
@@ -173,7 +175,11 @@ impl Bench {
 }
 
 fn main() {
-    let mut args = std::env::args().skip(1);
+    let mut args = std::env::args().skip(1).peekable();
+    if args.peek().is_some_and(|x| x == "cases") {
+        let folders: Vec<PathBuf> = args.skip(1).map(PathBuf::from).collect();
+        return cases::write(&folders[0], &folders[1]);
+    }
     let programs = PathBuf::from(args.next().expect("the folder of the programs"));
     let count: usize = args.next().map_or(600, |x| x.parse().expect("a count"));
     let mut b = Bench { programs, passed: 0, failed: 0, kinds: Default::default() };

@@ -1,0 +1,241 @@
+-- Document 01, "The files" and "The gate questions": what a sheet file is, and which line of a file that is none is at fault.
+use Prim.Native.Nat.{ℕ, zero, suc, _+_, _*_, _/_, _%_, _^_, _≤_, _<_}
+use mathlib.Core.Path.{_≡_}
+use mathlib.Core.List.{List, [], _∷_, _++_, map}
+use lib.ListN.{length, getD, set, replicate}
+use Rattle.text.specs.Bytes.{lf, space, endWord}
+use Rattle.text.specs.Column.{column}
+use Rattle.names.specs.Name.{IsName, compose}
+use Rattle.sets.specs.Sets.{bit, unionOf}
+use Rattle.automaton.specs.Automaton.{Automaton, InRange}
+
+-- a state line's two flags, initial and must-recur
+pub record State : Type 0 where
+  pub initial : ℕ
+  pub recurring : ℕ
+
+-- "transitions (from, letter, to)"
+pub record Transition : Type 0 where
+  pub from : ℕ
+  pub letter : ℕ
+  pub to : ℕ
+
+-- a sheet as its lines tell it: the names as they are spelled, the states and the transitions in the order of their lines
+pub record Sheet : Type 0 where
+  pub n : ℕ
+  pub k : ℕ
+  pub names : List (List ℕ)
+  pub states : List State
+  pub transitions : List Transition
+
+-- THE LINES
+
+-- "the first line opens with the five letters SHEET, then n (3 columns), k (3)"
+abbrev pub sheetWord : List ℕ
+sheetWord = 83 ∷ 72 ∷ 69 ∷ 69 ∷ 84 ∷ []
+
+unfoldable pub headLine : ℕ → ℕ → List ℕ
+headLine n k = sheetWord ++ (column 3 n ++ (column 3 k ++ (lf ∷ [])))
+
+-- "`N`, letter number in order (3), one space, the name to the line's end"
+unfoldable pub nameLine : ℕ → List ℕ → List ℕ
+nameLine l name = 78 ∷ (column 3 l ++ (space ∷ (name ++ (lf ∷ []))))
+
+-- "`S`, state number in order (3), initial 0 or 1 (3), must-recur 0 or 1 (3)"
+unfoldable pub stateLine : ℕ → State → List ℕ
+stateLine q z = 83 ∷ (column 3 q ++ (column 3 (z .initial) ++ (column 3 (z .recurring) ++ (lf ∷ []))))
+
+-- "`T`, from (3), letter (3), to (3)"
+unfoldable pub transitionLine : Transition → List ℕ
+transitionLine t = 84 ∷ (column 3 (t .from) ++ (column 3 (t .letter) ++ (column 3 (t .to) ++ (lf ∷ []))))
+
+-- "Then `END`, and nothing after."
+abbrev pub endLine : List ℕ
+endLine = endWord ++ (lf ∷ [])
+
+unfoldable pub nameLines : ℕ → List (List ℕ) → List ℕ
+nameLines l [] = []
+nameLines l (x ∷ xs) = nameLine l x ++ nameLines (suc l) xs
+
+unfoldable pub stateLines : ℕ → List State → List ℕ
+stateLines q [] = []
+stateLines q (z ∷ zs) = stateLine q z ++ stateLines (suc q) zs
+
+unfoldable pub transitionLines : List Transition → List ℕ
+transitionLines [] = []
+transitionLines (t ∷ ts) = transitionLine t ++ transitionLines ts
+
+-- the lines of a sheet, or of its upper part, without END
+unfoldable pub lines : Sheet → List ℕ
+lines σ = headLine (σ .n) (σ .k) ++ (nameLines 0 (σ .names) ++ (stateLines 0 (σ .states) ++ transitionLines (σ .transitions)))
+
+-- THE QUESTIONS, on the lines that are there
+
+-- "Are all names distinct after composing?": the later of two names answers for both
+abbrev pub Distinct : List (List ℕ) → List ℕ → Type 0
+Distinct [] x = Unit
+Distinct (y ∷ ys) x = (compose y ≡ compose x → ⊥) × Distinct ys x
+
+-- names below the earlier ones
+abbrev pub NamesRight : List (List ℕ) → List (List ℕ) → Type 0
+NamesRight earlier [] = Unit
+NamesRight earlier (x ∷ xs) = IsName x × Distinct earlier x × NamesRight (earlier ++ (x ∷ [])) xs
+
+-- "initial 0 or 1 (3), must-recur 0 or 1 (3)"
+abbrev pub FlagsRight : State → Type 0
+FlagsRight z = (z .initial ≤ 1) × (z .recurring ≤ 1)
+
+abbrev pub StatesRight : List State → Type 0
+StatesRight [] = Unit
+StatesRight (z ∷ zs) = FlagsRight z × StatesRight zs
+
+-- a transition's place in the order by from, letter and to
+abbrev pub place : Transition → ℕ
+place t = (8 * t .from + t .letter) * 16 + t .to
+
+-- "in range and in order": not below the least place that is still free
+pub record TransitionRight (n k least : ℕ) (t : Transition) : Type 0 where
+  pub from : t .from < n
+  pub letter : t .letter < k
+  pub to : t .to < n
+  pub order : least ≤ place t
+
+-- "strictly ascending by these three"
+abbrev pub TransitionsRight : ℕ → ℕ → ℕ → List Transition → Type 0
+TransitionsRight n k least [] = Unit
+TransitionsRight n k least (t ∷ ts) = TransitionRight n k least t × TransitionsRight n k (place t + 1) ts
+
+-- the least place that is free behind some transitions
+abbrev pub leastAfter : ℕ → List Transition → ℕ
+leastAfter least [] = least
+leastAfter least (t ∷ ts) = leastAfter (place t + 1) ts
+
+-- questions 4 to 8 are answered yes by every line of a sheet, or of its upper part
+pub record Right (σ : Sheet) : Type 0 where
+  pub range : InRange (σ .n) (σ .k)
+  pub names : NamesRight [] (σ .names)
+  pub states : StatesRight (σ .states)
+  pub transitions : TransitionsRight (σ .n) (σ .k) 0 (σ .transitions)
+
+-- "Is the sheet at most 24,576 bytes?"
+abbrev pub most : ℕ
+most = 24576
+
+-- A SHEET FILE: its lines answer yes, there are k names and n states, and END is last
+pub record FileIs (s : List ℕ) (σ : Sheet) : Type 0 where
+  pub size : length s ≤ most
+  pub right : Right σ
+  pub all-names : length (σ .names) ≡ σ .k
+  pub all-states : length (σ .states) ≡ σ .n
+  pub text : s ≡ lines σ ++ endLine
+
+-- NO SHEET FILE. "In a file the first faulty line from the top counts, and on one line the lower number."
+-- The lines above the faulty one are those of the upper part σ of a sheet, and the rest starts with the faulty line.
+pub record Above (s : List ℕ) (σ : Sheet) (rest : List ℕ) : Type 0 where
+  pub size : length s ≤ most
+  pub right : Right σ
+  pub text : s ≡ lines σ ++ rest
+
+-- the kind of line that is due behind the upper part σ: a name, a state, or a transition or END
+pub record NameDue (σ : Sheet) : Type 0 where
+  pub names : length (σ .names) < σ .k
+  pub states : σ .states ≡ []
+  pub transitions : σ .transitions ≡ []
+
+pub record StateDue (σ : Sheet) : Type 0 where
+  pub names : length (σ .names) ≡ σ .k
+  pub states : length (σ .states) < σ .n
+  pub transitions : σ .transitions ≡ []
+
+pub record EndDue (σ : Sheet) : Type 0 where
+  pub names : length (σ .names) ≡ σ .k
+  pub states : length (σ .states) ≡ σ .n
+
+-- the number of the line behind them, from 1
+abbrev pub lineDue : Sheet → ℕ
+lineDue σ = 2 + (length (σ .names) + (length (σ .states) + length (σ .transitions)))
+
+-- "A missing line counts as a faulty line of the kind due there, and a line without LF is faulty": neither opens with the line's text.
+pub data Faulty (s : List ℕ) : ℕ → ℕ → Type 0 where
+  -- "Is the sheet at most 24,576 bytes ..? No: 2."
+  size : most < length s → Faulty s 2 0
+  -- "Is the first sheet line of its form? No: 3."
+  head : length s ≤ most → ((n k : ℕ) (rest : List ℕ) → n < 1000 → k < 1000 → s ≡ headLine n k ++ rest → ⊥) → Faulty s 3 1
+  -- "Are n and k in range? No: 4."
+  range : length s ≤ most → (n k : ℕ) (rest : List ℕ) → n < 1000 → k < 1000 → s ≡ headLine n k ++ rest → (InRange n k → ⊥) → Faulty s 4 1
+  -- "Is each name line of its form? No: 5."
+  name : (σ : Sheet) (rest : List ℕ) → Above s σ rest → NameDue σ
+      → ((x after : List ℕ) → IsName x → rest ≡ nameLine (length (σ .names)) x ++ after → ⊥) → Faulty s 5 (lineDue σ)
+  -- "Are all names distinct after composing? No: 6, on the later line."
+  twice : (σ : Sheet) (rest : List ℕ) → Above s σ rest → NameDue σ
+      → (x after : List ℕ) → IsName x → rest ≡ nameLine (length (σ .names)) x ++ after → (Distinct (σ .names) x → ⊥) → Faulty s 6 (lineDue σ)
+  -- "Is each state line of its form? No: 7."
+  state : (σ : Sheet) (rest : List ℕ) → Above s σ rest → StateDue σ
+      → ((z : State) (after : List ℕ) → FlagsRight z → rest ≡ stateLine (length (σ .states)) z ++ after → ⊥) → Faulty s 7 (lineDue σ)
+  -- "After the states and up to `END`, a line beginning with T answers to question 8, any other to 9."
+  -- "Each transition line of its form, in range and in order? No: 8."
+  transition : (σ : Sheet) (rest : List ℕ) → Above s σ rest → EndDue σ → getD rest 0 0 ≡ 84
+      → ((t : Transition) (after : List ℕ) → TransitionRight (σ .n) (σ .k) (leastAfter 0 (σ .transitions)) t → rest ≡ transitionLine t ++ after → ⊥)
+      → Faulty s 8 (lineDue σ)
+  -- "Is `END` last? No: 9."
+  end : (σ : Sheet) (rest : List ℕ) → Above s σ rest → EndDue σ → (getD rest 0 0 ≡ 84 → ⊥)
+      → ((after : List ℕ) → rest ≡ endLine ++ after → ⊥) → Faulty s 9 (lineDue σ)
+  -- "What follows `END` is a fault of the line after it: 9 in a sheet".
+  behind : (σ : Sheet) (after : List ℕ) → Above s σ (endLine ++ after) → EndDue σ → (after ≡ [] → ⊥) → Faulty s 9 (suc (lineDue σ))
+
+-- THE NUMBERS OF A SHEET
+
+-- the states of a list, from state q on, whose flag is 1: the sum of 2^q over them
+unfoldable pub flagSet : (State → ℕ) → ℕ → List State → ℕ
+flagSet flag q [] = 0
+flagSet flag q (z ∷ zs) = flag z * 2 ^ q + flagSet flag (suc q) zs
+
+-- a table of successor sets with one transition more
+unfoldable pub entered : List ℕ → Transition → List ℕ
+entered table t = set table (8 * t .from + t .letter) (unionOf (getD table (8 * t .from + t .letter) 0) (2 ^ t .to))
+
+unfoldable pub tableOf : List ℕ → List Transition → List ℕ
+tableOf table [] = table
+tableOf table (t ∷ ts) = tableOf (entered table t) ts
+
+unfoldable pub numbers : Sheet → Automaton
+numbers σ = record {
+  n = σ .n;
+  k = σ .k;
+  initial = flagSet (λ z. z .initial) 0 (σ .states);
+  recurring = flagSet (λ z. z .recurring) 0 (σ .states);
+  table = tableOf (replicate 128 0) (σ .transitions);
+}
+
+-- THE WRITING of an automaton with names: composed letters, transitions in order
+
+-- the state lines of n states from q on, by their flags in two sets
+unfoldable pub statesOf : ℕ → ℕ → ℕ → ℕ → List State
+statesOf initial recurring q zero = []
+statesOf initial recurring q (suc n) = record { initial = bit initial q; recurring = bit recurring q } ∷ statesOf initial recurring (suc q) n
+
+-- a transition at place i of the order
+abbrev pub placed : ℕ → Transition
+placed i = record { from = i / 128; letter = i / 16 % 8; to = i % 16 }
+
+abbrev pub unless : ℕ → Transition → List Transition → List Transition
+unless zero t ts = ts
+unless (suc b) t ts = t ∷ ts
+
+-- the transitions of a table at the places from i on, of which there are `left`
+unfoldable pub transitionsOf : List ℕ → ℕ → ℕ → List Transition
+transitionsOf table i zero = []
+transitionsOf table i (suc left) = unless (bit (getD table (i / 16) 0) (i % 16)) (placed i) (transitionsOf table (suc i) left)
+
+-- the sheet that is written: an automaton's numbers, and names as they are given, composed
+unfoldable pub writtenSheet : Automaton → List (List ℕ) → Sheet
+writtenSheet A names = record {
+  n = A .n;
+  k = A .k;
+  names = map compose names;
+  states = statesOf (A .initial) (A .recurring) 0 (A .n);
+  transitions = transitionsOf (A .table) 0 2048;
+}
+
+unfoldable pub written : Automaton → List (List ℕ) → List ℕ
+written A names = lines (writtenSheet A names) ++ endLine

@@ -1,0 +1,216 @@
+-- The numbers of a sheet: its flags are members of two sets, its transitions are members of the successor sets, and all of them fit.
+-- Assumes nothing.
+use Prim.Native.Nat.{ℕ, zero, suc, _+_, _*_, _/_, _%_, _^_, _≤_, _<_}
+use mathlib.Core.Path.{_≡_, refl, sym, subst, _∙_}
+use mathlib.Core.List.{List, [], _∷_}
+use mathlib.Core.Logic.{_⊎_, inl, inr, _↔_}
+use lib.ListN.{length, getD, set, replicate, length-set, getD-replicate, List·getD-eq-default}
+use lib.Seq.{getD-set-same, getD-set-other}
+use native.Mathlib.Omega.{arith}
+use native.Mathlib.Decide.{decLt, ℕ-discrete}
+use native.Mathlib.Nat.{add-zero, pow-suc, one-mul, mul-le-mul-right}
+use Rattle.sets.specs.Sets.{Member, unionOf}
+use Rattle.sets.specs.SetLaws.{no-member, some-member, member-lt, union-in, union-left, union-right, bit-single, single-in}
+use Rattle.automaton.specs.Automaton.{Edge, InRange, Fits}
+use Rattle.format.specs.Format.{State, Transition, Sheet, FlagsRight, StatesRight, TransitionRight, TransitionsRight, place, Right, FileIs, flagSet, entered, tableOf, numbers}
+
+-- Flags
+
+-- the states of a list from q on, whatever their flags, are the numbers from q to below q + length
+pub flags-small :
+    (flag : State → ℕ) → ((z : State) → FlagsRight z → flag z ≤ 1) →
+    (q : ℕ) (zs : List State) → StatesRight zs → flagSet flag q zs + 2 ^ q ≤ 2 ^ (q + length zs)
+unfolding flagSet
+flags-small flag f q [] r = rw add-zero (omega arith)
+flags-small flag f q (z ∷ zs) r =
+    let h = flags-small flag f (suc q) zs (r .1) in
+    let e : suc q + length zs ≡ q + suc (length zs) = omega arith in
+    let h′ : flagSet flag (suc q) zs + 2 ^ suc q ≤ 2 ^ (q + suc (length zs)) = rw e at h in
+    let m : flag z * 2 ^ q ≤ 2 ^ q = rw one-mul at (mul-le-mul-right (2 ^ q) (f z (r .0))) in
+    omega (arith, pow-suc 2 q)
+
+-- Transitions
+
+abbrev pub transition : ℕ → ℕ → ℕ → Transition
+transition from letter to = record { from = from; letter = letter; to = to }
+
+-- one of the transitions of a list
+abbrev pub OneOf : List Transition → Transition → Type 0
+OneOf ts t = (i : ℕ) × (i < length ts) × (getD ts i (transition 0 0 0) ≡ t)
+
+-- the number of a transition's successor set
+abbrev pub cell : Transition → ℕ
+cell t = 8 * t .from + t .letter
+
+module _ (table : List ℕ) (t : Transition) (fits : cell t < length table) where
+  entered-length : length (entered table t) ≡ length table
+  unfolding entered
+  entered-length = simp length-set
+
+  entered-there : getD (entered table t) (cell t) 0 ≡ unionOf (getD table (cell t) 0) (2 ^ t .to)
+  unfolding entered
+  entered-there = rw getD-set-same
+
+  entered-elsewhere : (c : ℕ) → (c ≡ cell t → ⊥) → getD (entered table t) c 0 ≡ getD table c 0
+  unfolding entered
+  entered-elsewhere c h = rw getD-set-other
+
+  entered-new : Member (getD (entered table t) (cell t) 0) (t .to)
+  entered-new = rw entered-there (union-right _ _ _ (bit-single (t .to)))
+
+  entered-old : (c r : ℕ) → Member (getD table c 0) r → Member (getD (entered table t) c 0) r
+  entered-old c r m = by (ℕ-discrete c (cell t))
+    where
+      by : Dec (c ≡ cell t) → Member (getD (entered table t) c 0) r
+      by (yes e) = rw (e, entered-there) (union-left _ _ _ (rw e at m))
+      by (no e) = rw (entered-elsewhere c e) m
+
+  entered-from : (c r : ℕ) → Member (getD (entered table t) c 0) r → Member (getD table c 0) r ⊎ ((c ≡ cell t) × (r ≡ t .to))
+  entered-from c r m = by (ℕ-discrete c (cell t))
+    where
+      split : c ≡ cell t → Member (getD table (cell t) 0) r ⊎ Member (2 ^ t .to) r → Member (getD table c 0) r ⊎ ((c ≡ cell t) × (r ≡ t .to))
+      split e (inl a) = inl (rw e a)
+      split e (inr a) = inr (e, single-in (t .to) r a)
+
+      by : Dec (c ≡ cell t) → Member (getD table c 0) r ⊎ ((c ≡ cell t) × (r ≡ t .to))
+      by (yes e) = split e (union-in _ _ r (rw (e, entered-there) at m))
+      by (no e) = inl (rw (entered-elsewhere c e) at m)
+
+module _ (n k : ℕ) (range : InRange n k) where
+  -- a transition in range has a cell of its own among the 128
+  cell-small : (t : Transition) → t .from < n → t .letter < k → cell t < 128
+  cell-small t f l = omega arith
+
+  cell-same : (t u : Transition) → t .letter < k → u .letter < k → cell t ≡ cell u → (t .from ≡ u .from) × (t .letter ≡ u .letter)
+  cell-same t u l m e = (omega arith, omega arith)
+
+  module _ (c r : ℕ) where
+    -- what is a member stays one
+    table-old : (table : List ℕ) → length table ≡ 128 → (least : ℕ) (ts : List Transition) → TransitionsRight n k least ts →
+        Member (getD table c 0) r → Member (getD (tableOf table ts) c 0) r
+    unfolding tableOf
+    table-old table size least [] h m = m
+    table-old table size least (t ∷ ts) h m =
+        let fits : cell t < length table = omega (arith, cell-small t (h .0 .from) (h .0 .letter)) in
+        table-old (entered table t) (entered-length table t fits ∙ size) (place t + 1) ts (h .1) (entered-old table t fits c r m)
+
+    -- a member was one, or is a transition's
+    table-from : (table : List ℕ) → length table ≡ 128 → (least : ℕ) (ts : List Transition) → TransitionsRight n k least ts →
+        Member (getD (tableOf table ts) c 0) r → Member (getD table c 0) r ⊎ ((t : Transition) × OneOf ts t × TransitionRight n k 0 t × (c ≡ cell t) × (r ≡ t .to))
+    unfolding tableOf
+    table-from table size least [] h m = inl m
+    table-from table size least (t ∷ ts) h m =
+        let fits : cell t < length table = omega (arith, cell-small t (h .0 .from) (h .0 .letter)) in
+        by fits (table-from (entered table t) (entered-length table t fits ∙ size) (place t + 1) ts (h .1) m)
+      where
+        here : TransitionRight n k 0 t
+        here = record { from = h .0 .from; letter = h .0 .letter; to = h .0 .to; order = omega arith }
+
+        first : Member (getD table c 0) r ⊎ ((c ≡ cell t) × (r ≡ t .to)) → Member (getD table c 0) r ⊎ ((u : Transition) × OneOf (t ∷ ts) u × TransitionRight n k 0 u × (c ≡ cell u) × (r ≡ u .to))
+        first (inl a) = inl a
+        first (inr a) = inr (t, (0, omega arith, refl), here, a .0, a .1)
+
+        by : cell t < length table →
+            Member (getD (entered table t) c 0) r ⊎ ((u : Transition) × OneOf ts u × TransitionRight n k 0 u × (c ≡ cell u) × (r ≡ u .to)) →
+            Member (getD table c 0) r ⊎ ((u : Transition) × OneOf (t ∷ ts) u × TransitionRight n k 0 u × (c ≡ cell u) × (r ≡ u .to))
+        by fits (inl a) = first (entered-from table t fits c r a)
+        by fits (inr a) = inr (a .0, (suc (a .1 .0), omega (arith, a .1 .1), a .1 .2), a .2, a .3, a .4)
+
+  -- each transition is in its cell
+  table-new : (t : Transition) (table : List ℕ) → length table ≡ 128 → (least : ℕ) (ts : List Transition) → TransitionsRight n k least ts →
+      (i : ℕ) → i < length ts → getD ts i (transition 0 0 0) ≡ t → Member (getD (tableOf table ts) (cell t) 0) (t .to)
+  unfolding tableOf
+  table-new t table size least [] h i l e = absurd (omega arith)
+  table-new t table size least (u ∷ us) h zero l e =
+      let fits : cell u < length table = omega (arith, cell-small u (h .0 .from) (h .0 .letter)) in
+      table-old (cell t) (t .to) (entered table u) (entered-length table u fits ∙ size) (place u + 1) us (h .1)
+      (subst (λ (v : Transition). Member (getD (entered table u) (cell v) 0) (v .to)) e (entered-new table u fits))
+  table-new t table size least (u ∷ us) h (suc i) l e =
+      let fits : cell u < length table = omega (arith, cell-small u (h .0 .from) (h .0 .letter)) in
+      table-new t (entered table u) (entered-length table u fits ∙ size) (place u + 1) us (h .1) i (omega arith) e
+
+  -- each transition of a list is right
+  one-right : (t : Transition) (least : ℕ) (ts : List Transition) → TransitionsRight n k least ts → OneOf ts t → TransitionRight n k 0 t
+  one-right t least [] h o = absurd (let l = o .1 in omega arith)
+  one-right t least (u ∷ us) h (zero, l, e) =
+      subst (TransitionRight n k 0) e (record { from = h .0 .from; letter = h .0 .letter; to = h .0 .to; order = omega arith })
+  one-right t least (u ∷ us) h (suc i, l, e) = one-right t (place u + 1) us (h .1) (i, omega arith, e)
+
+-- no cell of the empty table has a member
+none-yet : (c r : ℕ) → Member (getD (replicate {A = ℕ} 128 0) c 0) r → ⊥
+none-yet c r m = no-member r (subst (λ (x : ℕ). Member x r) (by (decLt c 128)) m)
+  where
+    by : Dec (c < 128) → getD (replicate {A = ℕ} 128 0) c 0 ≡ 0
+    by (yes l) = getD-replicate 128 c 0 0 l
+    by (no l) = List·getD-eq-default (replicate {A = ℕ} 128 0) 0 {n = c} (omega arith)
+
+module _ (σ : Sheet) (right : Right σ) where
+  -- the members of the successor sets are the transitions
+  member-is : (c r : ℕ) → Member (getD (numbers σ .table) c 0) r →
+      (t : Transition) × OneOf (σ .transitions) t × TransitionRight (σ .n) (σ .k) 0 t × (c ≡ cell t) × (r ≡ t .to)
+  unfolding numbers
+  member-is c r m = by (table-from (σ .n) (σ .k) (right .range) c r (replicate 128 0) refl 0 (σ .transitions) (right .transitions) m)
+    where
+      by : Member (getD (replicate {A = ℕ} 128 0) c 0) r ⊎ ((t : Transition) × OneOf (σ .transitions) t × TransitionRight (σ .n) (σ .k) 0 t × (c ≡ cell t) × (r ≡ t .to)) →
+          (t : Transition) × OneOf (σ .transitions) t × TransitionRight (σ .n) (σ .k) 0 t × (c ≡ cell t) × (r ≡ t .to)
+      by (inl a) = absurd (none-yet c r a)
+      by (inr a) = a
+
+  member-of : (t : Transition) → OneOf (σ .transitions) t → Member (getD (numbers σ .table) (cell t) 0) (t .to)
+  unfolding numbers
+  member-of t o = table-new (σ .n) (σ .k) (right .range) t (replicate 128 0) refl 0 (σ .transitions) (right .transitions) (o .0) (o .1) (o .2)
+
+  -- "transitions (from, letter, to)": the edges of the numbers are the transitions of the sheet
+  pub right-edge : (l q r : ℕ) → Edge (numbers σ) l q r ↔ OneOf (σ .transitions) (transition q l r)
+  unfolding numbers
+  right-edge l q r = (from, to)
+    where
+      from : Edge (numbers σ) l q r → OneOf (σ .transitions) (transition q l r)
+      from e =
+          let m = member-is (8 * q + l) r (e .to) in
+          let t = m .0 in
+          let s = cell-same (σ .n) (σ .k) (right .range) (transition q l r) t (e .letter) (m .2 .letter) (m .3) in
+          let same : t ≡ transition q l r = λ i. record { from = sym (s .0) i; letter = sym (s .1) i; to = sym (m .4) i } in
+          (m .1 .0, m .1 .1, m .1 .2 ∙ same)
+
+      to : OneOf (σ .transitions) (transition q l r) → Edge (numbers σ) l q r
+      to o =
+          let h = one-right (σ .n) (σ .k) (right .range) (transition q l r) 0 (σ .transitions) (right .transitions) o in
+          record { letter = h .letter; from = h .from; to = member-of (transition q l r) o }
+
+  flags-within : (flag : State → ℕ) → ((z : State) → FlagsRight z → flag z ≤ 1) → length (σ .states) ≡ σ .n →
+      (q : ℕ) → Member (flagSet flag 0 (σ .states)) q → q < σ .n
+  flags-within flag f size q m =
+      let h : flagSet flag 0 (σ .states) + 1 ≤ 2 ^ (0 + length (σ .states)) = flags-small flag f 0 (σ .states) (right .states) in
+      let e : 0 + length (σ .states) ≡ σ .n = omega arith in
+      member-lt (flagSet flag 0 (σ .states)) (σ .n) q (rw e at (let l : flagSet flag 0 (σ .states) < 2 ^ (0 + length (σ .states)) = omega arith in l)) m
+
+  -- a cell outside n and k has no member
+  cell-empty : (i : ℕ) → (i / 8 < σ .n → i % 8 < σ .k → ⊥) → getD (numbers σ .table) i 0 ≡ 0
+  cell-empty i out = by (ℕ-discrete (getD (numbers σ .table) i 0) 0)
+    where
+      by : Dec (getD (numbers σ .table) i 0 ≡ 0) → getD (numbers σ .table) i 0 ≡ 0
+      by (yes e) = e
+      by (no e) =
+          let w = some-member (getD (numbers σ .table) i 0) e in
+          let m = member-is i (w .0) (w .1) in
+          let u : i ≡ cell (m .0) = m .3 in
+          let f : m .0 .from < σ .n = m .2 .from in
+          let l : m .0 .letter < σ .k = m .2 .letter in
+          let k : σ .k ≤ 8 = right .range .3 in
+          absurd (out (omega arith) (omega arith))
+
+  -- questions 4, 7 and 8 hold of the numbers
+  pub right-fits : length (σ .states) ≡ σ .n → Fits (numbers σ)
+  unfolding numbers
+  right-fits size = record {
+    range = right .range;
+    states = (flags-within (λ z. z .initial) (λ z h. h .0) size, flags-within (λ z. z .recurring) (λ z h. h .1) size);
+    cells = λ i. record { within = λ r m. (let w = member-is i r m in let u : r ≡ w .0 .to = w .4 in omega (arith, w .2 .to)); empty = cell-empty i };
+  }
+
+pub sheet-fits : (s : List ℕ) (σ : Sheet) → FileIs s σ → Fits (numbers σ)
+sheet-fits s σ h = right-fits σ (h .right) (h .all-states)
+
+pub edge-is : (s : List ℕ) (σ : Sheet) → FileIs s σ → (l q r : ℕ) → Edge (numbers σ) l q r ↔ OneOf (σ .transitions) (transition q l r)
+edge-is s σ h = right-edge σ (h .right)

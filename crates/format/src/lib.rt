@@ -1,0 +1,1 @@
+// The format of a sheet file: specifications only.

@@ -1,0 +1,159 @@
+-- `names::put_composed` meets its contract. The loop's invariant: storing what the rest of the stretch composes to gives all of it stored.
+-- Assumes nothing.
+use Prim.Native.Nat.{ℕ, _+_, _-_, _≤_}
+use mathlib.Core.Path.{_≡_, refl, sym, _∙_, ap}
+use native.Mathlib.Nat.{add-zero}
+use native.Mathlib.Omega.{arith}
+use denote.Ref.{now}
+use lib.ListN.{length, length-set}
+use lib.Seq.{sets}
+use Rattle.text.specs.Bytes.{stretch}
+use mathlib.Core.Bool.{true, false}
+use Rattle.names.specs.Name.{compose}
+use Rattle.names.specs.Row.{diaeresisAt}
+use Rattle.names.specs.ComposeLaws.{composed-fits, composed-one, composed-two, stored-none, stored-one, stored-two}
+use borrow.Author.Needs.{needs}
+use Rattle.names.proofs.put_composed.Statement.{statement}
+use Rattle.names.proofs.put_composed.Tie as tie
+
+abbrev Inv-loop : tie.InvT-loop
+Inv-loop s start end out₀ at i₀ n₀ out i n =
+    (start ≤ i) × (i ≤ end) × (n + start ≤ i) × (length out ≡ length out₀) ×
+    (n + length (compose (stretch s i end)) ≡ length (compose (stretch s start end))) ×
+    (sets out (at + n) (compose (stretch s i end)) ≡ sets out₀ at (compose (stretch s start end)))
+
+abbrev μ-loop : tie.MeasureT-loop
+μ-loop s start end out₀ at i₀ n₀ out i n = end - i
+
+-- the tests of this turn
+two : (c : tie.After-umlaut-of Inv-loop μ-loop) → diaeresisAt (now (c .before .before .before .before .before .before .before .before .args .s)) (c .before .before .before .before .before .loop .i) (c .before .before .before .before .before .before .before .before .args .end) ≡ true
+two c = sym (c .before .before .before .diaeresis-at .ensures) ∙ c .before .before .if1 .taken
+
+fits : (c : tie.After-umlaut-of Inv-loop μ-loop) → c .before .before .before .before .before .loop .i + 3 ≤ c .before .before .before .before .before .before .before .before .args .end
+fits c = composed-fits (now (c .before .before .before .before .before .before .before .before .args .s)) (c .before .before .before .before .before .loop .i) (c .before .before .before .before .before .before .before .before .args .end) (omega arith) (omega arith) (two c)
+
+one : (c : tie.After-shared-slice-known3 Inv-loop μ-loop) → diaeresisAt (now (c .before .before .before .before .before .before .before .args .s)) (c .before .before .before .before .loop .i) (c .before .before .before .before .before .before .before .args .end) ≡ false
+one c = sym (c .before .before .diaeresis-at .ensures) ∙ c .before .if1 .left
+
+loop-holds : tie.Need-loop-holds Inv-loop μ-loop
+loop-holds c =
+    let a = c .before .before .args in
+    (omega arith, omega arith, omega arith, refl, omega arith, ap (λ (n : ℕ). sets (now (a .out)) n (compose (stretch (now (a .s)) (a .start) (a .end)))) (add-zero (a .at)))
+
+diaeresis-at-requires : tie.Need-diaeresis-at-requires Inv-loop μ-loop
+diaeresis-at-requires c κs = search needs
+
+add-out : tie.Need-add-out Inv-loop μ-loop
+add-out c = search needs
+
+slice-write-out : tie.Need-slice-write-out Inv-loop μ-loop
+slice-write-out c = search needs
+
+shared-slice-read-umlaut-of : tie.Need-shared-slice-read-umlaut-of Inv-loop μ-loop
+shared-slice-read-umlaut-of c = search needs
+
+umlaut-of-requires : tie.Need-umlaut-of-requires Inv-loop μ-loop
+umlaut-of-requires c κs = search needs
+
+add-out-2 : tie.Need-add-out-2 Inv-loop μ-loop
+add-out-2 c = search needs
+
+add-out-3 : tie.Need-add-out-3 Inv-loop μ-loop
+add-out-3 c = omega (arith, fits c)
+
+slice-write-out-2 : tie.Need-slice-write-out-2 Inv-loop μ-loop
+slice-write-out-2 c = simp length-set (omega (arith, fits c))
+
+add-n : tie.Need-add-n Inv-loop μ-loop
+add-n c = search needs
+
+add-i : tie.Need-add-i Inv-loop μ-loop
+add-i c = omega (arith, fits c)
+
+loop-less : tie.Need-loop-less Inv-loop μ-loop
+loop-less c = omega (arith, fits c)
+
+loop-again : tie.Need-loop-again Inv-loop μ-loop
+loop-again c =
+    let l = c .before .before .before .before .before .loop in
+    let a = c .before .before .before .before .before .before .before .before .args in
+    let s = now (a .s) in
+    let k : a .at + l .n + 2 ≡ a .at + (l .n + 2) = omega arith in (
+      omega arith,
+      fits c,
+      omega arith,
+      simp length-set (l .inv .3),
+      omega (arith, ap length (composed-two s (l .i) (a .end) (omega arith) (omega arith) (two c)), l .inv .4),
+      rw (c .umlaut-of .ensures, ← k) (sym (stored-two s (l .out) (l .i) (a .end) (a .at + l .n) (omega arith) (omega arith) (two c)) ∙ l .inv .5),
+    )
+
+shared-slice-read-out : tie.Need-shared-slice-read-out Inv-loop μ-loop
+shared-slice-read-out c = search needs
+
+add-out-4 : tie.Need-add-out-4 Inv-loop μ-loop
+add-out-4 c = search needs
+
+slice-write-out-3 : tie.Need-slice-write-out-3 Inv-loop μ-loop
+slice-write-out-3 c = search needs
+
+add-n-2 : tie.Need-add-n-2 Inv-loop μ-loop
+add-n-2 c = search needs
+
+add-i-2 : tie.Need-add-i-2 Inv-loop μ-loop
+add-i-2 c = search needs
+
+loop-less-2 : tie.Need-loop-less-2 Inv-loop μ-loop
+loop-less-2 c = search needs
+
+loop-again-2 : tie.Need-loop-again-2 Inv-loop μ-loop
+loop-again-2 c =
+    let l = c .before .before .before .before .loop in
+    let a = c .before .before .before .before .before .before .before .args in
+    let s = now (a .s) in
+    let k : a .at + l .n + 1 ≡ a .at + (l .n + 1) = omega arith in (
+      omega arith,
+      omega arith,
+      omega arith,
+      simp length-set (l .inv .3),
+      omega (arith, ap length (composed-one s (l .i) (a .end) (omega arith) (omega arith) (one c)), l .inv .4),
+      rw (← k) (sym (stored-one s (l .out) (l .i) (a .end) (a .at + l .n) (omega arith) (omega arith) (one c)) ∙ l .inv .5),
+    )
+
+same-length : tie.Need-same-length Inv-loop μ-loop
+same-length c = c .before .loop .inv .3
+
+returns : tie.Need-returns Inv-loop μ-loop
+returns c =
+    let l = c .before .loop in
+    let a = c .before .before .before .before .args in
+    let none = stored-none (now (a .s)) (l .out) (l .i) (a .end) (a .at + l .n) (omega arith) in
+    (sym (none .0) ∙ l .inv .5, omega (arith, none .1, l .inv .4), omega arith)
+
+pub put-composed-spec : {M : Type 1} → statement M
+put-composed-spec =
+    tie.close
+    (tie.spec
+    Inv-loop
+    μ-loop
+    loop-holds
+    diaeresis-at-requires
+    add-out
+    slice-write-out
+    shared-slice-read-umlaut-of
+    umlaut-of-requires
+    add-out-2
+    add-out-3
+    slice-write-out-2
+    add-n
+    add-i
+    loop-less
+    loop-again
+    shared-slice-read-out
+    add-out-4
+    slice-write-out-3
+    add-n-2
+    add-i-2
+    loop-less-2
+    loop-again-2
+    same-length
+    returns)

@@ -1,0 +1,121 @@
+-- Composing, one part at a time. Assumes nothing.
+use Prim.Native.Nat.{ℕ, suc, _+_, _-_, _<_, _≤_}
+use mathlib.Core.Path.{_≡_, refl, sym, _∙_, ap}
+use mathlib.Core.Bool.{Bool, true, false, _&&_}
+use mathlib.Core.Logic.{_⊎_, ⊎-elim}
+use mathlib.Core.List.{List, [], _∷_}
+use lib.ListN.{length, getD, set, List·getD-eq-default}
+use lib.Seq.{sets}
+use lib.Dec.{eqb, ltb}
+use borrow.Author.Tests.{ne-eqb, lt-ltb, le-ltb, eqb-true, ltb-false}
+use native.Mathlib.Nat.{add-zero}
+use native.Mathlib.Omega.{arith}
+use Rattle.text.specs.Bytes.{stretch}
+use Rattle.text.specs.BytesLaws.{stretch-none, stretch-cons, stretch-length, stretch-at}
+use Rattle.text.specs.Choice.{choose}
+use Rattle.text.specs.ChoiceLaws.{lt-or-ge, both, neither, true-is-not-false}
+use Rattle.names.specs.Name.{isVowel, umlautOf, compose}
+use Rattle.names.specs.Row.{diaeresisAt}
+
+-- a list starts with CC 88; it does so behind a vowel
+abbrev pub mark : List ℕ → Bool
+mark x = eqb (getD x 0 0) 0xCC && eqb (getD x 1 0) 0x88
+
+abbrev pub diaeresis : ℕ → List ℕ → Bool
+diaeresis a x = isVowel a && mark x
+
+pub compose-keep : (a : ℕ) (x : List ℕ) → diaeresis a x ≡ false → compose (a ∷ x) ≡ a ∷ compose x
+unfolding compose
+compose-keep a [] h = refl
+compose-keep a (b ∷ []) h = refl
+compose-keep a (b ∷ c ∷ x) h = simp h
+
+pub compose-vowel : (a : ℕ) (x : List ℕ) → isVowel a ≡ true → compose (a ∷ 0xCC ∷ 0x88 ∷ x) ≡ 0xC3 ∷ umlautOf a ∷ compose x
+unfolding compose
+compose-vowel a x h = simp h
+
+and-false : (t u : Bool) → t && (u && false) ≡ false
+and-false true true = refl
+and-false true false = refl
+and-false false u = refl
+
+and-choose : (t u v : Bool) → choose t (choose u v false) false ≡ t && (u && v)
+and-choose true true v = refl
+and-choose true false v = refl
+and-choose false u v = refl
+
+pub and-both : (t u : Bool) → t && u ≡ true → (t ≡ true) × (u ≡ true)
+and-both true u e = (refl, e)
+and-both false u e = absurd (true-is-not-false (sym e))
+
+-- THE SAME OF A STRETCH
+module _ (s : List ℕ) (i e : ℕ) (l : i < e) (fits : e ≤ length s) where
+  shows : diaeresisAt s i e ≡ diaeresis (getD s i 0) (stretch s (i + 1) e)
+  unfolding diaeresisAt
+  shows =
+      ⊎-elim
+      (λ (short : e - i < 3).
+      let len : length (stretch s (i + 1) e) ≤ 1 = omega (arith, stretch-length s (i + 1) e fits) in
+      let z : getD (stretch s (i + 1) e) 1 0 ≡ 0 = List·getD-eq-default (stretch s (i + 1) e) 0 len in
+      let f : eqb (getD (stretch s (i + 1) e) 1 0) 0x88 ≡ false =
+      ne-eqb (getD (stretch s (i + 1) e) 1 0) 0x88 (λ (q : getD (stretch s (i + 1) e) 1 0 ≡ 0x88). omega arith) in
+      simp (lt-ltb (e - i) 3 short, f) (sym (and-false (isVowel (getD s i 0)) (eqb (getD (stretch s (i + 1) e) 0 0) 0xCC))))
+      (λ (long : 3 ≤ e - i).
+      let b : getD (stretch s (i + 1) e) 0 0 ≡ getD s (i + 1) 0 =
+      stretch-at s (i + 1) e 0 (omega arith) ∙ ap (λ (n : ℕ). getD s n 0) (add-zero (i + 1)) in
+      let k : i + 1 + 1 ≡ i + 2 = omega arith in
+      let c : getD (stretch s (i + 1) e) 1 0 ≡ getD s (i + 2) 0 =
+      stretch-at s (i + 1) e 1 (omega arith) ∙ ap (λ (n : ℕ). getD s n 0) k in
+      simp (le-ltb (e - i) 3 long, b, c)
+      (and-choose (isVowel (getD s i 0)) (eqb (getD s (i + 1) 0) 0xCC) (eqb (getD s (i + 2) 0) 0x88)))
+      (lt-or-ge (e - i) 3)
+
+  pub composed-one : diaeresisAt s i e ≡ false → compose (stretch s i e) ≡ getD s i 0 ∷ compose (stretch s (i + 1) e)
+  composed-one h = rw (stretch-cons s i e l fits) (compose-keep (getD s i 0) (stretch s (i + 1) e) (sym shows ∙ h))
+
+  -- what the test says, where it came out true
+  tested :
+      diaeresisAt s i e ≡ true → (i + 3 ≤ e) × (isVowel (getD s i 0) ≡ true) × (getD s (i + 1) 0 ≡ 0xCC) × (getD s (i + 2) 0 ≡ 0x88)
+  unfolding diaeresisAt
+  tested h =
+      let a = neither (ltb (e - i) 3) _ h in
+      let b = both (isVowel (getD s i 0)) _ (a .1) in
+      let c = both (eqb (getD s (i + 1) 0) 0xCC) _ (b .1) in
+      (omega (arith, ltb-false (e - i) 3 (a .0)), b .0, eqb-true _ _ (c .0), eqb-true _ _ (c .1))
+
+  pub composed-fits : diaeresisAt s i e ≡ true → i + 3 ≤ e
+  composed-fits h = tested h .0
+
+  pub composed-two : diaeresisAt s i e ≡ true → compose (stretch s i e) ≡ 0xC3 ∷ umlautOf (getD s i 0) ∷ compose (stretch s (i + 3) e)
+  composed-two h =
+      let w = tested h in
+      let fit : i + 3 ≤ e = w .0 in
+      let k : i + 1 + 1 ≡ i + 2 = omega arith in
+      let m : i + 2 + 1 ≡ i + 3 = omega arith in
+      let two : stretch s (i + 1) e ≡ getD s (i + 1) 0 ∷ stretch s (i + 2) e =
+      stretch-cons s (i + 1) e (omega arith) fits ∙ rw k in
+      let three : stretch s (i + 2) e ≡ getD s (i + 2) 0 ∷ stretch s (i + 3) e =
+      stretch-cons s (i + 2) e (omega arith) fits ∙ rw m in
+      rw (stretch-cons s i e l fits, two, three, w .2, w .3) (compose-vowel (getD s i 0) (stretch s (i + 3) e) (w .1))
+
+-- THE STORES of composed bytes, one part at a time
+pub stored-none : (s out : List ℕ) (i e at : ℕ) → e ≤ i → (sets out at (compose (stretch s i e)) ≡ out) × (length (compose (stretch s i e)) ≡ 0)
+unfolding compose
+stored-none s out i e at h = (rw (stretch-none s i e h), rw (stretch-none s i e h))
+
+module _ (s out : List ℕ) (i e at : ℕ) (l : i < e) (fits : e ≤ length s) where
+  pub stored-one :
+      diaeresisAt s i e ≡ false →
+      sets out at (compose (stretch s i e)) ≡ sets (set out at (getD s i 0)) (at + 1) (compose (stretch s (i + 1) e))
+  stored-one h =
+      let k : at + 1 ≡ suc at = omega arith in
+      rw (composed-one s i e l fits h, k)
+
+  pub stored-two :
+      diaeresisAt s i e ≡ true →
+      sets out at (compose (stretch s i e)) ≡
+      sets (set (set out at 0xC3) (at + 1) (umlautOf (getD s i 0))) (at + 2) (compose (stretch s (i + 3) e))
+  stored-two h =
+      let k : at + 1 ≡ suc at = omega arith in
+      let m : at + 2 ≡ suc (suc at) = omega arith in
+      rw (composed-two s i e l fits h, k, m)

@@ -1,0 +1,147 @@
+-- What holds of names and of composing. Assumes nothing.
+use Prim.Native.Nat.{ℕ, _+_, _<_, _≤_}
+use mathlib.Core.Path.{_≡_, refl, sym, _∙_, ap, subst}
+use mathlib.Core.Bool.{Bool, true, false, _&&_}
+use mathlib.Core.List.{List, [], _∷_, _++_, map, append-nil}
+use lib.ListN.{length, getD}
+use lib.Dec.{eqb}
+use borrow.Author.Tests.{ne-eqb}
+use native.Mathlib.Omega.{arith}
+use Rattle.text.specs.Choice.{choose}
+use Rattle.text.specs.Word.{without}
+use Rattle.names.specs.Name.{isUmlaut, isVowel, umlautOf, Part, RightPart, RightParts, partBytes, nameBytes, IsName, composedPart, compose}
+use Rattle.names.specs.Name.Part.{plain, composed, decomposed}
+use Rattle.names.specs.PartLaws.{holds, no-vowel, umlaut-range, umlaut-of, composed-right, NoMark, no-mark, parts-unique, parts-without}
+use Rattle.names.specs.ComposeLaws.{mark, diaeresis, compose-keep, compose-vowel}
+
+-- COMPOSING PART BY PART
+no-diaeresis : (a : ℕ) (x : List ℕ) → NoMark x → diaeresis a x ≡ false
+no-diaeresis a x n =
+    let m : eqb (getD x 0 0) 0xCC ≡ false = ne-eqb _ _ n in
+    simp m (by (isVowel a))
+  where
+    by : (t : Bool) → t && false ≡ false
+    by true = refl
+    by false = refl
+
+compose-part : (p : Part) (x : List ℕ) → RightPart p → NoMark x → compose (partBytes p ++ x) ≡ partBytes (composedPart p) ++ compose x
+compose-part (plain b) x r n = compose-keep b x (no-diaeresis b x n)
+compose-part (composed c) x r n =
+    let v : isVowel 0xC3 ≡ false = no-vowel 0xC3 (omega arith) in
+    let w : isVowel c ≡ false = no-vowel c (omega (arith, umlaut-range c (holds (isUmlaut c) r))) in
+    compose-keep 0xC3 (c ∷ x) (simp v) ∙ ap (λ (y : List ℕ). 0xC3 ∷ y) (compose-keep c x (simp w))
+compose-part (decomposed v) x r n = compose-vowel v x (holds (isVowel v) r)
+
+pub compose-parts : (ps : List Part) → RightParts ps → compose (nameBytes ps) ≡ nameBytes (map composedPart ps)
+unfolding nameBytes compose
+compose-parts [] r = refl
+compose-parts (p ∷ ps) r =
+    let n : NoMark (nameBytes ps) = subst NoMark (append-nil (nameBytes ps)) (no-mark ps [] (r .1) (λ e. omega arith)) in
+    compose-part p (nameBytes ps) (r .0) n ∙ ap (λ (y : List ℕ). partBytes (composedPart p) ++ y) (compose-parts ps (r .1))
+
+pub composed-rights : (ps : List Part) → RightParts ps → RightParts (map composedPart ps)
+composed-rights [] r = tt
+composed-rights (p ∷ ps) r = (composed-right p (r .0), composed-rights ps (r .1))
+
+-- TWO NAMES COMPOSE TO THE SAME BYTES exactly if they are the same part by part
+module _ (ps qs : List Part) (r : RightParts ps) (t : RightParts qs) where
+  pub same-parts : compose (nameBytes ps) ≡ compose (nameBytes qs) → map composedPart ps ≡ map composedPart qs
+  same-parts e =
+      parts-unique (map composedPart ps) (map composedPart qs) (composed-rights ps r) (composed-rights qs t)
+      (sym (compose-parts ps r) ∙ (e ∙ compose-parts qs t))
+
+  pub same-bytes : map composedPart ps ≡ map composedPart qs → compose (nameBytes ps) ≡ compose (nameBytes qs)
+  same-bytes e = compose-parts ps r ∙ (ap nameBytes e ∙ sym (compose-parts qs t))
+
+-- COMPOSING NEVER MAKES A NAME LONGER, and none of it empty
+step-shorter :
+    (t : Bool) (a u b c : ℕ) (x y z : List ℕ) →
+    length y ≤ length x → length z ≤ 2 + length x → length (choose t (0xC3 ∷ u ∷ y) (a ∷ z)) ≤ length (a ∷ b ∷ c ∷ x)
+step-shorter true a u b c x y z h k = omega arith
+step-shorter false a u b c x y z h k = omega arith
+
+pub compose-shorter : (x : List ℕ) → length (compose x) ≤ length x
+unfolding compose
+compose-shorter [] = omega arith
+compose-shorter (a ∷ []) = omega arith
+compose-shorter (a ∷ b ∷ []) = omega arith
+compose-shorter (a ∷ b ∷ c ∷ x) =
+    step-shorter (isVowel a && (eqb b 0xCC && eqb c 0x88)) a (umlautOf a) b c x (compose x) (compose (b ∷ c ∷ x)) (compose-shorter x)
+    (omega (arith, compose-shorter (b ∷ c ∷ x)))
+
+some-left : (t : Bool) (a u : ℕ) (y z : List ℕ) → 1 ≤ length (choose t (0xC3 ∷ u ∷ y) (a ∷ z))
+some-left true a u y z = omega arith
+some-left false a u y z = omega arith
+
+pub compose-some : (x : List ℕ) → 1 ≤ length x → 1 ≤ length (compose x)
+unfolding compose
+compose-some [] h = h
+compose-some (a ∷ []) h = omega arith
+compose-some (a ∷ b ∷ []) h = omega arith
+compose-some (a ∷ b ∷ c ∷ x) h = some-left (isVowel a && (eqb b 0xCC && eqb c 0x88)) a (umlautOf a) (compose x) (compose (b ∷ c ∷ x))
+
+-- A COMPOSED NAME IS A NAME AGAIN
+pub composed-name : (x : List ℕ) → IsName x → IsName (compose x)
+composed-name x n = record {
+  parts = map composedPart (n .parts);
+  right = composed-rights (n .parts) (n .right);
+  is = ap compose (n .is) ∙ compose-parts (n .parts) (n .right);
+  some = compose-some x (n .some);
+  most = let h = compose-shorter x in let k = n .most in omega arith;
+}
+
+-- A NAME HAS NO BYTE BELOW 21: no LF, no space and no 0
+pub name-without : (b : ℕ) (x : List ℕ) → b < 0x21 → IsName x → without b x ≡ true
+name-without b x l n = ap (without b) (n .is) ∙ parts-without b (n .parts) l (n .right)
+
+-- COMPOSING TWICE IS COMPOSING ONCE, for every list of bytes: no vowel comes to stand in front of a CC 88 that stood behind another byte
+head-of : (x : List ℕ) → eqb (getD x 0 0) 0x88 ≡ false → eqb (getD (compose x) 0 0) 0x88 ≡ false
+unfolding compose
+head-of [] h = h
+head-of (a ∷ []) h = h
+head-of (a ∷ b ∷ []) h = h
+head-of (a ∷ b ∷ c ∷ x) h = by (isVowel a && (eqb b 0xCC && eqb c 0x88))
+  where
+    by : (t : Bool) → eqb (getD (choose t (0xC3 ∷ umlautOf a ∷ compose x) (a ∷ compose (b ∷ c ∷ x))) 0 0) 0x88 ≡ false
+    by true = refl
+    by false = h
+
+behind : (t u v : Bool) → (u ≡ false → v ≡ false) → t && u ≡ false → t && v ≡ false
+behind true u v f h = f h
+behind false u v f h = refl
+
+mark-of : (x : List ℕ) → mark x ≡ false → mark (compose x) ≡ false
+unfolding compose
+mark-of [] h = h
+mark-of (a ∷ []) h = h
+mark-of (a ∷ b ∷ []) h = h
+mark-of (a ∷ b ∷ c ∷ x) h = by (isVowel a && (eqb b 0xCC && eqb c 0x88))
+  where
+    by : (t : Bool) → mark (choose t (0xC3 ∷ umlautOf a ∷ compose x) (a ∷ compose (b ∷ c ∷ x))) ≡ false
+    by true = refl
+    by false = behind (eqb a 0xCC) (eqb b 0x88) (eqb (getD (compose (b ∷ c ∷ x)) 0 0) 0x88) (head-of (b ∷ c ∷ x)) h
+
+pub compose-idempotent : (x : List ℕ) → compose (compose x) ≡ compose x
+unfolding compose
+compose-idempotent [] = refl
+compose-idempotent (a ∷ []) = refl
+compose-idempotent (a ∷ b ∷ []) = refl
+compose-idempotent (a ∷ b ∷ c ∷ x) =
+    by (isVowel a && (eqb b 0xCC && eqb c 0x88)) refl (compose-idempotent x) (compose-idempotent (b ∷ c ∷ x))
+  where
+    by :
+        (t : Bool) →
+        diaeresis a (b ∷ c ∷ x) ≡ t →
+        compose (compose x) ≡ compose x →
+        compose (compose (b ∷ c ∷ x)) ≡ compose (b ∷ c ∷ x) →
+        compose (choose t (0xC3 ∷ umlautOf a ∷ compose x) (a ∷ compose (b ∷ c ∷ x))) ≡
+        choose t (0xC3 ∷ umlautOf a ∷ compose x) (a ∷ compose (b ∷ c ∷ x))
+    by true h e f =
+        let v : isVowel 0xC3 ≡ false = no-vowel 0xC3 (omega arith) in
+        let w : isVowel (umlautOf a) ≡ false = no-vowel (umlautOf a) (omega (arith, umlaut-range (umlautOf a) (umlaut-of a))) in
+        compose-keep 0xC3 (umlautOf a ∷ compose x) (simp v) ∙
+        ap (λ (y : List ℕ). 0xC3 ∷ y) (compose-keep (umlautOf a) (compose x) (simp w) ∙ ap (λ (y : List ℕ). umlautOf a ∷ y) e)
+    by false h e f =
+        compose-keep a (compose (b ∷ c ∷ x))
+        (behind (isVowel a) (mark (b ∷ c ∷ x)) (mark (compose (b ∷ c ∷ x))) (mark-of (b ∷ c ∷ x)) h) ∙
+        ap (λ (y : List ℕ). a ∷ y) f

@@ -1,0 +1,27 @@
+-- Composed names in rows of 24 cells.
+use Prim.Native.Nat.{ℕ, _+_, _-_, _≤_}
+use mathlib.Core.Bool.{Bool, false}
+use mathlib.Core.List.{List, _++_}
+use lib.ListN.{length, getD, take, drop, replicate}
+use lib.Dec.{ltb, eqb}
+use Rattle.text.specs.Choice.{choose}
+use Rattle.names.specs.Name.{isVowel}
+
+-- a stretch lies within a list
+pub record Stretches (s : List ℕ) (start end : ℕ) : Type 0 where
+  pub order : start ≤ end
+  pub fits : end ≤ length s
+
+-- the stretch from i to `end` starts with a vowel and CC 88
+unfoldable pub diaeresisAt : List ℕ → ℕ → ℕ → Bool
+diaeresisAt s i end =
+    choose (ltb (end - i) 3) false
+    (choose (isVowel (getD s i 0)) (choose (eqb (getD s (i + 1) 0) 0xCC) (eqb (getD s (i + 2) 0) 0x88) false) false)
+
+-- a name in a row, with zeros behind it
+abbrev pub padded : List ℕ → List ℕ
+padded x = x ++ replicate (24 - length x) 0
+
+-- the row that starts at a place
+abbrev pub row : List ℕ → ℕ → List ℕ
+row rows at = take 24 (drop at rows)

@@ -1,0 +1,36 @@
+-- How a name is found in a file: name parts one after the other, as long as they go.
+use Prim.Native.Nat.{ℕ, zero, suc, _+_, _≤_, _<_}
+use mathlib.Core.List.{List}
+use lib.ListN.{getD}
+use lib.Dec.{ltb, eqb}
+use Rattle.text.specs.Bytes.{lf}
+use Rattle.text.specs.Choice.{choose}
+use Rattle.names.specs.Name.{isUmlaut, isVowel}
+use Rattle.names.specs.declared.Ending.{Ending}
+use Rattle.names.specs.declared.Ending.the-variants.{At, Bad}
+
+-- the bytes of the name part that three bytes start with, as a number; 0 where they start with none
+unfoldable pub widthOf : ℕ → ℕ → ℕ → ℕ
+widthOf a b c =
+    choose (eqb a 0xC3) (choose (isUmlaut b) 2 0)
+    (choose (ltb a 0x21) 0
+    (choose (ltb 0x7E a) 0 (choose (isVowel a) (choose (eqb b 0xCC) (choose (eqb c 0x88) 3 1) 1) 1)))
+
+unfoldable pub widthAt : List ℕ → ℕ → ℕ
+widthAt s at = widthOf (getD s at 0) (getD s (at + 1) 0) (getD s (at + 2) 0)
+
+-- where the name parts from `at` on end, or `most` of them
+unfoldable pub partsEnd : List ℕ → ℕ → ℕ → ℕ
+partsEnd s at zero = at
+partsEnd s at (suc most) = choose (eqb (widthAt s at) 0) at (partsEnd s (at + widthAt s at) most)
+
+-- "A name has 1 to 24 bytes", and goes "to the line's end"
+unfoldable pub nameEndAt : List ℕ → ℕ → Ending
+nameEndAt s start =
+    choose (eqb (partsEnd s start 25) start) Bad
+    (choose (ltb (start + 24) (partsEnd s start 25)) Bad (choose (eqb (getD s (partsEnd s start 25) 0) lf) (At (partsEnd s start 25)) Bad))
+
+-- a name that ends has 1 to 24 bytes, and its LF stands within so many bytes
+abbrev pub nameFits : ℕ → ℕ → Ending → Type 0
+nameFits n start (At e) = (start < e) × (e ≤ start + 24) × (e < n)
+nameFits n start Bad = Unit

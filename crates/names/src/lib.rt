@@ -1,0 +1,226 @@
+// The names of letters: where one ends, and the bytes that it composes to.
+ghost use mathlib.Core.Path.{_≡_};
+ghost use mathlib.Core.Bool.{true};
+ghost use Prim.Native.Nat.{_+_, _-_, _*_, _<_, _≤_, _^_};
+ghost use lib.ListN.{length, replicate};
+ghost use lib.Seq.{sets};
+ghost use Rattle.text.specs.Bytes.{stretch};
+ghost use Rattle.names.specs.Name.{oneOf, isUmlaut, isVowel, umlautOf, IsName, compose};
+ghost use Rattle.names.specs.Scan.{widthOf, partsEnd, nameEndAt, nameFits};
+ghost use Rattle.names.specs.Row.{diaeresisAt, padded, row, Stretches};
+
+// Where a name ends: the position of the LF behind it.
+pub enum Ending {
+    At(usize),
+    Bad,
+}
+
+// Whether b is one of some bytes.
+fn one_of(bytes: &[u8], b: u8) -> bool
+    ensures { λ r. ⌜ r ≡ oneOf (now (bytes .entry)) b ⌝ }
+{
+    let mut i = 0;
+    while i < bytes.len() {
+        if b == bytes[i] {
+            return true;
+        }
+        i += 1;
+    }
+    false
+}
+
+// The second byte of ä ö ü Ä Ö Ü ß, behind C3.
+fn is_umlaut(b: u8) -> bool
+    ensures { λ r. ⌜ r ≡ isUmlaut b ⌝ }
+{
+    one_of(b"\xA4\xB6\xBC\x84\x96\x9C\x9F", b)
+}
+
+fn is_vowel(b: u8) -> bool
+    ensures { λ r. ⌜ r ≡ isVowel b ⌝ }
+{
+    one_of(b"aouAOU", b)
+}
+
+// The second byte of a vowel's composed letter.
+fn umlaut_of(v: u8) -> u8
+    ensures { λ r. ⌜ r ≡ umlautOf v ⌝ }
+{
+    if v == b'a' {
+        return 0xA4;
+    }
+    if v == b'o' {
+        return 0xB6;
+    }
+    if v == b'u' {
+        return 0xBC;
+    }
+    if v == b'A' {
+        return 0x84;
+    }
+    if v == b'O' {
+        return 0x96;
+    }
+    0x9C
+}
+
+// How many of three bytes are the name part that they start with; 0 where they start with none.
+fn part_width(a: u8, b: u8, c: u8) -> usize
+    ensures { λ r. ⌜ (r ≡ widthOf a b c) × (r ≤ 3) ⌝ }
+{
+    if a == 0xC3 {
+        if is_umlaut(b) {
+            return 2;
+        }
+        return 0;
+    }
+    if a < 0x21 {
+        return 0;
+    }
+    if a > 0x7E {
+        return 0;
+    }
+    if !is_vowel(a) {
+        return 1;
+    }
+    if b != 0xCC {
+        return 1;
+    }
+    if c != 0x88 {
+        return 1;
+    }
+    3
+}
+
+// Where the name parts from `start` on end, or 25 of them.
+fn parts_end(s: &[u8], start: usize) -> usize
+    requires { ⌜ start < 2 ^ 31 ⌝ }
+    ensures { λ r. ⌜ (r ≡ partsEnd (now (s .entry)) start 25) × (start ≤ r) × (r ≤ start + 75) ⌝ }
+{
+    let mut at = start;
+    for turn in 0..25usize {
+        let w = part_width(
+            text::byte_at(s, at),
+            text::byte_at(s, at + 1),
+            text::byte_at(s, at + 2),
+        );
+        if w == 0 {
+            return at;
+        }
+        at += w;
+    }
+    at
+}
+
+// Where the name that starts at `start` ends.
+pub fn name_end(s: &[u8], start: usize) -> Ending
+    requires { ⌜ start < 2 ^ 31 ⌝ }
+    ensures { λ r. ⌜ (r ≡ nameEndAt (now (s .entry)) start) × nameFits (length (now (s .entry))) start r ⌝ }
+{
+    let end = parts_end(s, start);
+    if end == start {
+        return Ending::Bad;
+    }
+    if end > start + 24 {
+        return Ending::Bad;
+    }
+    if text::byte_at(s, end) != 10 {
+        return Ending::Bad;
+    }
+    Ending::At(end)
+}
+
+// Whether a slice is a name, with nothing behind it.
+pub fn is_name(name: &[u8]) -> bool
+    ensures { λ r. ⌜ (r ≡ true → IsName (now (name .entry))) × (IsName (now (name .entry)) → r ≡ true) ⌝ }
+{
+    let n = name.len();
+    if n < 1 {
+        return false;
+    }
+    if n > 24 {
+        return false;
+    }
+    if parts_end(name, 0) != n {
+        return false;
+    }
+    true
+}
+
+// Whether the stretch from i to `end` starts with a vowel and CC 88.
+fn diaeresis_at(s: &[u8], i: usize, end: usize) -> bool
+    requires { ⌜ Stretches (now s) i end ⌝ }
+    ensures { λ r. ⌜ r ≡ diaeresisAt (now (s .entry)) i end ⌝ }
+{
+    if end - i < 3 {
+        return false;
+    }
+    if !is_vowel(s[i]) {
+        return false;
+    }
+    if s[i + 1] != 0xCC {
+        return false;
+    }
+    if s[i + 2] != 0x88 {
+        return false;
+    }
+    true
+}
+
+// The composed bytes of the stretch from `start` to `end`, from `at` on. The answer is how many they are.
+pub fn put_composed(s: &[u8], start: usize, end: usize, out: &mut [u8], at: usize) -> usize
+    requires { ⌜ Stretches (now s) start end × (at + (end - start) ≤ length (now out)) ⌝ }
+    ensures { λ r. ⌜ (now (out .exit) ≡ sets (now (out .entry)) at (compose (stretch (now (s .entry)) start end)))
+        × (r ≡ length (compose (stretch (now (s .entry)) start end))) × (r ≤ end - start) ⌝ }
+{
+    let mut i = start;
+    let mut n = 0;
+    while i < end {
+        if diaeresis_at(s, i, end) {
+            out[at + n] = 0xC3;
+            out[at + n + 1] = umlaut_of(s[i]);
+            n += 2;
+            i += 3;
+        } else {
+            out[at + n] = s[i];
+            n += 1;
+            i += 1;
+        }
+    }
+    n
+}
+
+// n zeros from `at` on.
+fn put_zeros(out: &mut [u8], at: usize, n: usize)
+    requires { ⌜ at + n ≤ length (now out) ⌝ }
+    ensures { λ _. ⌜ now (out .exit) ≡ sets (now (out .entry)) at (replicate n 0) ⌝ }
+{
+    for i in 0..n {
+        out[at + i] = 0;
+    }
+}
+
+// The same in the 24 cells of a row from `at` on, with zeros behind.
+pub fn compose_into(s: &[u8], start: usize, end: usize, rows: &mut [u8], at: usize) -> usize
+    requires { ⌜ Stretches (now s) start end × (end - start ≤ 24) × (at + 24 ≤ length (now rows)) ⌝ }
+    ensures { λ r. ⌜ (now (rows .exit) ≡ sets (now (rows .entry)) at (padded (compose (stretch (now (s .entry)) start end))))
+        × (r ≡ length (compose (stretch (now (s .entry)) start end))) × (r ≤ end - start) ⌝ }
+{
+    let n = put_composed(s, start, end, rows, at);
+    put_zeros(rows, at + n, 24 - n);
+    n
+}
+
+// Whether the rows at a and at b are equal.
+pub fn same_row(rows: &[u8], a: usize, b: usize) -> bool
+    requires { ⌜ (a + 24 ≤ length (now rows)) × (b + 24 ≤ length (now rows)) ⌝ }
+    ensures { λ r. ⌜ (r ≡ true → row (now (rows .entry)) a ≡ row (now (rows .entry)) b)
+        × (row (now (rows .entry)) a ≡ row (now (rows .entry)) b → r ≡ true) ⌝ }
+{
+    for i in 0..24usize {
+        if rows[a + i] != rows[b + i] {
+            return false;
+        }
+    }
+    true
+}

@@ -1,0 +1,248 @@
+//! The case files of crates/cases, and the lines that the proved library has to answer them with.
+//!
+//! A case file is a line `ROOM` with five digits, then a sheet and a plan as `verdict` reads them. An answer is the case's number, the
+//! verdict, the length and a sum of the listing, and the length and a sum of the sheet written out, or a refusal in the place of each.
+
+use super::*;
+use sheet::Plan;
+
+const A16: &str = "abcdefghijklmnop";
+
+struct Cases {
+    all: Vec<(usize, Vec<u8>)>,
+}
+
+/// A sum that tells a text from its neighbours.
+fn sum(text: &[u8]) -> usize {
+    text.iter().fold(0, |s, b| (s * 31 + *b as usize) % 65_521)
+}
+
+fn answer(room: usize, input: &[u8]) -> String {
+    let no = |no: No| refusal(no).trim_end().to_string();
+    let counted = |word: &str, text: &[u8]| format!("{word}{:7}{:6}", text.len(), sum(text));
+    let (file, _) = split(input);
+    let in_room = (1..=ROOM).contains(&room);
+    let verdict = if in_room { expected_verdict(input, room) } else { Err((1, 0)) };
+    let listing = if in_room { expected_listing(file, room) } else { Err((1, 0)) };
+    let copy = accepted(file).map(|s| write_sheet(&s, true));
+    format!(
+        "{} {} {}",
+        verdict.map_or_else(no, |x| x.trim_end_matches('\n').to_string()),
+        listing.map_or_else(no, |x| counted("LIST", x.as_bytes())),
+        copy.map_or_else(no, |x| counted("COPY", &x)),
+    )
+}
+
+fn sheet_of(n: usize, k: usize, initial: &[usize], recurring: &[usize], edges: &[(usize, usize, usize)]) -> Sheet {
+    let mut next = vec![vec![Vec::new(); k]; n];
+    edges.iter().for_each(|(q, l, r)| next[*q][*l].push(*r));
+    next.iter_mut().flatten().for_each(|x| x.sort());
+    Sheet {
+        n,
+        k,
+        initial: (0..n).map(|q| initial.contains(&q)).collect(),
+        recurring: (0..n).map(|q| recurring.contains(&q)).collect(),
+        next,
+        names: (0..k).map(|l| vec![A16.as_bytes()[l]]).collect(),
+    }
+}
+
+fn sheet_b() -> Sheet {
+    sheet_of(2, 2, &[0, 1], &[1], &[(0, 0, 0), (0, 1, 0), (0, 1, 1), (1, 0, 1)])
+}
+
+/// The sheet whose shortest meeting word has n(n+1)/2 letters.
+fn longest_word(n: usize) -> Sheet {
+    let mut edges = Vec::new();
+    for q in 0..n {
+        edges.push((q, 0, (q + 1) % n));
+        edges.push((q, 1, if q == n - 1 { 0 } else { q }));
+    }
+    edges.push((n - 1, 2, 0));
+    edges.push((n - 1, 2, n / 2));
+    sheet_of(n, 3, &[0], &[0], &edges)
+}
+
+/// A counter of n states: as many tuples, and a cycle of one letter needs as many passes.
+fn counter(n: usize) -> Sheet {
+    sheet_of(n, 1, &[0], &[], &(0..n).map(|q| (q, 0, (q + 1) % n)).collect::<Vec<_>>())
+}
+
+impl Cases {
+    fn add(&mut self, room: usize, input: Vec<u8>) {
+        self.all.push((room, input));
+    }
+
+    fn judged(&mut self, room: usize, s: &Sheet, lead: &[usize], cycle: &[usize]) {
+        let plan = write_plan(s, &Plan { lead: lead.to_vec(), cycle: cycle.to_vec() });
+        self.add(room, [write_sheet(s, false), plan].concat());
+    }
+
+    fn text(&mut self, sheet: &[u8], plan: &[u8]) {
+        self.add(ROOM, [sheet, plan].concat());
+    }
+
+    fn known(&mut self) {
+        let b = sheet_b();
+        self.judged(ROOM, &b, &[1], &[0]);
+        self.judged(ROOM, &b, &[], &[0, 1]);
+        for room in [0, 1, 2, 3, 4, 5, 1023, 1024, 1025, 99_999] {
+            self.judged(room, &b, &[1], &[0]);
+        }
+        for (initial, recurring) in [(vec![0], vec![0]), (vec![0], vec![]), (vec![], vec![0]), (vec![], vec![])] {
+            self.judged(ROOM, &sheet_of(1, 1, &initial, &recurring, &[(0, 0, 0)]), &[], &[0]);
+            self.judged(ROOM, &sheet_of(1, 1, &initial, &recurring, &[]), &[0], &[0]);
+        }
+        self.judged(ROOM, &sheet_of(2, 2, &[0], &[], &[(0, 0, 0), (0, 1, 0), (0, 0, 1), (1, 0, 1)]), &[], &[0]);
+        self.judged(ROOM, &sheet_of(3, 1, &[0, 1], &[], &[(0, 0, 2), (1, 0, 2)]), &[], &[0]);
+        for n in 2..=16 {
+            self.judged(ROOM, &longest_word(n), &[], &[0]);
+            self.judged(ROOM, &counter(n), &[], &[0]);
+            self.judged(n, &counter(n), &[0; 3], &[0; 5]);
+            self.judged(n - 1, &counter(n), &[], &[0]);
+        }
+    }
+
+    /// The first line, names, states, transitions and END, each in every way it can be wrong.
+    fn lines(&mut self) {
+        let plan = b"PLAN  1  1\nb\na\nEND\n";
+        let file = String::from_utf8(write_sheet(&sheet_b(), false)).unwrap();
+        let whole: Vec<&str> = file.split_inclusive('\n').collect();
+        let with = |i: usize, line: &str| {
+            let mut all: Vec<String> = whole.iter().map(|x| x.to_string()).collect();
+            all[i] = line.to_string();
+            all.concat().into_bytes()
+        };
+        for head in [
+            "", "\n", "SHEET\n", "SHEET  2  2", "SHEET  2  2 \n", "SHEET 2  2\n", "SHEET  0  2\n", "SHEET  2  0\n", "SHEET 17  2\n", "SHEET  2  9\n",
+            "SHEET999999\n", "SHEET017  2\n", "SHEET 02  2\n", "SHEET2    2\n", "SHEET     2\n", "SHEET  2  2\r\n", "sheet  2  2\n", "SHEEP  2  2\n",
+            "SHEET -2  2\n", "SHEET  x  2\n", "SHEET  2  x\n", "SHEET 16  8\n", "SHEET  1  1\n", "TRACK  2  2\n", "SHEET  3  2\n", "SHEET  2  3\n",
+        ] {
+            self.text(&with(0, head), plan);
+        }
+        for name in [
+            "", "\n", "N  0\n", "N  0 \n", "N  0  a\n", "N  1 a\n", "N 0  a\n", "N000 a\n", "n  0 a\n", "N  0 a", "N  0 a\r\n", "N  0 a b\n", "N  0 \u{7f}\n",
+            "N  0 ~!\n", "N  0 b\n", "N  0 aaaaaaaaaaaaaaaaaaaaaaaa\n", "N  0 aaaaaaaaaaaaaaaaaaaaaaaaa\n", "N  0 aaaaaaaaaaaaaaaaaaaaaaä\n",
+            "N  0 aaaaaaaaaaaaaaaaaaaaaaaä\n", "N  0 Stück\n", "N  0 Stu\u{308}ck\n", "N  0 e\u{308}\n", "N  0 \u{308}a\n", "N  0 a\u{308}\u{308}\n",
+            "N  0 ä\u{308}\n", "N  0 é\n", "N  0 END\n", "N  0 äöüÄÖÜß\n", "N  0 a\u{308}o\u{308}u\u{308}A\u{308}O\u{308}U\u{308}ß\n",
+        ] {
+            self.text(&with(1, name), plan);
+        }
+        for (one, other) in [("Stück", "Stu\u{308}ck"), ("Stu\u{308}ck", "Stück"), ("Stück", "Stuck"), ("a", "a"), ("ß", "ss"), ("Ü", "U\u{308}")] {
+            let file = with(1, &format!("N  0 {one}\n"));
+            let text = String::from_utf8(file).unwrap().replace("N  1 b\n", &format!("N  1 {other}\n"));
+            self.text(text.as_bytes(), format!("PLAN  0  1\n{one}\nEND\n").as_bytes());
+            self.text(text.as_bytes(), format!("PLAN  1  1\n{other}\n{one}\nEND\n").as_bytes());
+        }
+        let mut raw = with(1, "N  0 a\n");
+        for bytes in [&[0xc3u8][..], &[0xc3, 0x28], &[0xcc, 0x88], &[b'a', 0xcc], &[b'a', 0xcc, 0x87], &[0], &[0xff], &[b'a', 0xc3, 0xa4, 0xcc, 0x88]] {
+            let mut line = b"N  0 ".to_vec();
+            line.extend(bytes);
+            line.push(b'\n');
+            raw.splice(12..19, line.iter().copied());
+            self.text(&raw, plan);
+            raw = with(1, "N  0 a\n");
+        }
+        for state in [
+            "", "\n", "S  0  1\n", "S  0  1  0 \n", "S  1  1  0\n", "S  0  2  0\n", "S  0  1  2\n", "S  0  1  x\n", "S  0     0\n", "S  0 01  0\n", "s  0  1  0\n",
+            "S  0  1  0", "S  0  1  0\r\n", "S 00  1  0\n", "S  0  0  0\n", "S  0  1  1\n", "T  0  1  0\n", "S  0 10  0\n",
+        ] {
+            self.text(&with(3, state), plan);
+        }
+        for line in [
+            "", "\n", "T  0  0\n", "T  0  0  0 \n", "T  2  0  0\n", "T  0  2  0\n", "T  0  0  2\n", "T  0  0  1\n", "T  0  1  0\n", "T  0  1  1\n", "T  1  1  1\n",
+            "T  0  0  x\n", "T 00  0  0\n", "T  0  0  0\r\n", "t  0  0  0\n", "S  0  0  0\n", "T\n", "T", " T  0  0  0\n", "END \n", "T  0  0  0", "T999999999\n",
+        ] {
+            self.text(&with(5, line), plan);
+            self.text(&with(8, line), plan);
+        }
+        for end in ["", "E", "EN", "END", "END ", "END\r\n", "end\n", "\nEND\n", "END\nEND\n", "END\n\n", "END\nx", "T", "T\n", "N"] {
+            self.text(&with(9, end), b"");
+            self.text(&with(9, end), plan);
+        }
+        for i in 0..whole.len() {
+            self.text(whole[..i].concat().as_bytes(), b"");
+            let mut all = whole.clone();
+            all.remove(i);
+            self.text(all.concat().as_bytes(), plan);
+        }
+        for size in [24_575, 24_576, 24_577, 24_600, 36_864, 36_865, 40_000] {
+            self.text(&vec![b'x'; size], b"");
+            let mut long = with(9, "");
+            long.resize(size - 4, b'T');
+            long.extend(b"\nEND");
+            self.text(&long, b"\n");
+        }
+    }
+
+    fn plans(&mut self) {
+        let b = sheet_b();
+        let file = write_sheet(&b, false);
+        for plan in [
+            "", "\n", "PLAN\n", "PLAN  1  1", "PLAN  1  1\n", "PLAN  1  1\nb\n", "PLAN  1  1\nb\na\n", "PLAN  1  1\nb\na\nEND", "PLAN  1  1\nb\na\nEND\n",
+            "PLAN  1  1\nb\na\nEND\n\n", "PLAN  1  1\nb\na\nEND\nx", "PLAN  1  1\nb\nEND\n", "PLAN  1  1\nb\na\na\nEND\n", "PLAN  1  0\nb\nEND\n", "PLAN  0  0\nEND\n",
+            "PLAN  0  1\na\nEND\n", "PLAN  0  1\n\nEND\n", "PLAN  0  1\nc\nEND\n", "PLAN  0  1\na b\nEND\n", "PLAN  0  1\ne\u{308}\nEND\n", "PLAN201  1\n",
+            "PLAN  1201\n", "PLAN200200\n", "PLAN 01  1\nb\na\nEND\n", "PLAN 1  1\nb\na\nEND\n", "plan  1  1\nb\na\nEND\n", "PLAN  1  1\nB\na\nEND\n",
+            "PLAN  1  1\nb\na\nend\n", "PLAN  1  1\nb\na \nEND\n", "PLAN  0  1\naaaaaaaaaaaaaaaaaaaaaaaaa\nEND\n", "PLAN  0  1\naaaaaaaaaaaaaaaaaaaaaaaa\nEND\n",
+            "PLAN  0  2\nc\n\nEND\n", "PLAN  0  2\n\nc\nEND\n", "PLAN999999\n", "PLAN  1  1\r\nb\na\nEND\n", "PLAN  x  1\nb\na\nEND\n", "PLAN  1   \nb\na\nEND\n",
+        ] {
+            self.text(&file, plan.as_bytes());
+        }
+        let mut named = sheet_b();
+        named.names = vec![b"END".to_vec(), b"PLAN".to_vec()];
+        for plan in ["PLAN  1  1\nPLAN\nEND\nEND\n", "PLAN  0  1\nEND\n", "PLAN  0  2\nEND\nEND\nEND\n", "PLAN  0  2\nEND\nPLAN\n"] {
+            let file = write_sheet(&named, false);
+            self.text(&file, plan.as_bytes());
+        }
+        for (lead, cycle) in [(0, 1), (200, 1), (0, 200), (200, 200), (199, 199)] {
+            let letters: Vec<usize> = (0..lead + cycle).map(|i| (i * i / 3) % 2).collect();
+            self.judged(ROOM, &b, &letters[..lead], &letters[lead..]);
+        }
+        let mut long = b"PLAN  0  1\n".to_vec();
+        long.resize(12_288, b'a');
+        self.text(&file, &long);
+        long.push(b'a');
+        self.text(&file, &long);
+        self.text(b"SHEET", &long);
+    }
+
+    fn tuples(&mut self, inputs: &std::path::Path) {
+        for (name, rooms) in [("tuples-1024.sheet", vec![1022, 1023, 1024]), ("tuples-1025.sheet", vec![1024]), ("longest.sheet", vec![1024])] {
+            let file = std::fs::read(inputs.join(name)).unwrap();
+            let first = read_sheet(&file).unwrap().names[0].clone();
+            for room in rooms {
+                self.add(room, [&file[..], b"PLAN  0  1\n", &first, b"\nEND\n"].concat());
+            }
+        }
+        self.add(ROOM, std::fs::read(inputs.join("many-passes.input")).unwrap());
+    }
+
+    fn random(&mut self, count: usize) {
+        let mut r = Random::new(20_261_115);
+        while self.all.len() < count {
+            let s = families::sheet(&mut r, 16);
+            let p = families::plan(&mut r, s.k);
+            let input = [write_sheet(&s, false), write_plan(&s, &p)].concat();
+            self.add(ROOM, if r.chance(40) { families::damaged(&mut r, &input) } else { input });
+        }
+    }
+}
+
+/// Writes the case files to `folder`/data and their answers to `folder`/stdout.
+pub fn write(folder: &std::path::Path, inputs: &std::path::Path) {
+    let mut c = Cases { all: Vec::new() };
+    c.known();
+    c.lines();
+    c.plans();
+    c.tuples(inputs);
+    c.random(640);
+    let data = folder.join("data");
+    std::fs::create_dir_all(&data).unwrap();
+    let mut out = String::new();
+    for (i, (room, input)) in c.all.iter().enumerate() {
+        std::fs::write(data.join(format!("{i:03}")), [format!("ROOM{room:05}\n").as_bytes(), input].concat()).unwrap();
+        out += &format!("{i:03} {}\n", answer(*room, input));
+    }
+    std::fs::write(folder.join("stdout"), out).unwrap();
+    println!("{} cases", c.all.len());
+}
