@@ -19,6 +19,7 @@ use Rattle.names.specs.Name.{isUmlaut, isVowel, Part, RightPart, RightPa
 use Rattle.names.specs.Name.Part.{plain, composed, decomposed}
 use Rattle.names.specs.PartLaws.{holds, shown, vowel-range, NoMark, no-mark, parts-without}
 use Rattle.names.specs.Scan.{widthOf, widthAt, partsEnd, nameEndAt}
+use Rattle.names.specs.declared.Ending.{Ending}
 use Rattle.names.specs.declared.Ending.the-variants.{At, Bad}
 
 -- ONE STEP of the scan
@@ -263,6 +264,17 @@ no-name s x rest start b n e =
     let a = name-ends s x rest start n e in
     let z : _≡_ {A = ℕ} 0 1 = cc in
     omega arith
+
+bad-or : (r : Ending) → ((e : ℕ) → r ≡ At e → ⊥) → r ≡ Bad
+bad-or (At e) none = absurd (none e refl)
+bad-or Bad none = refl
+
+pub name-bad : (s : List ℕ) (start : ℕ) → ((x rest : List ℕ) → IsName x → drop start s ≡ x ++ (lf ∷ rest) → ⊥) → nameEndAt s start ≡ Bad
+name-bad s start none =
+    bad-or (nameEndAt s start)
+    (λ e p.
+    let n = name-is s start e p in
+    none (stretch s start e) (drop (e + 1) s) (n .name) (n .line))
 
 -- A LIST THAT IS A NAME, with nothing behind it
 pub whole-is : (x : List ℕ) → 1 ≤ length x → length x ≤ 24 → partsEnd x 0 25 ≡ length x → IsName x

@@ -79,3 +79,10 @@ number-is s at v e =
     let w = read-is-written _ _ _ v e in
     let l : length (column 3 v) ≡ 3 = column-length 3 v in
     (w .0, starts-is s at (column 3 v) (column-no-zero 3 v) (starts-column s at v (w .1) (w .2) (w .3)) ∙ rw l)
+
+-- where no number is read, none is written
+pub no-number : (s rest : List ℕ) (at v : ℕ) → numberAt s at ≡ Bad → v < 1000 → drop at s ≡ column 3 v ++ rest → ⊥
+no-number s rest at v b h e =
+    let a = number-column s rest at v h e in
+    let z : _≡_ {A = ℕ} 0 1 = cc in
+    omega arith

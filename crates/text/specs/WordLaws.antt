@@ -11,7 +11,7 @@ use borrow.Author.Tests.{eq-eqb, ne-eqb, eqb-true, eqb-false}
 use native.Mathlib.Numerals.{add-one}
 use native.Mathlib.Nat.{add-assoc, add-zero}
 use native.Mathlib.Omega.{arith}
-use Rattle.text.specs.ChoiceLaws.{lt-or-ge, both, neither}
+use Rattle.text.specs.ChoiceLaws.{lt-or-ge, both, neither, true-is-not-false}
 use Rattle.text.specs.Word.{startsAt, noZero}
 
 -- ONE STEP along a word
@@ -69,3 +69,7 @@ starts-is s at (b ∷ word) z e =
     let rest = starts-is s (at + 1) word (q .1) (p .1) in
     let k : at + 1 + length word ≡ at + suc (length word) = omega arith in
     drop-cons s at 0 l ∙ (rw (here, ← add-one at, rest, k))
+
+-- where a word does not stand, the file does not go on with it
+pub no-word : (s : List ℕ) (at : ℕ) (word rest : List ℕ) → startsAt s at word ≡ false → drop at s ≡ word ++ rest → ⊥
+no-word s at word rest b e = true-is-not-false (sym (starts-word s at word rest e) ∙ b)

@@ -8,6 +8,8 @@ ghost use Rattle.text.specs.Number.{digitOf, numberOf, numberAt};
 ghost use Rattle.text.specs.Word.{startsAt};
 ghost use Rattle.text.specs.Line.{lineAt};
 
+pub mod reader; // reader.rt: a reader that carries a file and the next unread byte
+
 // A number that was read, or none.
 pub enum Number {
     Is(usize),

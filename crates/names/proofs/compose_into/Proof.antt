@@ -2,15 +2,21 @@
 use Prim.Native.Nat.{_-_}
 use mathlib.Core.Path.{_∙_}
 use borrow.Author.Needs.{needs}
+use native.Mathlib.Omega.{arith}
 use denote.Ref.{now}
 use Rattle.text.specs.Bytes.{stretch}
 use Rattle.names.specs.Name.{compose}
+use Rattle.text.specs.BytesLaws.{stretch-length}
+use Rattle.names.specs.NameLaws.{compose-shorter}
 use Rattle.names.specs.RowLaws.{stored-padded}
 use Rattle.names.proofs.compose_into.Statement.{statement}
 use Rattle.names.proofs.compose_into.Tie as tie
 
 put-composed-requires : tie.Need-put-composed-requires
-put-composed-requires c κs = search needs
+put-composed-requires c κs =
+    let a = c .before .before .before .args in
+    let x = stretch (now (a .s)) (a .start) (a .end) in
+    (c .before .before .before .pre .0, omega (arith, compose-shorter x, stretch-length (now (a .s)) (a .start) (a .end) (omega arith)))
 
 add-put-zeros : tie.Need-add-put-zeros
 add-put-zeros c = search needs

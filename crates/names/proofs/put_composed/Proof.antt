@@ -25,15 +25,28 @@ Inv-loop s start end out₀ at i₀ n₀ out i n =
 abbrev μ-loop : tie.MeasureT-loop
 μ-loop s start end out₀ at i₀ n₀ out i n = end - i
 
--- the tests of this turn
-two : (c : tie.After-umlaut-of Inv-loop μ-loop) → diaeresisAt (now (c .before .before .before .before .before .before .before .before .args .s)) (c .before .before .before .before .before .loop .i) (c .before .before .before .before .before .before .before .before .args .end) ≡ true
-two c = sym (c .before .before .before .diaeresis-at .ensures) ∙ c .before .before .if1 .taken
+-- the test of this turn, and what is left to store then
+two : (c : tie.Then1 Inv-loop μ-loop) → diaeresisAt (now (c .before .before .before .before .before .before .args .s)) (c .before .before .before .loop .i) (c .before .before .before .before .before .before .args .end) ≡ true
+two c = sym (c .before .diaeresis-at .ensures) ∙ c .if1 .taken
 
-fits : (c : tie.After-umlaut-of Inv-loop μ-loop) → c .before .before .before .before .before .loop .i + 3 ≤ c .before .before .before .before .before .before .before .before .args .end
-fits c = composed-fits (now (c .before .before .before .before .before .before .before .before .args .s)) (c .before .before .before .before .before .loop .i) (c .before .before .before .before .before .before .before .before .args .end) (omega arith) (omega arith) (two c)
+two-left :
+    (c : tie.Then1 Inv-loop μ-loop) →
+    (c .before .before .before .loop .i + 3 ≤ c .before .before .before .before .before .before .args .end) × (c .before .before .before .before .before .before .args .at + c .before .before .before .loop .n + 2 ≤ length (c .before .before .before .loop .out))
+two-left c =
+    let l = c .before .before .before .loop in
+    let a = c .before .before .before .before .before .before .args in
+    let k = ap length (composed-two (now (a .s)) (l .i) (a .end) (omega arith) (omega arith) (two c)) in
+    (composed-fits (now (a .s)) (l .i) (a .end) (omega arith) (omega arith) (two c), omega (arith, l .inv .4, c .before .before .before .before .before .before .pre .1))
 
-one : (c : tie.After-shared-slice-known3 Inv-loop μ-loop) → diaeresisAt (now (c .before .before .before .before .before .before .before .args .s)) (c .before .before .before .before .loop .i) (c .before .before .before .before .before .before .before .args .end) ≡ false
-one c = sym (c .before .before .diaeresis-at .ensures) ∙ c .before .if1 .left
+one : (c : tie.Else1 Inv-loop μ-loop) → diaeresisAt (now (c .before .before .before .before .before .before .args .s)) (c .before .before .before .loop .i) (c .before .before .before .before .before .before .args .end) ≡ false
+one c = sym (c .before .diaeresis-at .ensures) ∙ c .if1 .left
+
+one-left : (c : tie.Else1 Inv-loop μ-loop) → c .before .before .before .before .before .before .args .at + c .before .before .before .loop .n + 1 ≤ length (c .before .before .before .loop .out)
+one-left c =
+    let l = c .before .before .before .loop in
+    let a = c .before .before .before .before .before .before .args in
+    let k = ap length (composed-one (now (a .s)) (l .i) (a .end) (omega arith) (omega arith) (one c)) in
+    omega (arith, l .inv .4, c .before .before .before .before .before .before .pre .1)
 
 loop-holds : tie.Need-loop-holds Inv-loop μ-loop
 loop-holds c =
@@ -47,7 +60,7 @@ add-out : tie.Need-add-out Inv-loop μ-loop
 add-out c = search needs
 
 slice-write-out : tie.Need-slice-write-out Inv-loop μ-loop
-slice-write-out c = search needs
+slice-write-out c = omega (arith, two-left c)
 
 shared-slice-read-umlaut-of : tie.Need-shared-slice-read-umlaut-of Inv-loop μ-loop
 shared-slice-read-umlaut-of c = search needs
@@ -59,19 +72,19 @@ add-out-2 : tie.Need-add-out-2 Inv-loop μ-loop
 add-out-2 c = search needs
 
 add-out-3 : tie.Need-add-out-3 Inv-loop μ-loop
-add-out-3 c = omega (arith, fits c)
+add-out-3 c = omega (arith, two-left (c .before .before))
 
 slice-write-out-2 : tie.Need-slice-write-out-2 Inv-loop μ-loop
-slice-write-out-2 c = simp length-set (omega (arith, fits c))
+slice-write-out-2 c = simp length-set (omega (arith, two-left (c .before .before)))
 
 add-n : tie.Need-add-n Inv-loop μ-loop
 add-n c = search needs
 
 add-i : tie.Need-add-i Inv-loop μ-loop
-add-i c = omega (arith, fits c)
+add-i c = omega (arith, two-left (c .before .before))
 
 loop-less : tie.Need-loop-less Inv-loop μ-loop
-loop-less c = omega (arith, fits c)
+loop-less c = omega (arith, two-left (c .before .before))
 
 loop-again : tie.Need-loop-again Inv-loop μ-loop
 loop-again c =
@@ -80,11 +93,11 @@ loop-again c =
     let s = now (a .s) in
     let k : a .at + l .n + 2 ≡ a .at + (l .n + 2) = omega arith in (
       omega arith,
-      fits c,
+      two-left (c .before .before) .0,
       omega arith,
       simp length-set (l .inv .3),
-      omega (arith, ap length (composed-two s (l .i) (a .end) (omega arith) (omega arith) (two c)), l .inv .4),
-      rw (c .umlaut-of .ensures, ← k) (sym (stored-two s (l .out) (l .i) (a .end) (a .at + l .n) (omega arith) (omega arith) (two c)) ∙ l .inv .5),
+      omega (arith, ap length (composed-two s (l .i) (a .end) (omega arith) (omega arith) (two (c .before .before))), l .inv .4),
+      rw (c .umlaut-of .ensures, ← k) (sym (stored-two s (l .out) (l .i) (a .end) (a .at + l .n) (omega arith) (omega arith) (two (c .before .before))) ∙ l .inv .5),
     )
 
 shared-slice-read-out : tie.Need-shared-slice-read-out Inv-loop μ-loop
@@ -94,7 +107,7 @@ add-out-4 : tie.Need-add-out-4 Inv-loop μ-loop
 add-out-4 c = search needs
 
 slice-write-out-3 : tie.Need-slice-write-out-3 Inv-loop μ-loop
-slice-write-out-3 c = search needs
+slice-write-out-3 c = omega (arith, one-left (c .before))
 
 add-n-2 : tie.Need-add-n-2 Inv-loop μ-loop
 add-n-2 c = search needs
@@ -115,8 +128,8 @@ loop-again-2 c =
       omega arith,
       omega arith,
       simp length-set (l .inv .3),
-      omega (arith, ap length (composed-one s (l .i) (a .end) (omega arith) (omega arith) (one c)), l .inv .4),
-      rw (← k) (sym (stored-one s (l .out) (l .i) (a .end) (a .at + l .n) (omega arith) (omega arith) (one c)) ∙ l .inv .5),
+      omega (arith, ap length (composed-one s (l .i) (a .end) (omega arith) (omega arith) (one (c .before))), l .inv .4),
+      rw (← k) (sym (stored-one s (l .out) (l .i) (a .end) (a .at + l .n) (omega arith) (omega arith) (one (c .before))) ∙ l .inv .5),
     )
 
 same-length : tie.Need-same-length Inv-loop μ-loop

@@ -1,0 +1,73 @@
+-- The invariant: the pairs of initial states whose first state is below p are in the queue. Assumes nothing.
+use Prim.Native.Nat.{_-_, _≤_}
+use mathlib.Core.Path.{_≡_, subst}
+use native.Mathlib.Omega.{arith}
+use Rattle.automaton.specs.Automaton.{automaton}
+use Rattle.meeting.specs.Search.{Started}
+use Rattle.meeting.specs.SearchLaws.{start-empty, start-open, start-more}
+use borrow.Author.Needs.{needs}
+use Rattle.meeting.proofs.begin.Statement.{statement}
+use Rattle.meeting.proofs.begin.Tie as tie
+
+abbrev Inv-loop : tie.InvT-loop
+Inv-loop a table queue₀ count₀ p₀ queue count p = (p ≤ 16) × Started (automaton a table) queue count p
+
+abbrev μ-loop : tie.MeasureT-loop
+μ-loop a table queue₀ count₀ p₀ queue count p = 16 - p
+
+loop-holds : tie.Need-loop-holds Inv-loop μ-loop
+loop-holds c =
+    let a = c .before .before .args in
+    let p = c .before .before .pre in
+    (omega arith, start-empty (automaton (a .a) (a .table .now)) (a .queue .now) (p .1) (p .2))
+
+guarded-requires : tie.Need-guarded-requires Inv-loop μ-loop
+guarded-requires c κs = search needs
+
+add-row-requires : tie.Need-add-row-requires Inv-loop μ-loop
+add-row-requires c κs =
+    let a = c .before .before .before .before .before .before .args in
+    let l = c .before .before .before .loop in
+    (start-open (automaton (a .a) (a .table .now)) (l .queue) (l .count) (l .p) (omega arith) (l .inv .1), omega arith)
+
+add-p : tie.Need-add-p Inv-loop μ-loop
+add-p c = search needs
+
+loop-less : tie.Need-loop-less Inv-loop μ-loop
+loop-less c = search needs
+
+loop-again : tie.Need-loop-again Inv-loop μ-loop
+loop-again c =
+    let a = c .before .before .before .before .before .before .before .before .before .args in
+    let l = c .before .before .before .before .before .before .loop in
+    let g = c .before .before .add-row in
+    let x = c .before .before .before .guarded in
+    (omega arith, start-more (automaton (a .a) (a .table .now)) (l .queue) (l .count) (l .p) (x .result) (g .last .0) (g .result) (c .before .before .before .before .before .before .before .before .before .pre .0) (l .inv .1) (x .ensures) (g .ensures))
+
+same-length : tie.Need-same-length Inv-loop μ-loop
+same-length c =
+    let s = c .before .loop .inv .1 .queue .size in
+    let t = c .before .before .before .before .pre .1 in
+    omega arith
+
+returns : tie.Need-returns Inv-loop μ-loop
+returns c =
+    let a = c .before .before .before .before .args in
+    let l = c .before .loop in
+    let e : l .p ≡ 16 = omega arith in
+    subst (Started (automaton (a .a) (a .table .now)) (l .queue) (l .count)) e (l .inv .1)
+
+pub begin-spec : {M : Type 1} → statement M
+begin-spec =
+    tie.close
+    (tie.spec
+    Inv-loop
+    μ-loop
+    loop-holds
+    guarded-requires
+    add-row-requires
+    add-p
+    loop-less
+    loop-again
+    same-length
+    returns)

@@ -1,0 +1,63 @@
+-- What the two intersections have is what all three sets have. Assumes nothing.
+use Prim.Native.Nat.{ℕ, _+_, _*_}
+use mathlib.Core.Path.{_≡_, sym, ap, subst, _∙_}
+use lib.ListN.{getD}
+use Rattle.sets.specs.Sets.{interOf}
+use Rattle.meeting.specs.Search.{Common}
+use Rattle.meeting.specs.JoinLaws.{inter-common}
+use borrow.Author.Needs.{needs}
+use Rattle.meeting.proofs.common.Statement.{statement}
+use Rattle.meeting.proofs.common.Tie as tie
+
+mul-inter : tie.Need-mul-inter
+mul-inter c = search needs
+
+add-inter : tie.Need-add-inter
+add-inter c = search needs
+
+mul-inter-2 : tie.Need-mul-inter-2
+mul-inter-2 c = search needs
+
+shared-slice-read-inter : tie.Need-shared-slice-read-inter
+shared-slice-read-inter c = search needs
+
+mul-inter-3 : tie.Need-mul-inter-3
+mul-inter-3 c = search needs
+
+add-inter-2 : tie.Need-add-inter-2
+add-inter-2 c = search needs
+
+mul-inter-4 : tie.Need-mul-inter-4
+mul-inter-4 c = search needs
+
+shared-slice-read-inter-2 : tie.Need-shared-slice-read-inter-2
+shared-slice-read-inter-2 c = search needs
+
+inter-requires : tie.Need-inter-requires
+inter-requires c κs = search needs
+
+inter-requires-2 : tie.Need-inter-requires-2
+inter-requires-2 c κs = search needs
+
+returns : tie.Need-returns
+returns c =
+    let a = c .before .before .before .before .before .args in
+    let t = a .table .now in
+    let e : c .inter2 .result ≡ interOf (interOf (getD t (8 * a .p + a .letter) 0) (getD t (8 * a .q + a .letter) 0)) (a .counts) = c .inter2 .ensures ∙ ap (λ (x : ℕ). interOf x (a .counts)) (c .before .inter .ensures) in
+    subst (Common t (a .counts) (a .p) (a .q) (a .letter)) (sym e) (inter-common (getD t (8 * a .p + a .letter) 0) (getD t (8 * a .q + a .letter) 0) (a .counts))
+
+pub common-spec : {M : Type 1} → statement M
+common-spec =
+    tie.close
+    (tie.spec
+    mul-inter
+    add-inter
+    mul-inter-2
+    shared-slice-read-inter
+    mul-inter-3
+    add-inter-2
+    mul-inter-4
+    shared-slice-read-inter-2
+    inter-requires
+    inter-requires-2
+    returns)

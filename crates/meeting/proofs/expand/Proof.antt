@@ -1,0 +1,151 @@
+-- The invariant: what the pair steps to is in the queue, for the letters and states of the first j steps. Assumes nothing.
+use Prim.Native.Nat.{_+_, _*_, _/_, _-_, _≤_, _<_}
+use mathlib.Core.Path.{refl}
+use native.Mathlib.Omega.{arith}
+use Rattle.automaton.specs.Automaton.{automaton}
+use Rattle.queue.specs.Queue.{AtMost, one, other}
+use Rattle.meeting.specs.Search.{Grown, Stepped}
+use Rattle.meeting.specs.SearchLaws.{grown-none, step-open, step-grown, step-stepped, steps-closed, grown-by}
+use borrow.Author.Needs.{needs}
+use Rattle.meeting.proofs.expand.Statement.{statement}
+use Rattle.meeting.proofs.expand.Tie as tie
+
+abbrev Inv-loop : tie.InvT-loop
+Inv-loop a table queue₀ count head e d p q reached₀ j₀ queue reached j = (j ≤ 16 * a .k) × Grown (automaton a table) queue₀ count d queue reached × Stepped (automaton a table) (one e) (other e) d queue reached j
+
+abbrev μ-loop : tie.MeasureT-loop
+μ-loop a table queue₀ count head e d p q reached₀ j₀ queue reached j = 16 * a .k - j
+
+number-requires : tie.Need-number-requires Inv-loop μ-loop
+number-requires c κs =
+    let s = c .before .before .before .pre .queue .size in
+    let r = c .before .before .before .pre .queue .room in
+    let h = c .before .before .before .pre .some in
+    omega arith
+
+add-d : tie.Need-add-d Inv-loop μ-loop
+add-d c = search needs
+
+loop-holds : tie.Need-loop-holds Inv-loop μ-loop
+loop-holds c =
+    let a = c .before .before .before .before .args in
+    let p = c .before .before .before .before .pre in
+    let e = c .number .ensures in
+    let m : AtMost (a .queue .now) (a .count) (c .number .result / 256 + 1) = λ i l. (let z = p .near i l in rw e (omega arith)) in
+    (omega arith, grown-none (automaton (a .a) (a .table .now)) (a .queue .now) (a .count) (c .number .result / 256 + 1) (p .queue) (p .sound) m, λ l x y k. absurd (omega arith))
+
+mul-if1 : tie.Need-mul-if1 Inv-loop μ-loop
+mul-if1 c = search needs
+
+mul-guarded : tie.Need-mul-guarded Inv-loop μ-loop
+mul-guarded c = search needs
+
+add-guarded : tie.Need-add-guarded Inv-loop μ-loop
+add-guarded c = search needs
+
+mul-guarded-2 : tie.Need-mul-guarded-2 Inv-loop μ-loop
+mul-guarded-2 c = search needs
+
+shared-slice-read-guarded : tie.Need-shared-slice-read-guarded Inv-loop μ-loop
+shared-slice-read-guarded c = search needs
+
+mul-guarded-3 : tie.Need-mul-guarded-3 Inv-loop μ-loop
+mul-guarded-3 c = search needs
+
+add-guarded-2 : tie.Need-add-guarded-2 Inv-loop μ-loop
+add-guarded-2 c = search needs
+
+mul-guarded-4 : tie.Need-mul-guarded-4 Inv-loop μ-loop
+mul-guarded-4 c = search needs
+
+shared-slice-read-guarded-2 : tie.Need-shared-slice-read-guarded-2 Inv-loop μ-loop
+shared-slice-read-guarded-2 c = search needs
+
+guarded-requires : tie.Need-guarded-requires Inv-loop μ-loop
+guarded-requires c κs = search needs
+
+mul-add-row : tie.Need-mul-add-row Inv-loop μ-loop
+mul-add-row c = search needs
+
+add-add-row : tie.Need-add-add-row Inv-loop μ-loop
+add-add-row c = search needs
+
+add-row-requires : tie.Need-add-row-requires Inv-loop μ-loop
+add-row-requires c κs =
+    let a = c .before .before .before .before .before .before .before .before .before .before .before .args in
+    let p = c .before .before .before .before .before .before .before .before .before .before .before .pre in
+    let A = automaton (a .a) (a .table .now) in
+    let l = c .before .before .before .before .before .before .loop in
+    let e = c .before .before .before .before .before .before .before .number in
+    let r = p .queue .room in
+    let h = p .some in
+    (step-open A (p .fits) (a .queue .now) (a .count) (a .head) (e .result) (e .result / 256 + 1) (p .some) (e .ensures) refl (l .queue) (l .reached) (l .j) (l .inv .1) (p .queue), omega arith)
+
+add-j : tie.Need-add-j Inv-loop μ-loop
+add-j c = search needs
+
+loop-less : tie.Need-loop-less Inv-loop μ-loop
+loop-less c = search needs
+
+loop-again : tie.Need-loop-again Inv-loop μ-loop
+loop-again c =
+    let a = c .before .before .before .before .before .before .before .before .before .before .before .before .before .before .args in
+    let p = c .before .before .before .before .before .before .before .before .before .before .before .before .before .before .pre in
+    let A = automaton (a .a) (a .table .now) in
+    let l = c .before .before .before .before .before .before .before .before .before .loop in
+    let e = c .before .before .before .before .before .before .before .before .before .before .number in
+    let g = c .before .before .add-row in
+    let x = c .before .before .before .before .guarded in
+    let k : l .j / 16 < a .a .k = omega arith in (
+      omega arith,
+      step-grown A (p .fits) (a .queue .now) (a .count) (a .head) (e .result) (e .result / 256 + 1) (p .some) (e .ensures) refl (l .queue) (l .reached) (l .j) (l .inv .1) (x .result) (g .last .0) (g .result) k (x .ensures) (g .ensures),
+      step-stepped A (p .fits) (a .queue .now) (a .count) (a .head) (e .result) (e .result / 256 + 1) (p .some) (e .ensures) refl (l .queue) (l .reached) (l .j) (l .inv .1) (x .result) (g .last .0) (g .result) k (x .ensures) (g .ensures) (l .inv .2),
+    )
+
+same-length : tie.Need-same-length Inv-loop μ-loop
+same-length c =
+    let a = c .before .before .before .before .before .before .before .args in
+    let p = c .before .before .before .before .before .before .before .pre in
+    let A = automaton (a .a) (a .table .now) in
+    let l = c .before .before .loop in
+    let e = c .before .before .before .number in
+    let s = p .queue .size in
+    let t = l .inv .1 .queue .size in
+    omega arith
+
+returns : tie.Need-returns Inv-loop μ-loop
+returns c =
+    let a = c .before .before .before .before .before .before .before .args in
+    let p = c .before .before .before .before .before .before .before .pre in
+    let A = automaton (a .a) (a .table .now) in
+    let l = c .before .before .loop in
+    let e = c .before .before .before .number in
+    (grown-by A (p .fits) (a .queue .now) (a .count) (a .head) (e .result) (e .result / 256 + 1) (p .some) (e .ensures) refl (l .queue) (l .reached) (l .j) (l .inv .1), steps-closed A (p .fits) (a .queue .now) (a .count) (a .head) (e .result) (e .result / 256 + 1) (p .some) (e .ensures) refl (l .queue) (l .reached) (l .j) (l .inv .1) (c .if1 .left) (l .inv .2))
+
+pub expand-spec : {M : Type 1} → statement M
+expand-spec =
+    tie.close
+    (tie.spec
+    Inv-loop
+    μ-loop
+    number-requires
+    add-d
+    loop-holds
+    mul-if1
+    mul-guarded
+    add-guarded
+    mul-guarded-2
+    shared-slice-read-guarded
+    mul-guarded-3
+    add-guarded-2
+    mul-guarded-4
+    shared-slice-read-guarded-2
+    guarded-requires
+    mul-add-row
+    add-add-row
+    add-row-requires
+    add-j
+    loop-less
+    loop-again
+    same-length
+    returns)

@@ -1,0 +1,28 @@
+-- Document 01, question 10, "Is the sheet free of meeting walks? No: 10, with the walks", and how its answer is handed over.
+use Prim.Native.Nat.{ℕ, _≤_, _<_}
+use mathlib.Core.Path.{_≡_}
+use mathlib.Core.List.{List}
+use lib.ListN.{length, getD}
+use Rattle.automaton.specs.Automaton.{Automaton, Fits}
+use Rattle.automaton.specs.Meeting.{Free, Witness}
+use Rattle.automaton.specs.Lent.{Tables, Long, SameLengths}
+
+-- all zero
+abbrev pub Zero : List ℕ → Type 0
+Zero table = (i : ℕ) → getD table i 0 ≡ 0
+
+-- the questions before are answered yes, and the tables are lent, long enough and all zero
+pub record Asked (A : Automaton) (v : Tables) : Type 0 where
+  pub fits : Fits A
+  pub cells : 128 ≤ length (A .table)
+  pub long : Long v
+  pub zero-word : Zero (v .word)
+  pub zero-one : Zero (v .one)
+  pub zero-other : Zero (v .other)
+
+-- 0 for yes, and else the length of the witness word, with the witness in the tables; v are the tables before, w after
+pub record Answered (A : Automaton) (Counts : ℕ → Type 0) (v w : Tables) (r : ℕ) : Type 0 where
+  pub free : r ≡ 0 → Free A Counts
+  pub kept : r ≡ 0 → w ≡ v
+  pub witness : 0 < r → Witness A Counts r (w .word) (w .one) (w .other)
+  pub lengths : SameLengths v w

@@ -1,0 +1,128 @@
+-- Every pair of states in which two walks on one word end comes into the queue, at the word's length or before.
+-- So where no pair of the queue joins no walks meet, and the first pair that joins has the shortest meeting. Assumes nothing.
+use Prim.Native.Nat.{ℕ, zero, suc, _+_, _/_, _%_, _≤_, _<_}
+use mathlib.Core.Path.{_≡_, sym, _∙_, ap, subst}
+use mathlib.Core.Logic.{inl, inr}
+use mathlib.Core.List.{List}
+use native.Mathlib.Omega.{arith}
+use native.Mathlib.Decide.{decLt}
+use lib.ListN.{length}
+use Rattle.sets.specs.Sets.{Member}
+use Rattle.automaton.specs.Automaton.{Automaton, Fits}
+use Rattle.automaton.specs.Meeting.{Walk, Free}
+use Rattle.pairs.specs.Joining.{Backwards, Joins, meet-joins}
+use Rattle.pairs.specs.Extending.{Both, both-start, both-step, both-meet}
+use Rattle.pairs.specs.Bound.{NoneShorter, shortest-136}
+use Rattle.queue.specs.Queue.{pair, origin, depth, one, other, Has}
+use Rattle.queue.specs.QueueLaws.{has-longer}
+use Rattle.meeting.specs.Search.{Sound, AllSound, Grown, Started, Closed, Ready, JoinsOn, Search, Found}
+use Rattle.meeting.specs.SearchLaws.{edge-of, edge-letter, initial-lt}
+
+-- ---- the search goes on
+
+pub search-start : (A : Automaton) (counts : ℕ) (T : List ℕ) (count : ℕ) → Started A T count 16 → Search A counts T count 0
+search-start A counts T count s = record {
+  queue = s .queue;
+  sound = s .sound;
+  begun = s .begun;
+  within = omega arith;
+  near = λ h i l. (let m = s .most i l in omega arith);
+  closed = λ i l. absurd (omega arith);
+  none = λ i c l. absurd (omega arith);
+}
+
+pub search-ready : (A : Automaton) (counts : ℕ) (T : List ℕ) (count head : ℕ) → Fits A → 128 ≤ length (A .table) → head < count → Search A counts T count head → Ready A T count head
+search-ready A counts T count head fits cells l s = record { fits = fits; cells = cells; queue = s .queue; sound = s .sound; some = l; near = s .near l }
+
+pub search-more : (A : Automaton) (counts : ℕ) (T : List ℕ) (count head : ℕ) (T' : List ℕ) (count' : ℕ) → head < count
+    → ((l : ℕ) → l < 8 → JoinsOn (A .table) counts (pair T head) l → ⊥) → Grown A T count (suc (depth (pair T head))) T' count' → Closed A T' count' head
+    → Search A counts T count head → Search A counts T' count' (head + 1)
+search-more A counts T count head T' count' h f g c s =
+    let m = g .more in
+    record {
+      queue = g .queue;
+      sound = g .sound;
+      begun = λ p q l a b. has-longer T T' count count' 0 p q (g .keeps) (g .more) (s .begun p q l a b);
+      within = omega arith;
+      near = λ l i k. (let u = g .most i k in let v = g .queue .sorted head (head + 1) (omega arith) l in let e = g .keeps head h .0 in let v' : depth (pair T head) ≤ depth (pair T' (head + 1)) = rw e at v in omega arith);
+      closed = λ i l. closed-at i l (decLt i head);
+      none = λ i l k n. none-at i l k n (decLt i head);
+    }
+  where
+    closed-at : (i : ℕ) → i < head + 1 → Dec (i < head) → Closed A T' count' i
+    closed-at i l (yes k) =
+        let e = g .keeps i (omega arith) .0 in
+        λ d x y u v. rw e (has-longer T T' count count' (suc (depth (pair T i))) x y (g .keeps) (g .more) (s .closed i k d x y (rw e at u) (rw e at v)))
+    closed-at i l (no k) = let e : i ≡ head = omega arith in rw e c
+
+    none-at : (i l : ℕ) → i < head + 1 → l < 8 → Dec (i < head) → JoinsOn (A .table) counts (pair T' i) l → ⊥
+    none-at i l k n (yes z) j = s .none i l z n (subst (λ (e : ℕ). JoinsOn (A .table) counts e l) (g .keeps i (omega arith) .0) j)
+    none-at i l k n (no z) j =
+        let e : i ≡ head = omega arith in
+        f l n (subst (λ (e : ℕ). JoinsOn (A .table) counts e l) (ap (pair T') e ∙ g .keeps head h .0) j)
+
+-- ---- what it has found
+
+module _ (A : Automaton) (fits : Fits A) (counts : ℕ) (back : Backwards A (Member counts)) (T : List ℕ) (count head : ℕ) (s : Search A counts T count head) where
+  -- all pairs of depth below D are done
+  module _ (D : ℕ) (done : (i : ℕ) → i < count → depth (pair T i) < D → i < head) (w : ℕ → ℕ) (t : ℕ) (x y : ℕ → ℕ) (v : Walk A w t x) (v' : Walk A w t y) where
+    reached : (u : ℕ) → u ≤ t → u ≤ D → Has T count u (x u) (y u)
+    reached zero l m = s .begun (x 0) (y 0) (initial-lt A fits (x 0) (v .starts)) (v .starts) (v' .starts)
+    reached (suc u) l m = go (reached u (omega arith) (omega arith))
+      where
+        go : Has T count u (x u) (y u) → Has T count (suc u) (x (suc u)) (y (suc u))
+        go (i, h, d, a, b) =
+            let (j, k, e, f, g) = s .closed i (done i h (omega arith)) (w u) (x (suc u)) (y (suc u)) (rw a (v .goes u (omega arith))) (rw b (v' .goes u (omega arith))) in
+            (j, k, omega arith, f, g)
+
+    none-joins : (u : ℕ) → u < t → u < D → Joins (Member counts) x y u → ⊥
+    none-joins u l m j = go (reached u (omega arith) (omega arith))
+      where
+        go : Has T count u (x u) (y u) → ⊥
+        go (i, h, d, a, b) =
+            let p = v .goes u l in
+            let q = v' .goes u l in
+            s .none i (w u) (done i h (omega arith)) (edge-letter A fits (w u) (x u) (x (suc u)) p)
+            (record {
+              apart = λ e. j .apart (sym a ∙ e ∙ b);
+              state = x (suc u);
+              left = rw a (p .to);
+              right = rw (b, j .joined) (q .to);
+              counted = j .counts;
+            })
+
+  none-within : (D : ℕ) → ((i : ℕ) → i < count → depth (pair T i) < D → i < head) → NoneShorter A (Member counts) (suc D)
+  none-within D done w t x y l m =
+      let (u, h, j) = meet-joins A (Member counts) back w t x y m in
+      none-joins D done w t x y (m .one) (m .other) u h (omega arith) j
+
+  pub search-shortest : head < count → NoneShorter A (Member counts) (suc (depth (pair T head)))
+  search-shortest l = none-within (depth (pair T head)) (λ i h d. at i h d (decLt i head))
+    where
+      at : (i : ℕ) → i < count → depth (pair T i) < depth (pair T head) → Dec (i < head) → i < head
+      at i h d (yes k) = k
+      at i h d (no k) = absurd (let z = s .queue .sorted head i (omega arith) h in omega arith)
+
+  pub search-free : count ≤ head → Free A (Member counts)
+  search-free l w t x y m = none-within t (λ i h d. omega arith) w t x y (omega arith) m
+
+  -- pair i ends two walks on one word of its depth's length
+  ends : AllSound A T count → (f i : ℕ) → i < f → i < count → Both A (depth (pair T i)) (one (pair T i)) (other (pair T i))
+  ends a zero i h l = absurd (omega arith)
+  ends a (suc f) i h l = by (a i l) (ends a f)
+    where
+      by : Sound A T i → ((j : ℕ) → j < f → j < count → Both A (depth (pair T j)) (one (pair T j)) (other (pair T j))) → Both A (depth (pair T i)) (one (pair T i)) (other (pair T i))
+      by (inl z) ih = rw (z .deep) (both-start A (one (pair T i)) (other (pair T i)) (z .left) (z .right))
+      by (inr z) ih =
+          let j = origin T i / 8 in
+          let k = z .earlier in
+          rw (z .deep) (both-step A (depth (pair T j)) (origin T i % 8) (one (pair T j)) (other (pair T j)) (one (pair T i)) (other (pair T i)) (ih j (omega arith) (omega arith)) (z .left) (z .right))
+
+  pub search-found : head < count → (l : ℕ) → l < 8 → JoinsOn (A .table) counts (pair T head) l → Found A counts T head
+  search-found h l m j =
+      let none = search-shortest h in
+      let e = pair T head in
+      let (w, x, y, z) = both-meet A (Member counts) (depth e) l (one e) (other e) (j .state) (ends (s .sound) (suc head) head (omega arith) h) (j .apart) (edge-of A fits l (one e) (j .state) m (j .left)) (edge-of A fits l (other e) (j .state) m (j .right)) (j .counted) in
+      let most = shortest-136 A fits (Member counts) back w (suc (depth e)) x y z none in
+      let room = s .queue .room in
+      record { size = s .queue .size; some = omega arith; most = omega arith; sound = λ i k. s .sound i (omega arith); letter = l; low = m; joins = j; shortest = none }

@@ -1,0 +1,24 @@
+-- A pair joins on a letter exactly where some state is common to the successors of both and counts. Assumes nothing.
+use Prim.Native.Nat.{ℕ}
+use mathlib.Core.Path.{_≡_, subst}
+use mathlib.Core.List.{List}
+use mathlib.Core.Logic.{_↔_}
+use Rattle.sets.specs.Sets.{Member, interOf}
+use Rattle.sets.specs.SetLaws.{some-member, no-member, inter-in, inter-of}
+use Rattle.queue.specs.Queue.{one, other}
+use Rattle.meeting.specs.Search.{Common, JoinsOn}
+
+pub inter-common : (x y counts z : ℕ) → Member (interOf (interOf x y) counts) z ↔ (Member x z × Member y z × Member counts z)
+inter-common x y counts z = (
+  λ h. (let (a, b) = inter-in (interOf x y) counts z h in let (c, d) = inter-in x y z a in (c, d, b)),
+  λ (c, d, b). inter-of (interOf x y) counts z (inter-of x y z c d) b,
+)
+
+pub common-joins : (table : List ℕ) (counts e l r : ℕ) → Common table counts (one e) (other e) l r → (one e ≡ other e → ⊥) → (r ≡ 0 → ⊥) → JoinsOn table counts e l
+common-joins table counts e l r c f g =
+    let (z, h) = some-member r g in
+    let (a, b, d) = c z .0 h in
+    record { apart = f; state = z; left = a; right = b; counted = d }
+
+pub common-none : (table : List ℕ) (counts e l r : ℕ) → Common table counts (one e) (other e) l r → r ≡ 0 → JoinsOn table counts e l → ⊥
+common-none table counts e l r c z j = no-member (j .state) (subst (λ (x : ℕ). Member x (j .state)) z (c (j .state) .1 (j .left, j .right, j .counted)))

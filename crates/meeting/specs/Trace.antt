@@ -1,0 +1,38 @@
+-- A shortest meeting, written into the tables from its last letter back to the initial states.
+use Prim.Native.Nat.{ℕ, suc, _/_, _≤_, _<_}
+use mathlib.Core.Path.{_≡_}
+use mathlib.Core.List.{List}
+use lib.ListN.{getD}
+use Rattle.sets.specs.Sets.{Member}
+use Rattle.automaton.specs.Automaton.{Automaton, Edge}
+use Rattle.automaton.specs.Lent.{Tables}
+use Rattle.queue.specs.Queue.{pair, origin, depth, one, other}
+use Rattle.meeting.specs.Search.{AllSound}
+
+-- the end of a walk, from time t to d + 1, with zeros behind
+pub record Tail (A : Automaton) (d t : ℕ) (word states : List ℕ) : Type 0 where
+  pub goes : (s : ℕ) → t ≤ s → s ≤ d → Edge A (getD word s 0) (getD states s 0) (getD states (suc s) 0)
+  pub behind : (i : ℕ) → suc d < i → getD states i 0 ≡ 0
+  pub behind-word : (i : ℕ) → d < i → getD word i 0 ≡ 0
+
+-- the ends of two walks that are in pair i at time t, in different states at time d, and then in one state that counts
+pub record Traced (A : Automaton) (counts : ℕ) (T : List ℕ) (head d t i : ℕ) (word first second : List ℕ) : Type 0 where
+  pub before : i ≤ head
+  pub deep : depth (pair T i) ≡ t
+  pub low : t ≤ d
+  pub left : getD first t 0 ≡ one (pair T i)
+  pub right : getD second t 0 ≡ other (pair T i)
+  pub tail-one : Tail A d t word first
+  pub tail-other : Tail A d t word second
+  pub apart : getD first d 0 ≡ getD second d 0 → ⊥
+  pub shared : getD first (suc d) 0 ≡ getD second (suc d) 0
+  pub counted : Member counts (getD first (suc d) 0)
+
+-- each of the pairs up to head that lies deeper than 0 comes from an earlier one, a letter less deep
+abbrev pub Linked : List ℕ → ℕ → Type 0
+Linked T head = (i : ℕ) → i ≤ head → 0 < depth (pair T i) → (origin T i / 8 < i) × (depth (pair T i) ≡ suc (depth (pair T (origin T i / 8))))
+
+-- tables v with the last letter of a meeting have become w, with the letters from t on: whatever the automaton
+abbrev pub Leads : List ℕ → ℕ → ℕ → ℕ → ℕ → Tables → Tables → Type 0
+Leads T head d t i v w = (A : Automaton) (counts : ℕ) → AllSound A T (suc head)
+    → Traced A counts T head d d head (v .word) (v .one) (v .other) → Traced A counts T head d t i (w .word) (w .one) (w .other)

@@ -1,0 +1,62 @@
+-- A shortest word with meeting walks has at most n (n + 1) / 2 letters: before they join, the walks are in no pair of states twice. Assumes nothing.
+use Prim.Native.Nat.{ℕ, zero, suc, _+_, _*_, _/_, _-_, _≤_, _<_}
+use mathlib.Core.Path.{_≡_, _∙_, ap, subst}
+use mathlib.Core.Logic.{_⊎_, inl, inr}
+use native.Mathlib.Omega.{arith}
+use native.Mathlib.Decide.{decLe}
+use Rattle.finite.specs.Finite.{pigeon}
+use Rattle.automaton.specs.Automaton.{Automaton, Fits}
+use Rattle.automaton.specs.Meeting.{Walk, Meet}
+use Rattle.pairs.specs.Triangle.{triangle, triangle-is, triangle-most, pairNumber, pair-lt, pair-same}
+use Rattle.pairs.specs.Joining.{Backwards, Joins, shorter, joins-meet, meet-joins}
+use Rattle.pairs.specs.Cutting.{cut-meet}
+
+-- the states of a walk are states of the sheet
+pub walk-in : (A : Automaton) → Fits A → (w : ℕ → ℕ) (t : ℕ) (x : ℕ → ℕ) → Walk A w t x → (s : ℕ) → s ≤ t → x s < A .n
+walk-in A fits w t x v zero l = fits .states .0 (x 0) (v .starts)
+walk-in A fits w t x v (suc s) l = fits .cells (8 * x s + w s) .within (x (suc s)) (v .goes s (omega arith) .to)
+
+-- no shorter word has meeting walks
+abbrev pub NoneShorter : Automaton → (ℕ → Type 0) → ℕ → Type 0
+NoneShorter A Counts t = (w : ℕ → ℕ) (s : ℕ) (x y : ℕ → ℕ) → s < t → Meet A Counts w s x y → ⊥
+
+module _ (A : Automaton) (fits : Fits A) (Counts : ℕ → Type 0) (back : Backwards A Counts) (w : ℕ → ℕ) (t : ℕ) (x y : ℕ → ℕ) (m : Meet A Counts w t x y) (none : NoneShorter A Counts t) where
+  -- the walks join at the last letter, and up to there no pair of states comes twice
+  joins-last : (s : ℕ) → s < t → Joins Counts x y s → t ≤ suc s
+  joins-last s l j = by (decLe t (suc s))
+    where
+      by : Dec (t ≤ suc s) → t ≤ suc s
+      by (yes h) = h
+      by (no h) = absurd (none w (suc s) x y (omega arith) (joins-meet s (shorter t (suc s) (omega arith) (m .one)) (shorter t (suc s) (omega arith) (m .other)) j))
+
+  never-twice : (s u v : ℕ) → s < t → Joins Counts x y s → u < v → v ≤ s → pairNumber (x u) (y u) ≡ pairNumber (x v) (y v) → ⊥
+  never-twice s u v l j h k e = by (pair-same (x u) (y u) (x v) (y v) e)
+    where
+      vx : Walk A w (suc s) x
+      vx = shorter t (suc s) (omega arith) (m .one)
+
+      vy : Walk A w (suc s) y
+      vy = shorter t (suc s) (omega arith) (m .other)
+
+      o : v ≡ u + (v - u)
+      o = omega arith
+
+      by : ((x u ≡ x v) × (y u ≡ y v)) ⊎ ((x u ≡ y v) × (y u ≡ x v)) → ⊥
+      by (inl (a, b)) = none _ (suc s - (v - u)) _ _ (omega arith) (cut-meet A Counts w x y x y s u (v - u) (omega arith) (a ∙ ap x o) (b ∙ ap y o) vx vy vx vy j)
+      by (inr (a, b)) = none _ (suc s - (v - u)) _ _ (omega arith) (cut-meet A Counts w y x x y s u (v - u) (omega arith) (b ∙ ap x o) (a ∙ ap y o) vy vx vx vy j)
+
+  within-triangle : t ≤ triangle (A .n)
+  within-triangle = let (s, l, j) = meet-joins A Counts back w t x y m in let h = joins-last s l j in by s l j h (decLe (triangle (A .n)) s)
+    where
+      by : (s : ℕ) → s < t → Joins Counts x y s → t ≤ suc s → Dec (triangle (A .n) ≤ s) → t ≤ triangle (A .n)
+      by s l j h (no z) = omega arith
+      by s l j h (yes z) =
+          let (u, v, a, b, e) = pigeon (triangle (A .n)) (λ i. pairNumber (x i) (y i)) (λ i k. pair-lt (A .n) (x i) (y i) (walk-in A fits w t x (m .one) i (omega arith)) (walk-in A fits w t y (m .other) i (omega arith))) in
+          absurd (never-twice s u v l j a (omega arith) e)
+
+  pub shortest-bound : t ≤ A .n * (A .n + 1) / 2
+  shortest-bound = subst (λ i. t ≤ i) (triangle-is (A .n)) within-triangle
+
+  -- for sixteen states
+  pub shortest-136 : t ≤ 136
+  shortest-136 = let h = within-triangle in omega (arith, triangle-most (A .n) (fits .range .1))

@@ -1,0 +1,5 @@
+pub mod Triangle
+pub mod Joining
+pub mod Extending
+pub mod Cutting
+pub mod Bound

@@ -1,0 +1,1 @@
+// Pairs of states in which two walks on one word end: specifications only.

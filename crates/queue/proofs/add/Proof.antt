@@ -1,0 +1,152 @@
+-- A pair that is not listed finds room, by the pigeonhole law of QueueLaws; what a longer queue is, is said there. Assumes nothing.
+use Prim.Native.Nat.{ℕ}
+use mathlib.Core.Path.{subst}
+use native.Mathlib.Omega.{arith}
+use lib.ListN.{length-set}
+use Rattle.sets.specs.Sets.{Member}
+use Rattle.sets.specs.SetLaws.{minus-left, minus-not}
+use Rattle.queue.specs.Queue.{companions, Only}
+use Rattle.queue.specs.QueueLaws.{has-room, push, unchanged}
+use Rattle.queue.specs.Membership.{member-yes, member-no, minus-else}
+use borrow.Author.Needs.{needs}
+use Rattle.queue.proofs.add.Statement.{statement}
+use Rattle.queue.proofs.add.Tie as tie
+
+add-row : tie.Need-add-row
+add-row c = search needs
+
+mul-row : tie.Need-mul-row
+mul-row c = search needs
+
+slice-read-row : tie.Need-slice-read-row
+slice-read-row c = search needs
+
+minus-requires : tie.Need-minus-requires
+minus-requires c κs = search needs
+
+contains-requires : tie.Need-contains-requires
+contains-requires c κs = search needs
+
+mul-queue : tie.Need-mul-queue
+mul-queue c = search needs
+
+mul-queue-2 : tie.Need-mul-queue-2
+mul-queue-2 c = search needs
+
+add-queue : tie.Need-add-queue
+add-queue c = search needs
+
+add-queue-2 : tie.Need-add-queue-2
+add-queue-2 c = search needs
+
+cast-queue : tie.Need-cast-queue
+cast-queue c =
+    let a = c .before .before .before .before .before .args in
+    let p = c .before .before .before .before .before .pre in
+    let T = a .queue .now in
+    let m = member-yes _ (a .q) _ (c .before .contains .ensures) (c .if1 .taken) in
+    let m' = subst (λ (x : ℕ). Member x (a .q)) (c .before .before .minus .ensures) m in
+    let new = minus-not (a .set) (companions T (a .p)) (a .q) m' in
+    let h = has-room T (a .count) (a .p) (a .q) (p .0 .queue) (p .0 .state) (p .1) new in
+    let d = p .0 .deep in
+    let s = p .0 .state in
+    omega arith
+
+mul-queue-3 : tie.Need-mul-queue-3
+mul-queue-3 c = search needs
+
+slice-write-queue : tie.Need-slice-write-queue
+slice-write-queue c = search needs
+
+cast-queue-2 : tie.Need-cast-queue-2
+cast-queue-2 c = search needs
+
+add-queue-3 : tie.Need-add-queue-3
+add-queue-3 c = search needs
+
+mul-queue-4 : tie.Need-mul-queue-4
+mul-queue-4 c = search needs
+
+slice-write-queue-2 : tie.Need-slice-write-queue-2
+slice-write-queue-2 c =
+    let a = c .before .before .before .before .before .args in
+    let p = c .before .before .before .before .before .pre in
+    let T = a .queue .now in
+    let m = member-yes _ (a .q) _ (c .before .contains .ensures) (c .if1 .taken) in
+    let m' = subst (λ (x : ℕ). Member x (a .q)) (c .before .before .minus .ensures) m in
+    let new = minus-not (a .set) (companions T (a .p)) (a .q) m' in
+    let h = has-room T (a .count) (a .p) (a .q) (p .0 .queue) (p .0 .state) (p .1) new in
+    let l = p .0 .queue .size in
+    simp length-set (omega arith)
+
+insert-requires : tie.Need-insert-requires
+insert-requires c κs = search needs
+
+add-queue-4 : tie.Need-add-queue-4
+add-queue-4 c = search needs
+
+mul-queue-5 : tie.Need-mul-queue-5
+mul-queue-5 c = search needs
+
+slice-write-queue-3 : tie.Need-slice-write-queue-3
+slice-write-queue-3 c =
+    let p = c .before .before .before .before .before .before .pre in
+    let l = p .0 .queue .size in
+    let s = p .0 .state in
+    simp length-set (omega arith)
+
+add-result : tie.Need-add-result
+add-result c = search needs
+
+same-length : tie.Need-same-length
+same-length c = search needs
+
+returns : tie.Need-returns
+returns c =
+    let a = c .before .before .before .before .before .before .args in
+    let p = c .before .before .before .before .before .before .pre in
+    let T = a .queue .now in
+    let m = member-yes _ (a .q) _ (c .before .before .contains .ensures) (c .before .if1 .taken) in
+    let m' = subst (λ (x : ℕ). Member x (a .q)) (c .before .before .before .minus .ensures) m in
+    let new = minus-not (a .set) (companions T (a .p)) (a .q) m' in
+    let h = has-room T (a .count) (a .p) (a .q) (p .0 .queue) (p .0 .state) (p .1) new in
+    rw (c .insert .ensures) (push (a .queue .now) (a .count) (a .depth) (a .p) (a .q) (a .origin) (p .0) (p .1) h new (a .set) (minus-left (a .set) (companions (a .queue .now) (a .p)) (a .q) m'))
+
+returns-2 : tie.Need-returns-2
+returns-2 c =
+    let a = c .before .before .before .before .before .args in
+    let p = c .before .before .before .before .before .pre in
+    let T = a .queue .now in
+    let m = member-no _ (a .q) _ (c .before .contains .ensures) (c .if1 .left) in
+    let m' = subst (λ (x : ℕ). Member x (a .q) → ⊥) (c .before .before .minus .ensures) m in
+    unchanged T (a .count) (a .depth) (a .p) (Only (a .set) (a .q)) (a .origin) (p .0)
+    (λ r s. rw (s .0) (minus-else (a .set) (companions T (a .p)) (a .q) m' (rw (s .0) at (s .1))))
+
+pub add-spec : {M : Type 1} → statement M
+add-spec =
+    tie.close
+    (tie.spec
+    add-row
+    mul-row
+    slice-read-row
+    minus-requires
+    contains-requires
+    mul-queue
+    mul-queue-2
+    add-queue
+    add-queue-2
+    cast-queue
+    mul-queue-3
+    slice-write-queue
+    cast-queue-2
+    add-queue-3
+    mul-queue-4
+    slice-write-queue-2
+    insert-requires
+    add-queue-4
+    mul-queue-5
+    slice-write-queue-3
+    add-result
+    same-length
+    returns
+    returns-2)

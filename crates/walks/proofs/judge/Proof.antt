@@ -1,0 +1,68 @@
+-- The questions in their order; each answer is what its call ensures. Assumes nothing.
+use mathlib.Core.Path.{refl}
+use mathlib.Core.Logic.{inl}
+use Rattle.automaton.specs.Automaton.{automaton}
+use Rattle.automaton.specs.Lent.{tables}
+use Rattle.walks.specs.CheckLaws.{judge-free, judge-meets}
+use borrow.Author.Needs.{needs}
+use Rattle.walks.proofs.judge.Statement.{statement}
+use Rattle.walks.proofs.judge.Tie as tie
+
+first-no-requires : tie.Need-first-no-requires
+first-no-requires c κs = search needs
+
+returns : tie.Need-returns
+returns c =
+    let g = c .before .first-no in
+    inl ((g .result, g .ensures .1 (c .if1 .taken), refl), refl)
+
+ask-requires : tie.Need-ask-requires
+ask-requires c κs =
+    let p = c .before .before .before .before .before .before .before .before .before .pre in
+    record { fits = c .before .before .before .before .first-no .ensures .0 (c .before .before .before .if1 .left); cells = p .0 .cells; long = p .0 .long; zero-word = p .1; zero-one = p .2; zero-other = p .3 }
+
+same-length : tie.Need-same-length
+same-length c = search needs
+
+same-length-2 : tie.Need-same-length-2
+same-length-2 c = search needs
+
+same-length-3 : tie.Need-same-length-3
+same-length-3 c = search needs
+
+returns-2 : tie.Need-returns-2
+returns-2 c =
+    let a = c .before .before .before .before .before .before .before .before .before .before .before .before .before .before .before .before .before .args in
+    let g = c .before .before .before .before .before .before .before .ask in
+    judge-free (automaton (a .a) (a .table .now)) (tables (a .word .now) (a .one .now) (a .other .now)) (tables (g .last .1 .1 .0) (g .last .1 .1 .1 .0) (g .last .1 .1 .1 .1 .0)) (g .result) (c .before .before .before .before .before .before .before .before .before .before .before .before .first-no .ensures .0 (c .before .before .before .before .before .before .before .before .before .before .before .if1 .left)) (g .ensures) (c .if2 .taken)
+
+same-length-4 : tie.Need-same-length-4
+same-length-4 c = search needs
+
+same-length-5 : tie.Need-same-length-5
+same-length-5 c = search needs
+
+same-length-6 : tie.Need-same-length-6
+same-length-6 c = search needs
+
+returns-3 : tie.Need-returns-3
+returns-3 c =
+    let a = c .before .before .before .before .before .before .before .before .before .before .before .before .before .before .before .before .before .args in
+    let g = c .before .before .before .before .before .before .before .ask in
+    judge-meets (automaton (a .a) (a .table .now)) (tables (a .word .now) (a .one .now) (a .other .now)) (tables (g .last .1 .1 .0) (g .last .1 .1 .1 .0) (g .last .1 .1 .1 .1 .0)) (g .result) (c .before .before .before .before .before .before .before .before .before .before .before .before .first-no .ensures .0 (c .before .before .before .before .before .before .before .before .before .before .before .if1 .left)) (g .ensures) (c .if2 .left)
+
+pub judge-spec : {M : Type 1} → statement M
+judge-spec =
+    tie.close
+    (tie.spec
+    first-no-requires
+    returns
+    ask-requires
+    same-length
+    same-length-2
+    same-length-3
+    returns-2
+    same-length-4
+    same-length-5
+    same-length-6
+    returns-3)

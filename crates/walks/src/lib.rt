@@ -1,0 +1,94 @@
+// The walk check: question 10, and the whole check of a sheet that is handed over as numbers.
+ghost use mathlib.Core.Path.{_≡_};
+ghost use Prim.Native.Nat.{_≤_};
+ghost use Rattle.automaton.specs.Automaton.{automaton};
+ghost use Rattle.automaton.specs.Meeting.{Everywhere};
+ghost use Rattle.automaton.specs.Lent.{tables, clearedTables};
+ghost use Rattle.meeting.specs.Answer.{Zero, Asked, Answered};
+ghost use Rattle.walks.specs.Check.{Lengths, Checks, Judges};
+use automaton::Numbers;
+use gate::Refusal;
+
+// Accepted, or refused with the number of the first question that is answered no.
+pub enum Checked {
+    Refused(Refusal),
+    Free,
+}
+
+// Question 10, for callers that have asked the questions before it and cleared the tables:
+// 0 for yes, or the length of a shortest word with meeting walks, with the word and two such walks in the tables.
+pub fn ask(a: Numbers, table: &[u16], word: &mut [u16], one: &mut [u16], other: &mut [u16]) -> usize
+    requires { ⌜ Asked (automaton a (now table)) (tables (now word) (now one) (now other)) ⌝ }
+    ensures { λ r. ⌜ Answered (automaton a (now (table .entry))) Everywhere (tables (now (word .entry)) (now (one .entry)) (now (other .entry))) (tables (now (word .exit)) (now (one .exit)) (now (other .exit))) r ⌝ }
+{
+    meeting::search(a, table, 65535, word, one, other)
+}
+
+// Questions 4, 7, 8 and 10, in tables that are long enough and all zero.
+fn judge(a: Numbers, table: &[u16], word: &mut [u16], one: &mut [u16], other: &mut [u16]) -> Checked
+    requires { ⌜ Lengths (automaton a (now table)) (tables (now word) (now one) (now other)) × Zero (now word) × Zero (now one) × Zero (now other) ⌝ }
+    ensures { λ r. ⌜ Judges (automaton a (now (table .entry))) (tables (now (word .entry)) (now (one .entry)) (now (other .entry))) (tables (now (word .exit)) (now (one .exit)) (now (other .exit))) r ⌝ }
+{
+    let number = automaton::first_no(a, table);
+    if number != 0 {
+        return Checked::Refused(Refusal {
+            number,
+            line: 0,
+            length: 0,
+        });
+    }
+    let length = ask(a, table, word, one, other);
+    if length == 0 {
+        return Checked::Free;
+    }
+    Checked::Refused(Refusal {
+        number: 10,
+        line: 0,
+        length,
+    })
+}
+
+// Questions 1, 4, 7, 8 and 10 on a sheet as numbers, with line 0. Question 1 touches nothing; with 10 the tables hold
+// a shortest word with meeting walks, with zeros behind, and with every other answer they are all zero.
+pub fn check(
+    a: Numbers,
+    table: &[u16],
+    word: &mut [u16],
+    one: &mut [u16],
+    other: &mut [u16],
+) -> Checked
+    ensures { λ r. ⌜ Checks (automaton a (now (table .entry))) (tables (now (word .entry)) (now (one .entry)) (now (other .entry))) (tables (now (word .exit)) (now (one .exit)) (now (other .exit))) r ⌝ }
+{
+    if table.len() < 128 {
+        return Checked::Refused(Refusal {
+            number: 1,
+            line: 0,
+            length: 0,
+        });
+    }
+    if word.len() < 136 {
+        return Checked::Refused(Refusal {
+            number: 1,
+            line: 0,
+            length: 0,
+        });
+    }
+    if one.len() < 137 {
+        return Checked::Refused(Refusal {
+            number: 1,
+            line: 0,
+            length: 0,
+        });
+    }
+    if other.len() < 137 {
+        return Checked::Refused(Refusal {
+            number: 1,
+            line: 0,
+            length: 0,
+        });
+    }
+    gate::clear(word);
+    gate::clear(one);
+    gate::clear(other);
+    judge(a, table, word, one, other)
+}
