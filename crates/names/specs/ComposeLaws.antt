@@ -13,7 +13,7 @@ use native.Mathlib.Omega.{arith}
 use Rattle.text.specs.Bytes.{stretch}
 use Rattle.text.specs.BytesLaws.{stretch-none, stretch-cons, stretch-length, stretch-at}
 use Rattle.text.specs.Choice.{choose}
-use Rattle.text.specs.ChoiceLaws.{lt-or-ge, both, neither, true-is-not-false}
+use Rattle.text.specs.ChoiceLaws.{lt-or-ge, both, neither}
 use Rattle.names.specs.Name.{isVowel, umlautOf, compose}
 use Rattle.names.specs.Row.{diaeresisAt}
 
@@ -43,10 +43,6 @@ and-choose : (t u v : Bool) → choose t (choose u v false) false ≡ t && (u &&
 and-choose true true v = refl
 and-choose true false v = refl
 and-choose false u v = refl
-
-pub and-both : (t u : Bool) → t && u ≡ true → (t ≡ true) × (u ≡ true)
-and-both true u e = (refl, e)
-and-both false u e = absurd (true-is-not-false (sym e))
 
 -- THE SAME OF A STRETCH
 module _ (s : List ℕ) (i e : ℕ) (l : i < e) (fits : e ≤ length s) where

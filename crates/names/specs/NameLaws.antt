@@ -1,8 +1,8 @@
 -- What holds of names and of composing. Assumes nothing.
 use Prim.Native.Nat.{ℕ, _+_, _<_, _≤_}
-use mathlib.Core.Path.{_≡_, refl, sym, _∙_, ap, subst}
+use mathlib.Core.Path.{_≡_, refl, sym, _∙_, ap}
 use mathlib.Core.Bool.{Bool, true, false, _&&_}
-use mathlib.Core.List.{List, [], _∷_, _++_, map, append-nil}
+use mathlib.Core.List.{List, [], _∷_, _++_, map}
 use lib.ListN.{length, getD}
 use lib.Dec.{eqb}
 use borrow.Author.Tests.{ne-eqb}
@@ -11,7 +11,7 @@ use Rattle.text.specs.Choice.{choose}
 use Rattle.text.specs.Word.{without}
 use Rattle.names.specs.Name.{isUmlaut, isVowel, umlautOf, Part, RightPart, RightParts, partBytes, nameBytes, IsName, composedPart, compose}
 use Rattle.names.specs.Name.Part.{plain, composed, decomposed}
-use Rattle.names.specs.PartLaws.{holds, no-vowel, umlaut-range, umlaut-of, composed-right, NoMark, no-mark, parts-unique, parts-without}
+use Rattle.names.specs.PartLaws.{holds, no-vowel, umlaut-range, umlaut-of, composed-right, NoMark, no-mark-end, parts-unique, parts-without}
 use Rattle.names.specs.ComposeLaws.{mark, diaeresis, compose-keep, compose-vowel}
 
 -- COMPOSING PART BY PART
@@ -36,8 +36,7 @@ pub compose-parts : (ps : List Part) → RightParts ps → compose (nameBytes ps
 unfolding nameBytes compose
 compose-parts [] r = refl
 compose-parts (p ∷ ps) r =
-    let n : NoMark (nameBytes ps) = subst NoMark (append-nil (nameBytes ps)) (no-mark ps [] (r .1) (λ e. omega arith)) in
-    compose-part p (nameBytes ps) (r .0) n ∙ ap (λ (y : List ℕ). partBytes (composedPart p) ++ y) (compose-parts ps (r .1))
+    compose-part p (nameBytes ps) (r .0) (no-mark-end ps (r .1)) ∙ ap (λ (y : List ℕ). partBytes (composedPart p) ++ y) (compose-parts ps (r .1))
 
 pub composed-rights : (ps : List Part) → RightParts ps → RightParts (map composedPart ps)
 composed-rights [] r = tt

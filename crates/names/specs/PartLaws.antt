@@ -136,7 +136,7 @@ some-bytes (plain b) x e = let z : _≡_ {A = ℕ} 0 1 = cc in omega arith
 some-bytes (composed c) x e = let z : _≡_ {A = ℕ} 0 1 = cc in omega arith
 some-bytes (decomposed v) x e = let z : _≡_ {A = ℕ} 0 1 = cc in omega arith
 
-no-mark-end : (ps : List Part) → RightParts ps → NoMark (nameBytes ps)
+pub no-mark-end : (ps : List Part) → RightParts ps → NoMark (nameBytes ps)
 no-mark-end ps r = subst NoMark (append-nil (nameBytes ps)) (no-mark ps [] r (λ e. omega arith))
 
 pub parts-unique : (ps qs : List Part) → RightParts ps → RightParts qs → nameBytes ps ≡ nameBytes qs → ps ≡ qs

@@ -1,4 +1,4 @@
--- Composed names in rows of 24 cells.
+-- A stretch of a file, composed into a row of 24 cells.
 use Prim.Native.Nat.{ℕ, _+_, _-_, _≤_}
 use mathlib.Core.Bool.{Bool, false}
 use mathlib.Core.List.{List, _++_}

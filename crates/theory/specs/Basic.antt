@@ -1,16 +1,17 @@
--- Section 0, lemmas L1 to L5: where a state comes from, ranks, and what a bound on the colour says of the places below.
+-- docs/THEORY.md, section 0, lemmas L1 to L5: where a state comes from, ranks, and what a bound on the colour says of the places below.
 use Prim.Native.Nat.{ℕ, zero, suc, _+_, _*_, _≤_, _<_}
 use mathlib.Core.Path.{_≡_}
 use mathlib.Core.Logic.{_⊎_, inl, inr}
 use native.Mathlib.Omega.{arith}
 use native.Mathlib.Decide.{decLe, decLt, ℕ-discrete}
-use Rattle.finite.specs.Finite.{trace}
+use Rattle.finite.specs.Finite.{glue, glue-lt, glue-ge, joined, trace}
 use Rattle.theory.specs.Run.{Some, None, Run, Path}
 
 pub at-place : (X : ℕ → ℕ → ℕ → Type 0) {t j k q : ℕ} → j ≡ k → X t j q → X t k q
 at-place X {t} {j} {k} {q} e x = rw (← e) x
 
-module _ {n : ℕ} {E M S U W : ℕ → ℕ → ℕ → Type 0} {K : ℕ → ℕ → Type 0} {p col : ℕ → ℕ} {rank : ℕ → ℕ → ℕ} (R : Run n E M S U W K p col rank) where
+module _ {n : ℕ} {E M S U W : ℕ → ℕ → ℕ → Type 0} {K : ℕ → ℕ → Type 0} {p col : ℕ → ℕ} {rank : ℕ → ℕ → ℕ}
+    (R : Run n E M S U W K p col rank) where
   -- where a state comes from
   pub origin : (t j r : ℕ) → U t j r → ((q : ℕ) × S t j q × E t q r) ⊎ ((q : ℕ) × S t 0 q × M t q r)
   origin t j r u = by (decLt j (p t))
@@ -20,7 +21,7 @@ module _ {n : ℕ} {E M S U W : ℕ → ℕ → ℕ → Type 0} {K : ℕ → ℕ
       by (no l) = inr (R .new⁻ t r (at-place U (let m : j ≤ p t = R .none t j r u in omega arith) u))
 
   -- L1: set 0 loses nothing
-  pub zero-step : (t q r : ℕ) → S t 0 q → E t q r → S (suc t) 0 r
+  zero-step : (t q r : ℕ) → S t 0 q → E t q r → S (suc t) 0 r
   zero-step t q r s e = by (R .gone t 0 r (R .old t 0 q r s e))
     where
       by : W t 0 r ⊎ ((i : ℕ) × (i < 0) × K t i × W t i r) → S (suc t) 0 r
@@ -39,7 +40,7 @@ module _ {n : ℕ} {E M S U W : ℕ → ℕ → ℕ → Type 0} {K : ℕ → ℕ
   inside zero k q s = at-place S (R .first k q s) s
   inside (suc t) k q s = let (x, a, b) = pred-of t (inside t) k q s in zero-step t x q a b
 
-  pub pred : (t k r : ℕ) → S (suc t) k r → (q : ℕ) × S t 0 q × E t q r
+  pred : (t k r : ℕ) → S (suc t) k r → (q : ℕ) × S t 0 q × E t q r
   pred t k r s = pred-of t (inside t) k r s
 
   -- L2: set 0 is exactly the set of states that paths from the first tuple's set 0 reach
@@ -51,6 +52,15 @@ module _ {n : ℕ} {E M S U W : ℕ → ℕ → ℕ → Type 0} {K : ℕ → ℕ
   pub reaches : (t : ℕ) (x : ℕ → ℕ) → S 0 0 (x 0) → ((s : ℕ) → s < t → E s (x s) (x (suc s))) → S t 0 (x t)
   reaches zero x h goes = h
   reaches (suc t) x h goes = zero-step t (x t) (x (suc t)) (reaches t x h (λ s l. goes s (omega arith))) (goes t (omega arith))
+
+  -- so a path from time A on, from a state of set 0, goes on from one that starts at time 0
+  pub lead-in : (A : ℕ) (f : ℕ → ℕ) → 0 < A → S A 0 (f A)
+      → (g : ℕ → ℕ) × S 0 0 (g 0) × ((s : ℕ) → A ≤ s → g s ≡ f s)
+      × ((u : ℕ) → ((s : ℕ) → A ≤ s → s < u → E s (f s) (f (suc s))) → (s : ℕ) → s < u → E s (g s) (g (suc s)))
+  lead-in A f l h =
+      let (x, e, first, goes) = reached A (f A) h in
+      let start : glue x f A 0 ≡ x 0 = glue-lt x f A 0 l in
+      (glue x f A, rw start first, glue-ge x f A, λ u more. joined E x f A u e goes more)
 
   -- L3: ranks
   pub rank-le : (t j : ℕ) → rank t j ≤ j
@@ -72,7 +82,7 @@ module _ {n : ℕ} {E M S U W : ℕ → ℕ → ℕ → Type 0} {K : ℕ → ℕ
       by (inl s) = let e = R .rank-some t j s in omega arith
       by (inr s) = let e = R .rank-none t j s in omega arith
 
-  pub rank-up : (t i j : ℕ) → i ≤ j → rank t i ≤ rank t j
+  rank-up : (t i j : ℕ) → i ≤ j → rank t i ≤ rank t j
   rank-up t i zero l = let e : i ≡ 0 = omega arith in rw e (omega arith)
   rank-up t i (suc j) l = by (decLe i j) (λ m. rank-up t i j m)
     where

@@ -1,15 +1,15 @@
--- Section 3 (ii): for any endless word, with the premise LPO, there is a path through place i, and a least colour entered without end.
+-- docs/THEORY.md, section 3 (ii): for any endless word, with the premise LPO, there is a path through place i, and a least colour entered without end.
 use Prim.Native.Nat.{ℕ, zero, suc, _+_, _*_, _-_, _≤_, _<_}
-use mathlib.Core.Path.{_≡_, refl, sym, _∙_, subst}
+use mathlib.Core.Path.{_≡_, refl, sym, subst}
 use mathlib.Core.Logic.{_⊎_, inl, inr}
 use native.Mathlib.Omega.{arith}
-use native.Mathlib.Decide.{ℕ-discrete, le-ind}
+use native.Mathlib.Decide.{ℕ-discrete}
 use mathlib.Core.Bool.{Bool, true, false}
 use lib.Dec.{T}
-use Rattle.finite.specs.Finite.{find, glue, glue-lt, glue-ge, joined, trace}
+use Rattle.finite.specs.Finite.{find}
 use Rattle.theory.specs.Run.{Run, Path, Least}
-use Rattle.theory.specs.Basic.{inside, pred, holds}
-use Rattle.theory.specs.Even.{Through, marked-front, front-keeps, back}
+use Rattle.theory.specs.Basic.{inside, lead-in}
+use Rattle.theory.specs.Even.{Through, path-inside}
 
 -- an endless row of yes and no either holds a yes or holds none
 pub LPO : Type 0
@@ -30,7 +30,7 @@ bool-of (yes x) h = tt
 bool-of (no x) h = absurd (x h)
 
 -- the same for a row of decidable statements
-pub lpo : LPO → (P : ℕ → Type 0) → ((k : ℕ) → Dec (P k)) → ((k : ℕ) × P k) ⊎ ((k : ℕ) → P k → ⊥)
+lpo : LPO → (P : ℕ → Type 0) → ((k : ℕ) → Dec (P k)) → ((k : ℕ) × P k) ⊎ ((k : ℕ) → P k → ⊥)
 unfolding LPO
 lpo h P d = by (h (λ k. bool (d k)))
   where
@@ -39,9 +39,13 @@ lpo h P d = by (h (λ k. bool (d k)))
     by (inr x) = inr (λ k y. x k (bool-of (d k) y))
 
 -- bounds for each of n things: one bound for all
-pub bound : (n : ℕ) (Q : ℕ → ℕ → Type 0) → ((r d e : ℕ) → d ≤ e → Q r d → Q r e) → ((r : ℕ) → r < n → (d : ℕ) × Q r d) → (d : ℕ) × ((r : ℕ) → r < n → Q r d)
+bound : (n : ℕ) (Q : ℕ → ℕ → Type 0) → ((r d e : ℕ) → d ≤ e → Q r d → Q r e) → ((r : ℕ) → r < n → (d : ℕ) × Q r d)
+    → (d : ℕ) × ((r : ℕ) → r < n → Q r d)
 bound zero Q up h = (0, λ r l. absurd (omega arith))
-bound (suc n) Q up h = let (d, x) = bound n Q up (λ r l. h r (omega arith)) in let (e, y) = h n (omega arith) in (d + e, λ r l. by d e x y r l (ℕ-discrete r n))
+bound (suc n) Q up h =
+    let (d, x) = bound n Q up (λ r l. h r (omega arith)) in
+    let (e, y) = h n (omega arith) in
+    (d + e, λ r l. by d e x y r l (ℕ-discrete r n))
   where
     by : (d e : ℕ) → ((r : ℕ) → r < n → Q r d) → Q n e → (r : ℕ) → r < suc n → Dec (r ≡ n) → Q r (d + e)
     by d e x y r l (yes z) = rw z (up n e (d + e) (omega arith) y)
@@ -50,7 +54,7 @@ bound (suc n) Q up h = let (d, x) = bound n Q up (λ r l. h r (omega arith)) in 
 -- König: in a graph with n states a step
 module _ (h : LPO) (n : ℕ) (E : ℕ → ℕ → ℕ → Type 0) (decE : (t q r : ℕ) → Dec (E t q r)) where
   -- a path of d steps from q at time t
-  abbrev pub Alive : ℕ → ℕ → ℕ → Type 0
+  abbrev Alive : ℕ → ℕ → ℕ → Type 0
   Alive zero t q = Unit {0}
   Alive (suc d) t q = (r : ℕ) × (r < n) × E t q r × Alive d (suc t) r
 
@@ -63,7 +67,8 @@ module _ (h : LPO) (n : ℕ) (E : ℕ → ℕ → ℕ → Type 0) (decE : (t q r
       both (yes x) (no y) = no (λ z. y (z .1))
       both (no x) y = no (λ z. x (z .0))
 
-      by : ((r : ℕ) × (r < n) × (E t q r × Alive d (suc t) r)) ⊎ ((r : ℕ) → r < n → E t q r × Alive d (suc t) r → ⊥) → Dec ((r : ℕ) × (r < n) × E t q r × Alive d (suc t) r)
+      by : ((r : ℕ) × (r < n) × (E t q r × Alive d (suc t) r)) ⊎ ((r : ℕ) → r < n → E t q r × Alive d (suc t) r → ⊥)
+          → Dec ((r : ℕ) × (r < n) × E t q r × Alive d (suc t) r)
       by (inl (r, l, x)) = yes (r, l, x .0, x .1)
       by (inr x) = no (λ (r, l, e, a). x r l (e, a))
 
@@ -72,7 +77,7 @@ module _ (h : LPO) (n : ℕ) (E : ℕ → ℕ → ℕ → Type 0) (decE : (t q r
   less (suc d) zero t q l a = absurd (omega arith)
   less (suc d) (suc e) t q l (r, m, x, y) = (r, m, x, less d e (suc t) r (omega arith) y)
 
-  abbrev pub Forever : ℕ → ℕ → Type 0
+  abbrev Forever : ℕ → ℕ → Type 0
   Forever t q = (d : ℕ) → Alive d t q
 
   forever? : (t q : ℕ) → Forever t q ⊎ ((d : ℕ) × (Alive d t q → ⊥))
@@ -91,7 +96,8 @@ module _ (h : LPO) (n : ℕ) (E : ℕ → ℕ → ℕ → Type 0) (decE : (t q r
       by (inr x) = inl (λ d. pos d (x d) (decAlive d t q))
 
   -- of finitely many states, some of which is alive for each d, one is alive for ever
-  pub some-forever : (t : ℕ) (Z : ℕ → Type 0) → ((q : ℕ) → Dec (Z q)) → ((d : ℕ) → (q : ℕ) × (q < n) × Z q × Alive d t q) → (q : ℕ) × Z q × Forever t q
+  some-forever : (t : ℕ) (Z : ℕ → Type 0) → ((q : ℕ) → Dec (Z q)) → ((d : ℕ) → (q : ℕ) × (q < n) × Z q × Alive d t q)
+      → (q : ℕ) × Z q × Forever t q
   some-forever t Z decZ each = by (find (λ q. Z q × Forever t q) (λ q. both (decZ q) (forever? t q)) n)
     where
       both : {q : ℕ} → Dec (Z q) → Forever t q ⊎ ((d : ℕ) × (Alive d t q → ⊥)) → Dec (Z q × Forever t q)
@@ -110,7 +116,7 @@ module _ (h : LPO) (n : ℕ) (E : ℕ → ℕ → ℕ → Type 0) (decE : (t q r
           let (q, l, z, a) = each d in
           absurd (x q l z a)
 
-  pub next : (t q : ℕ) → Forever t q → (r : ℕ) × E t q r × Forever (suc t) r
+  next : (t q : ℕ) → Forever t q → (r : ℕ) × E t q r × Forever (suc t) r
   next t q a = some-forever (suc t) (λ r. E t q r) (decE t q) (λ d. a (suc d))
 
   abbrev At : Type 0
@@ -129,10 +135,7 @@ module _ (h : LPO) (n : ℕ) (E : ℕ → ℕ → ℕ → Type 0) (decE : (t q r
     time zero = omega arith
     time (suc k) = let e = time k in omega arith
 
-    orbit : ℕ → ℕ
-    orbit s = iter (s - A) .1
-
-    pub endless : (f : ℕ → ℕ) × (f A ≡ q) × ((s : ℕ) → A ≤ s → E s (f s) (f (suc s)))
+    endless : (f : ℕ → ℕ) × (f A ≡ q) × ((s : ℕ) → A ≤ s → E s (f s) (f (suc s)))
     unfolding iter go
     endless = (λ s. iter (s - A) .1, (let e : A - A ≡ 0 = omega arith in rw e), λ s l. step s l (s - A) refl)
       where
@@ -142,35 +145,42 @@ module _ (h : LPO) (n : ℕ) (E : ℕ → ℕ → ℕ → Type 0) (decE : (t q r
             let e' : suc s - A ≡ suc k = omega arith in
             rw (e, e') (subst (λ z. E z (iter k .1) (iter (suc k) .1)) t (next (iter k .0) (iter k .1) (iter k .2) .1))
 
-  pub path-alive : (d t : ℕ) (f : ℕ → ℕ) → ((s : ℕ) → t ≤ s → s ≤ t + d → f s < n) → ((s : ℕ) → t ≤ s → s < t + d → E s (f s) (f (suc s))) → Alive d t (f t)
+  path-alive : (d t : ℕ) (f : ℕ → ℕ) → ((s : ℕ) → t ≤ s → s ≤ t + d → f s < n) → ((s : ℕ) → t ≤ s → s < t + d → E s (f s) (f (suc s)))
+      → Alive d t (f t)
   path-alive zero t f b e = tt
-  path-alive (suc d) t f b e = (f (suc t), b (suc t) (omega arith) (omega arith), e t (omega arith) (omega arith), path-alive d (suc t) f (λ s x y. b s (omega arith) (omega arith)) (λ s x y. e s (omega arith) (omega arith)))
+  path-alive (suc d) t f b e = (
+    f (suc t),
+    b (suc t) (omega arith) (omega arith),
+    e t (omega arith) (omega arith),
+    path-alive d (suc t) f (λ s x y. b s (omega arith) (omega arith)) (λ s x y. e s (omega arith) (omega arith)),
+  )
 
-module _ (h : LPO) {n : ℕ} {E M S U W : ℕ → ℕ → ℕ → Type 0} {K : ℕ → ℕ → Type 0} {p col : ℕ → ℕ} {rank : ℕ → ℕ → ℕ} (R : Run n E M S U W K p col rank)
-    (decE : (t q r : ℕ) → Dec (E t q r)) (decS : (t j q : ℕ) → Dec (S t j q)) where
+module _ (h : LPO) {n : ℕ} {E M S U W : ℕ → ℕ → ℕ → Type 0} {K : ℕ → ℕ → Type 0} {p col : ℕ → ℕ} {rank : ℕ → ℕ → ℕ}
+    (R : Run n E M S U W K p col rank) (decE : (t q r : ℕ) → Dec (E t q r)) (decS : (t j q : ℕ) → Dec (S t j q)) where
   module _ (i T : ℕ) (c : (t : ℕ) → T ≤ t → 2 * i + 2 ≤ col t) (t₀ : ℕ) (late : T ≤ t₀) (k₀ : K t₀ i) where
-    fronts : (u : ℕ) → t₀ ≤ u → i < p u
-    fronts u l = le-ind (λ v. i < p v) (marked-front R i T c t₀ k₀) (λ v x y. front-keeps R i T c v (omega arith) y) u l
+    -- for each d some state of place i is alive for d steps, so one is alive for ever
+    some-alive : (q : ℕ) × S (suc t₀) i q × Forever h n E decE (suc t₀) q
+    some-alive =
+        some-forever h n E decE (suc t₀) (S (suc t₀) i) (decS (suc t₀) i)
+        (λ d. let (f, sets, goes) = path-inside R i T c t₀ late k₀ (suc t₀ + d) (omega arith) in alive d f sets goes)
+      where
+        alive : (d : ℕ) (f : ℕ → ℕ) → ((s : ℕ) → t₀ < s → s ≤ suc t₀ + d → S s i (f s))
+            → ((s : ℕ) → t₀ < s → s < suc t₀ + d → E s (f s) (f (suc s)))
+            → (q : ℕ) × (q < n) × S (suc t₀) i q × Alive h n E decE d (suc t₀) q
+        alive d f sets goes =
+            let s = sets (suc t₀) (omega arith) (omega arith) in
+            let below : (s : ℕ) → suc t₀ ≤ s → s ≤ suc t₀ + d → f s < n = λ s x y. R .state s i (f s) (sets s x y) in
+            (f (suc t₀), R .state (suc t₀) i (f (suc t₀)) s, s, path-alive h n E decE d (suc t₀) f below goes)
 
     exists : (ξ : ℕ → ℕ) × Path E S ξ × S (suc t₀) i (ξ (suc t₀))
-    exists =
-        let A = suc t₀ in
-        let (q, s, a) = some-forever h n E decE A (S A i) (decS A i) (λ d.
-        let (r, s) = R .full (suc t₀ + d) i (fronts (suc t₀ + d) (omega arith)) in
-        let (f, fu, zs, es) = trace E (λ t x. S t i x) (suc t₀) (λ t r a s. back R i T c t r (omega arith) (fronts t (omega arith)) s) (suc t₀ + d) (omega arith) r s in
-        let z = zs (suc t₀) (omega arith) (omega arith) in
-        (f (suc t₀), R .state (suc t₀) i (f (suc t₀)) z, z, path-alive h n E decE d (suc t₀) f (λ s x y. R .state s i (f s) (zs s x y)) es)) in
-        let (f, e, es) = endless h n E decE A q a in
-        let (g, gu, gz, ge) = trace E (λ t x. S t 0 x) 0 (λ t r x y. pred R t 0 r y) A (omega arith) q (inside R A i q s) in
-        let w0 : glue g f A 0 ≡ g 0 = glue-lt g f A 0 (omega arith) in
-        let wA : glue g f A A ≡ f A = glue-ge g f A A (omega arith) in (
-          glue g f A,
-          record {
-            starts = rw w0 (gz 0 (omega arith) (omega arith));
-            goes = λ t. joined E g f A (suc t) (gu ∙ sym e) (λ s l. ge s (omega arith) l) (λ s l m. es s l) t (omega arith);
-          },
-          rw (wA ∙ e) s,
-        )
+    exists = let (q, s, a) = some-alive in let (f, e, goes) = endless h n E decE (suc t₀) q a in by f (subst (S (suc t₀) i) (sym e) s) goes
+      where
+        by : (f : ℕ → ℕ) → S (suc t₀) i (f (suc t₀)) → ((s : ℕ) → suc t₀ ≤ s → E s (f s) (f (suc s)))
+            → (ξ : ℕ → ℕ) × Path E S ξ × S (suc t₀) i (ξ (suc t₀))
+        by f s goes =
+            let (g, first, same, join) = lead-in R (suc t₀) f (omega arith) (inside R (suc t₀) i (f (suc t₀)) s) in
+            let path : Path E S g = record { starts = first; goes = λ t. join (suc t) (λ s l m. goes s l) t (omega arith) } in
+            (g, path, subst (S (suc t₀) i) (sym (same (suc t₀) (omega arith))) s)
 
   pub through : Through E S K col
   through i T c marked = let (t₀, l, k) = marked T in let (ξ, h, s) = exists i T c t₀ l k in (ξ, suc t₀, h, omega arith, s)
@@ -186,11 +196,13 @@ module _ (h : LPO) {n : ℕ} {E M S U W : ℕ → ℕ → ℕ → Type 0} {K : �
       dec t (inl (k, e)) = no (λ f. f k e)
       dec t (inr f) = yes f
 
-      there : (t : ℕ) → (((k : ℕ) → col (t + k) ≡ c → ⊥) → ⊥) → ((k : ℕ) × (col (t + k) ≡ c)) ⊎ ((k : ℕ) → col (t + k) ≡ c → ⊥) → (u : ℕ) × (t ≤ u) × (col u ≡ c)
+      there : (t : ℕ) → (((k : ℕ) → col (t + k) ≡ c → ⊥) → ⊥) → ((k : ℕ) × (col (t + k) ≡ c)) ⊎ ((k : ℕ) → col (t + k) ≡ c → ⊥)
+          → (u : ℕ) × (t ≤ u) × (col u ≡ c)
       there t g (inl (k, e)) = (t + k, omega arith, e)
       there t g (inr f) = absurd (g f)
 
-      by : ((t : ℕ) × ((k : ℕ) → col (t + k) ≡ c → ⊥)) ⊎ ((t : ℕ) → ((k : ℕ) → col (t + k) ≡ c → ⊥) → ⊥) → ((t : ℕ) → (u : ℕ) × (t ≤ u) × (col u ≡ c)) ⊎ ((T : ℕ) × ((t : ℕ) → T ≤ t → col t ≡ c → ⊥))
+      by : ((t : ℕ) × ((k : ℕ) → col (t + k) ≡ c → ⊥)) ⊎ ((t : ℕ) → ((k : ℕ) → col (t + k) ≡ c → ⊥) → ⊥)
+          → ((t : ℕ) → (u : ℕ) × (t ≤ u) × (col u ≡ c)) ⊎ ((T : ℕ) × ((t : ℕ) → T ≤ t → col t ≡ c → ⊥))
       by (inl (T, f)) = inr (T, λ t l e. f (t - T) (let x : T + (t - T) ≡ t = omega arith in rw x e))
       by (inr g) = inl (λ t. there t (g t) (seen t))
 
@@ -198,7 +210,8 @@ module _ (h : LPO) {n : ℕ} {E M S U W : ℕ → ℕ → ℕ → Type 0} {K : �
   climb zero k e T low = absurd (let a = low T (omega arith) in let b = R .col-top T in omega arith)
   climb (suc f) k e T low = by (recurs? k) (λ T' l. climb f (suc k) (omega arith) T' l)
     where
-      by : ((t : ℕ) → (u : ℕ) × (t ≤ u) × (col u ≡ k)) ⊎ ((T : ℕ) × ((t : ℕ) → T ≤ t → col t ≡ k → ⊥)) → ((T' : ℕ) → ((t : ℕ) → T' ≤ t → suc k ≤ col t) → (c : ℕ) × Least col c) → (c : ℕ) × Least col c
+      by : ((t : ℕ) → (u : ℕ) × (t ≤ u) × (col u ≡ k)) ⊎ ((T : ℕ) × ((t : ℕ) → T ≤ t → col t ≡ k → ⊥))
+          → ((T' : ℕ) → ((t : ℕ) → T' ≤ t → suc k ≤ col t) → (c : ℕ) × Least col c) → (c : ℕ) × Least col c
       by (inl o) ih = (k, record { often = o; from = T; low = low })
       by (inr (T', f)) ih = ih (T + T') (λ t l. let a = low t (omega arith) in let b = f t (omega arith) in omega arith)
 

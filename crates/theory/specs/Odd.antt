@@ -1,4 +1,4 @@
--- Section 1: where any path at all takes recurrent transitions without end, the least colour entered without end is not odd.
+-- docs/THEORY.md, section 1: where any path at all takes recurrent transitions without end, the least colour entered without end is not odd.
 -- Meeting walks play no part.
 use Prim.Native.Nat.{ℕ, zero, suc, _+_, _*_, _-_, _≤_, _<_}
 use mathlib.Core.Path.{_≡_}
@@ -8,16 +8,17 @@ use native.Mathlib.Decide.{ℕ-discrete, le-ind}
 use Rattle.theory.specs.Run.{None, Run, Path, Often}
 use Rattle.theory.specs.Basic.{rank-le, rank-gap, Fulls, rank-ge, holds, keeps, p-keeps, in-zero, zero-stays}
 
-module _ {n : ℕ} {E M S U W : ℕ → ℕ → ℕ → Type 0} {K : ℕ → ℕ → Type 0} {p col : ℕ → ℕ} {rank : ℕ → ℕ → ℕ} (R : Run n E M S U W K p col rank) where
+module _ {n : ℕ} {E M S U W : ℕ → ℕ → ℕ → Type 0} {K : ℕ → ℕ → Type 0} {p col : ℕ → ℕ} {rank : ℕ → ℕ → ℕ}
+    (R : Run n E M S U W K p col rank) where
   -- (a) one step of a path that is in a place from i on: its place does not rise, and falls where place i is emptied
-  pub advance : (t i k q r : ℕ) → 2 * i + 1 ≤ col t → i ≤ k → S t k q → E t q r → (k' : ℕ) × (i ≤ k') × (k' ≤ k) × S (suc t) k' r
+  advance : (t i k q r : ℕ) → 2 * i + 1 ≤ col t → i ≤ k → S t k q → E t q r → (k' : ℕ) × (i ≤ k') × (k' ≤ k) × S (suc t) k' r
   advance t i k q r c l s e =
       let f : k < p t = R .front t k q s in
       let (j, a, b, w) = keeps R t i k r c l (R .old t k q r s e) in
       let h : Fulls R t i = holds R t i (omega arith) (omega arith) in
       (rank t j, rank-ge R t i j h a, (let m = rank-le R t j in omega arith), R .move t j r w)
 
-  pub descend : (t i k q r : ℕ) → 2 * i + 1 ≤ col t → i ≤ k → None (W t i) → S t k q → E t q r → (k' : ℕ) × (i ≤ k') × (k' < k) × S (suc t) k' r
+  descend : (t i k q r : ℕ) → 2 * i + 1 ≤ col t → i ≤ k → None (W t i) → S t k q → E t q r → (k' : ℕ) × (i ≤ k') × (k' < k) × S (suc t) k' r
   descend t i k q r c l z s e =
       let f : k < p t = R .front t k q s in
       let (j, a, b, w) = keeps R t i k r c l (R .old t k q r s e) in
@@ -32,7 +33,9 @@ module _ {n : ℕ} {E M S U W : ℕ → ℕ → ℕ → Type 0} {K : ℕ → ℕ
   module _ (i T : ℕ) (c : (t : ℕ) → T ≤ t → 2 * i + 1 ≤ col t) (ξ : ℕ → ℕ) (h : Path E S ξ) where
     carry : (t k : ℕ) → T ≤ t → i ≤ k → S t k (ξ t) → (u : ℕ) → t ≤ u → (k' : ℕ) × (i ≤ k') × (k' ≤ k) × S u k' (ξ u)
     carry t k a l s u m = le-ind (λ v. (k' : ℕ) × (i ≤ k') × (k' ≤ k) × S v k' (ξ v)) (k, l, omega arith, s)
-        (λ v x (k', y, z, w). let (k'', y', z', w') = advance v i k' (ξ v) (ξ (suc v)) (c v (omega arith)) y w (h .goes v) in (k'', y', omega arith, w')) u m
+        (λ v x (k', y, z, w).
+        let (k'', y', z', w') = advance v i k' (ξ v) (ξ (suc v)) (c v (omega arith)) y w (h .goes v) in
+        (k'', y', omega arith, w')) u m
 
     -- (d) place i is emptied again and again: the place of the path falls without end
     sink : ((t : ℕ) → (u : ℕ) × (t ≤ u) × None (W u i)) → (f t k : ℕ) → T ≤ t → i ≤ k → k ≤ i + f → S t k (ξ t) → ⊥
@@ -57,7 +60,7 @@ module _ {n : ℕ} {E M S U W : ℕ → ℕ → ℕ → Type 0} {K : ℕ → ℕ
         let g : Fulls R u i = holds R u i (let d = c u a in omega arith) l in
         (rank u j, rank-ge R u i j g y, (let m = rank-le R u j in omega arith), R .move u j (ξ (suc u)) w)
 
-    pub no-emptied : Often M ξ → ((t : ℕ) → (u : ℕ) × (t ≤ u) × None (W u i) × (i < p u)) → ⊥
+    no-emptied : Often M ξ → ((t : ℕ) → (u : ℕ) × (t ≤ u) × None (W u i) × (i < p u)) → ⊥
     no-emptied o empties =
         let (u₀, a, z, l) = empties T in
         let (u, b, x) = o u₀ in
@@ -79,7 +82,7 @@ module _ {n : ℕ} {E M S U W : ℕ → ℕ → ℕ → Type 0} {K : ℕ → ℕ
         let f = R .front (suc u) k' (ξ (suc u)) s in
         (suc u, omega arith, omega arith)
 
-    pub no-neutral : ⊥
+    no-neutral : ⊥
     no-neutral = let (t, a, l) = climb (suc n) in let q = R .room t in omega arith
 
   -- the least colour entered without end is not odd

@@ -1,4 +1,4 @@
--- Sections 4 and 5: the least colour entered without end is even exactly if some path takes recurrent transitions without end.
+-- docs/THEORY.md, sections 4 and 5: the least colour entered without end is even exactly if some path takes recurrent transitions without end.
 use Prim.Native.Nat.{ℕ, suc, _+_, _*_, _-_, _/_, _%_, _≤_}
 use mathlib.Core.Path.{_≡_, _∙_}
 use mathlib.Core.Logic.{_↔_}
@@ -15,7 +15,8 @@ use Rattle.theory.specs.Endless.{LPO, through as through-endless}
 pub least-repeating : (col : ℕ → ℕ) (T d : ℕ) → ((t : ℕ) → T ≤ t → col (t + suc d) ≡ col t) → Least col (lowest col T d)
 least-repeating col T d again = record { often = often col T d again; from = T; low = low col T d again }
 
-module _ {n : ℕ} {E M S U W : ℕ → ℕ → ℕ → Type 0} {K : ℕ → ℕ → Type 0} {p col : ℕ → ℕ} {rank : ℕ → ℕ → ℕ} (R : Run n E M S U W K p col rank) where
+module _ {n : ℕ} {E M S U W : ℕ → ℕ → ℕ → Type 0} {K : ℕ → ℕ → Type 0} {p col : ℕ → ℕ} {rank : ℕ → ℕ → ℕ}
+    (R : Run n E M S U W K p col rank) where
   path-even : (c : ℕ) → Least col c → (ξ : ℕ → ℕ) → Path E S ξ → Often M ξ → c % 2 ≡ 0
   path-even c least ξ h o = by (ℕ-discrete (c % 2) 0)
     where
@@ -31,7 +32,8 @@ module _ {n : ℕ} {E M S U W : ℕ → ℕ → ℕ → Type 0} {K : ℕ → ℕ
       let pc = R .col-pos u₀ in
       let ci : c ≡ 2 * (c / 2 - 1) + 2 = omega arith in
       let lo : (t : ℕ) → least .from ≤ t → 2 * (c / 2 - 1) + 2 ≤ col t = λ t l. (let x = least .low t l in omega arith) in
-      let ks : (t : ℕ) → (u : ℕ) × (t ≤ u) × K u (c / 2 - 1) = λ t. (let (u, l, e) = least .often t in (u, l, R .col-even u (c / 2 - 1) (e ∙ ci))) in
+      let ks : (t : ℕ) → (u : ℕ) × (t ≤ u) × K u (c / 2 - 1) =
+      λ t. (let (u, l, e) = least .often t in (u, l, R .col-even u (c / 2 - 1) (e ∙ ci))) in
       let (ξ, A, h, a, s) = through (c / 2 - 1) (least .from) lo ks in
       (ξ, h, marks R (c / 2 - 1) (least .from) lo ξ h (alone ξ h) ks A a s)
 

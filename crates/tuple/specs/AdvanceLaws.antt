@@ -25,10 +25,14 @@ module _ (table : List ℕ) (l : ℕ) (cells : List ℕ) (long : setCells < leng
     front h = length-map (take i cells) (successorsOf table l) ∙ length-take-le i cells (omega arith)
 
     pub advance-read : i < setCells → getD result i 0 ≡ getD cells i 0
-    advance-read h = rw (a .replaced, drop-cons cells i 0 (omega arith)) (getD-at (map (successorsOf table l) (take i cells)) (getD cells i 0) (drop (suc i) cells) 0 i (front (omega arith)))
+    advance-read h =
+        rw (a .replaced, drop-cons cells i 0 (omega arith))
+        (getD-at (map (successorsOf table l) (take i cells)) (getD cells i 0) (drop (suc i) cells) 0 i (front (omega arith)))
 
     next-cell : i < setCells → drop i (take setCells cells) ≡ getD cells i 0 ∷ drop (suc i) (take setCells cells)
-    next-cell h = drop-cons (take setCells cells) i 0 (omega (arith, length-take-le setCells cells (omega arith))) ∙ ap (λ (x : ℕ). x ∷ drop (suc i) (take setCells cells)) (getD-take setCells cells i 0 h)
+    next-cell h =
+        drop-cons (take setCells cells) i 0 (omega (arith, length-take-le setCells cells (omega arith)))
+        ∙ ap (λ (x : ℕ). x ∷ drop (suc i) (take setCells cells)) (getD-take setCells cells i 0 h)
 
     stopped : i ≤ setCells → leading (drop i (take setCells cells)) ≡ [] → Advanced table l cells result i
     stopped h e =
@@ -36,22 +40,37 @@ module _ (table : List ℕ) (l : ℕ) (cells : List ℕ) (long : setCells < leng
         record { counted = rw all (sym (length-take-le i cells (omega arith))); replaced = rw all (a .replaced) }
 
     pub advance-stop : i < setCells → getD result i 0 ≡ 0 → Advanced table l cells result i
-    advance-stop h e = stopped (omega arith) (rw (next-cell h) (leading-stop (getD cells i 0) (drop (suc i) (take setCells cells)) (sym (advance-read h) ∙ e)))
+    advance-stop h e =
+        stopped (omega arith)
+        (rw (next-cell h) (leading-stop (getD cells i 0) (drop (suc i) (take setCells cells)) (sym (advance-read h) ∙ e)))
 
     pub advance-end : i ≡ setCells → Advanced table l cells result i
     unfolding leading
-    advance-end e = stopped (omega arith) (let n : length (take setCells cells) ≤ i = omega (arith, length-take-le setCells cells (omega arith)) in rw (drop-of-length-le (take setCells cells) n))
+    advance-end e =
+        let n : length (take setCells cells) ≤ i = omega (arith, length-take-le setCells cells (omega arith)) in
+        stopped (omega arith) (rw (drop-of-length-le (take setCells cells) n))
 
-    pub advance-more : i < setCells → (getD result i 0 ≡ 0 → ⊥) → Advancing table l cells (set result i (successorsOf table l (getD result i 0))) (i + 1)
+    snoc : (s : List ℕ) (x : ℕ) (r : List ℕ)
+        → map (successorsOf table l) s ++ (successorsOf table l x ∷ r) ≡ map (successorsOf table l) (s ++ (x ∷ [])) ++ r
+    snoc [] x r = refl
+    snoc (y ∷ s) x r = ap (λ (t : List ℕ). successorsOf table l y ∷ t) (snoc s x r)
+
+    replaced-more : i < setCells → (x : ℕ) → x ≡ getD cells i 0
+        → set result i (successorsOf table l x) ≡ map (successorsOf table l) (take (i + 1) cells) ++ drop (i + 1) cells
+    replaced-more h x e =
+        let f = successorsOf table l in
+        ap (λ (r : List ℕ). set r i (f x)) (a .replaced ∙ ap (λ (r : List ℕ). map f (take i cells) ++ r) (drop-cons cells i 0 (omega arith)))
+        ∙ set-at (map f (take i cells)) (getD cells i 0) (drop (suc i) cells) (f x) i (front (omega arith))
+        ∙ rw (e, add-one, take-suc cells i 0 (omega arith)) (snoc (take i cells) (getD cells i 0) (drop (suc i) cells))
+
+    pub advance-more : i < setCells → (getD result i 0 ≡ 0 → ⊥)
+        → Advancing table l cells (set result i (successorsOf table l (getD result i 0))) (i + 1)
     advance-more h n =
         let x = getD cells i 0 in
-        let r : getD result i 0 ≡ x = advance-read h in
-        let m : x ≡ 0 → ⊥ = λ e. n (r ∙ e) in
+        let m : x ≡ 0 → ⊥ = λ e. n (advance-read h ∙ e) in
         record {
-          leads = a .leads ∙ rw (next-cell h, leading-more x (drop (suc i) (take setCells cells)) m, add-one, take-suc cells i 0 (omega arith), append-assoc);
-          replaced = rw r (rw (a .replaced, drop-cons cells i 0 (omega arith), set-at (map (successorsOf table l) (take i cells)) x (drop (suc i) cells) (successorsOf table l x) i (front (omega arith)), add-one, take-suc cells i 0 (omega arith)) (snoc (take i cells) x (drop (suc i) cells)));
+          leads =
+              a .leads
+              ∙ rw (next-cell h, leading-more x (drop (suc i) (take setCells cells)) m, add-one, take-suc cells i 0 (omega arith), append-assoc);
+          replaced = replaced-more h (getD result i 0) (advance-read h);
         }
-      where
-        snoc : (s : List ℕ) (x : ℕ) (r : List ℕ) → map (successorsOf table l) s ++ (successorsOf table l x ∷ r) ≡ map (successorsOf table l) (s ++ (x ∷ [])) ++ r
-        snoc [] x r = refl
-        snoc (y ∷ s) x r = ap (λ (t : List ℕ). successorsOf table l y ∷ t) (snoc s x r)

@@ -70,7 +70,7 @@ rank-none (suc j) [] h = refl
 rank-none zero (x ∷ w) h = rw (empty-of (x .states) h)
 rank-none (suc j) (x ∷ w) h = ap (bump (isEmpty (x .states))) (rank-none j w h)
 
-pub rank-mono : (i j : ℕ) (w : List Place) → i ≤ j → rank i w ≤ rank j w
+rank-mono : (i j : ℕ) (w : List Place) → i ≤ j → rank i w ≤ rank j w
 unfolding rank
 rank-mono zero j w l = omega arith
 rank-mono (suc i) zero w l = absurd (omega arith)
@@ -82,7 +82,8 @@ unfolding bump unlessEmpty
 cons-bump true x l k r h = h
 cons-bump false x l k r h = h
 
-uncons : (b : Bool) (x : ℕ) (l : List ℕ) (k r : ℕ) → In (unlessEmpty b x l) k r → ((k ≡ 0) × Member x r) ⊎ ((k' : ℕ) × (k ≡ bump b k') × In l k' r)
+uncons : (b : Bool) (x : ℕ) (l : List ℕ) (k r : ℕ) → In (unlessEmpty b x l) k r
+    → ((k ≡ 0) × Member x r) ⊎ ((k' : ℕ) × (k ≡ bump b k') × In l k' r)
 unfolding bump unlessEmpty
 uncons true x l k r h = inr (k, refl, h)
 uncons false x l zero r h = inl (refl, h)
@@ -99,12 +100,14 @@ unfolding closeUp closed rank
 move⁻ [] k r h = absurd (no-member r h)
 move⁻ (x ∷ w) k r h = by (uncons (isEmpty (x .states)) (x .states) (closeUp w) k r h) (move⁻ w)
   where
-    by : ((k ≡ 0) × Member (x .states) r) ⊎ ((k' : ℕ) × (k ≡ bump (isEmpty (x .states)) k') × In (closeUp w) k' r) → ((k r : ℕ) → In (closeUp w) k r → (j : ℕ) × (k ≡ rank j w) × After w j r)
+    by : ((k ≡ 0) × Member (x .states) r) ⊎ ((k' : ℕ) × (k ≡ bump (isEmpty (x .states)) k') × In (closeUp w) k' r)
+        → ((k r : ℕ) → In (closeUp w) k r → (j : ℕ) × (k ≡ rank j w) × After w j r)
         → (j : ℕ) × (k ≡ rank j (x ∷ w)) × After (x ∷ w) j r
     by (inl (e, a)) ih = (0, e, a)
     by (inr (k', e, a)) ih = let (j, e', a') = ih k' r a in (suc j, e ∙ ap (bump (isEmpty (x .states))) e', a')
 
-cons-full : (b : Bool) (x : ℕ) (l : List ℕ) → (T (not b) → Some (Member x)) → ((j : ℕ) → j < length l → Some (In l j)) → (j : ℕ) → j < length (unlessEmpty b x l) → Some (In (unlessEmpty b x l) j)
+cons-full : (b : Bool) (x : ℕ) (l : List ℕ) → (T (not b) → Some (Member x)) → ((j : ℕ) → j < length l → Some (In l j)) → (j : ℕ)
+    → j < length (unlessEmpty b x l) → Some (In (unlessEmpty b x l) j)
 unfolding unlessEmpty
 cons-full true x l f g j h = g j h
 cons-full false x l f g zero h = f tt

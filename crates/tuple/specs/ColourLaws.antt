@@ -1,6 +1,6 @@
 -- The colour of a step: fact F9 of the theory. Assumes nothing.
 use Prim.Native.Nat.{ℕ, zero, suc, _+_, _≤_, _<_, min}
-use mathlib.Core.Path.{_≡_, refl}
+use mathlib.Core.Path.{_≡_, refl, _∙_}
 use mathlib.Core.Logic.{_⊎_, inl, inr}
 use mathlib.Core.Bool.{Bool, true, false, _&&_}
 use mathlib.Core.List.{List, [], _∷_}
@@ -14,12 +14,11 @@ use Rattle.tuple.specs.Step.{isEmpty, Place, colourAt, least, deadOr, st
 use Rattle.tuple.specs.PassLaws.{After, Marked, and-l, and-r, and-i, none-of}
 use Rattle.tuple.specs.CloseLaws.{empty-of}
 
-min-either : (a b : ℕ) → (min a b ≡ a) ⊎ (min a b ≡ b)
-min-either a b = by (decLe a b)
-  where
-    by : Dec (a ≤ b) → (min a b ≡ a) ⊎ (min a b ≡ b)
-    by (yes l) = inl (omega arith)
-    by (no l) = inr (omega arith)
+-- is the place i, with set and mark after its turn, emptied, where p sets were non-empty before the step
+abbrev isEmptied : ℕ → ℕ → Place → Bool
+isEmptied p i x = isEmpty (x .states) && ltb i p
+
+-- The colour of one place
 
 colour-mark : (n i : ℕ) (m e : Bool) → T m → colourAt n i m e ≡ marked i
 unfolding colourAt
@@ -32,105 +31,122 @@ colour-gone n i true e f h = absurd (f tt)
 colour-gone n i false true f h = refl
 colour-gone n i false false f h = absurd h
 
-colour-source : (n i : ℕ) (m e : Bool) → (T m × (colourAt n i m e ≡ marked i)) ⊎ ((T e × (colourAt n i m e ≡ emptied i)) ⊎ (colourAt n i m e ≡ neutral n))
-unfolding colourAt
-colour-source n i true e = inl (tt, refl)
-colour-source n i false true = inr (inl (tt, refl))
-colour-source n i false false = inr (inr refl)
+-- The least colour is at most that of each place
 
 least-mark : (n p i : ℕ) (w : List Place) (j : ℕ) → Marked w j → least n p i w ≤ marked (i + j)
 unfolding least
 least-mark n p i [] j h = absurd h
-least-mark n p i (x ∷ w) zero h = let a = colour-mark n i (x .mark) (isEmpty (x .states) && ltb i p) h in omega arith
-least-mark n p i (x ∷ w) (suc j) h = let a = least-mark n p (suc i) w j h in omega arith
+least-mark n p i (x ∷ w) zero h = omega (arith, colour-mark n i (x .mark) (isEmptied p i x) h)
+least-mark n p i (x ∷ w) (suc j) h = omega (arith, least-mark n p (suc i) w j h)
 
-least-gone : (n p i : ℕ) (w : List Place) (j : ℕ) → j < length w → (Marked w j → ⊥) → None (After w j) → i + j < p → least n p i w ≤ emptied (i + j)
+least-gone : (n p i : ℕ) (w : List Place) (j : ℕ) → j < length w → (Marked w j → ⊥) → None (After w j) → i + j < p
+    → least n p i w ≤ emptied (i + j)
 unfolding least
 least-gone n p i [] j k f h l = absurd (omega arith)
 least-gone n p i (x ∷ w) zero k f h l =
-    let a = colour-gone n i (x .mark) (isEmpty (x .states) && ltb i p) f (and-i (isEmpty (x .states)) (ltb i p) (rw (empty-of (x .states) h) tt) (lt→ltb i p (omega arith))) in omega arith
-least-gone n p i (x ∷ w) (suc j) k f h l = let a = least-gone n p (suc i) w j (omega arith) f h (omega arith) in omega arith
+    let e : T (isEmptied p i x) = and-i (isEmpty (x .states)) (ltb i p) (rw (empty-of (x .states) h) tt) (lt→ltb i p (omega arith)) in
+    omega (arith, colour-gone n i (x .mark) (isEmptied p i x) f e)
+least-gone n p i (x ∷ w) (suc j) k f h l = omega (arith, least-gone n p (suc i) w j (omega arith) f h (omega arith))
 
 pub least-top : (n p i : ℕ) (w : List Place) → least n p i w ≤ neutral n
 unfolding least
 least-top n p i [] = omega arith
-least-top n p i (x ∷ w) = let a = least-top n p (suc i) w in omega arith
+least-top n p i (x ∷ w) = omega (arith, least-top n p (suc i) w)
 
--- where a least colour comes from
-abbrev Source : ℕ → ℕ → ℕ → List Place → ℕ → Type 0
-Source n p i w c = (c ≡ neutral n) ⊎ (((j : ℕ) × Marked w j × (c ≡ marked (i + j))) ⊎ ((j : ℕ) × None (After w j) × (i + j < p) × (c ≡ emptied (i + j))))
+-- Where the least colour over the places from i on comes from: a marked place, an emptied place, or neither
+
+data Source (n p i : ℕ) (w : List Place) (c : ℕ) : Type 0 where
+  from-mark : (j : ℕ) → Marked w j → c ≡ marked (i + j) → Source n p i w c
+  from-gone : (j : ℕ) → None (After w j) → i + j < p → c ≡ emptied (i + j) → Source n p i w c
+  from-none : c ≡ neutral n → Source n p i w c
+
+source-here : (n p i : ℕ) (x : Place) (w : List Place) (c : ℕ) → c ≡ colourAt n i (x .mark) (isEmptied p i x) → Source n p i (x ∷ w) c
+unfolding colourAt
+source-here n p i x w c = by (x .mark) (isEmptied p i x) (λ t. t) (λ t. t)
+  where
+    by : (m e : Bool) → (T m → T (x .mark)) → (T e → T (isEmptied p i x)) → c ≡ colourAt n i m e → Source n p i (x ∷ w) c
+    by true e f g h = from-mark 0 (f tt) (omega arith)
+    by false true f g h =
+        let l = ltb→lt i p (and-r (isEmpty (x .states)) (ltb i p) (g tt)) in
+        from-gone 0 (none-of (x .states) (and-l (isEmpty (x .states)) (ltb i p) (g tt))) (omega arith) (omega arith)
+    by false false f g h = from-none h
 
 least-source : (n p i : ℕ) (w : List Place) → Source n p i w (least n p i w)
 unfolding least
-least-source n p i [] = inl refl
-least-source n p i (x ∷ w) = by (min-either (colourAt n i (x .mark) (isEmpty (x .states) && ltb i p)) (least n p (suc i) w)) (colour-source n i (x .mark) (isEmpty (x .states) && ltb i p)) (least-source n p (suc i) w)
+least-source n p i [] = from-none refl
+least-source n p i (x ∷ w) = by (decLe (colourAt n i (x .mark) (isEmptied p i x)) (least n p (suc i) w)) (least-source n p (suc i) w)
   where
-    by : {m : ℕ} → (m ≡ colourAt n i (x .mark) (isEmpty (x .states) && ltb i p)) ⊎ (m ≡ least n p (suc i) w)
-        → (T (x .mark) × (colourAt n i (x .mark) (isEmpty (x .states) && ltb i p) ≡ marked i)) ⊎ ((T (isEmpty (x .states) && ltb i p) × (colourAt n i (x .mark) (isEmpty (x .states) && ltb i p) ≡ emptied i)) ⊎ (colourAt n i (x .mark) (isEmpty (x .states) && ltb i p) ≡ neutral n))
-        → Source n p (suc i) w (least n p (suc i) w) → Source n p i (x ∷ w) m
-    by (inl e) (inl (a, b)) s = inr (inl (0, a, omega arith))
-    by (inl e) (inr (inl (a, b))) s = inr (inr (0, none-of (x .states) (and-l (isEmpty (x .states)) (ltb i p) a), (let q = ltb→lt i p (and-r (isEmpty (x .states)) (ltb i p) a) in omega arith), omega arith))
-    by (inl e) (inr (inr b)) s = inl (omega arith)
-    by (inr e) t (inl b) = inl (omega arith)
-    by (inr e) t (inr (inl (j, a, b))) = inr (inl (suc j, a, omega arith))
-    by (inr e) t (inr (inr (j, a, b, d))) = inr (inr (suc j, a, omega arith, omega arith))
+    by : {d : ℕ} → Dec (colourAt n i (x .mark) (isEmptied p i x) ≤ d) → Source n p (suc i) w d
+        → Source n p i (x ∷ w) (min (colourAt n i (x .mark) (isEmptied p i x)) d)
+    by (yes l) s = source-here n p i x w _ (omega arith)
+    by (no l) (from-mark j k e) = from-mark (suc j) k (omega arith)
+    by (no l) (from-gone j z k e) = from-gone (suc j) z (omega arith) (omega arith)
+    by (no l) (from-none e) = from-none (omega arith)
 
-deadOr-cases : (b : Bool) (c : ℕ) → (T b × (deadOr b c ≡ dead)) ⊎ (deadOr b c ≡ c)
-unfolding deadOr
-deadOr-cases true c = inl (tt, refl)
-deadOr-cases false c = inr refl
+-- The colour of the step
 
 module _ (n p : ℕ) (w : List Place) where
-  pub col-mark : (i : ℕ) → Marked w i → colourOf n p w ≤ marked i
-  unfolding colourOf
-  col-mark i h = by (deadOr-cases (isEmpty (statesAt w 0)) (least n p 0 w)) (least-mark n p 0 w i h)
+  colour-cases : (T (isEmpty (statesAt w 0)) × (colourOf n p w ≡ dead)) ⊎ (colourOf n p w ≡ least n p 0 w)
+  unfolding colourOf deadOr
+  colour-cases = by (isEmpty (statesAt w 0)) (λ t. t)
     where
-      by : (T (isEmpty (statesAt w 0)) × (colourOf n p w ≡ dead)) ⊎ (colourOf n p w ≡ least n p 0 w) → least n p 0 w ≤ marked (0 + i) → colourOf n p w ≤ marked i
-      by (inl a) b = omega arith
-      by (inr a) b = omega arith
+      by : (b : Bool) → (T b → T (isEmpty (statesAt w 0)))
+          → (T (isEmpty (statesAt w 0)) × (deadOr b (least n p 0 w) ≡ dead)) ⊎ (deadOr b (least n p 0 w) ≡ least n p 0 w)
+      by true f = inl (f tt, refl)
+      by false f = inr refl
+
+  at-most : (b : ℕ) → dead ≤ b → least n p 0 w ≤ b → colourOf n p w ≤ b
+  at-most b d l = by colour-cases
+    where
+      by : (T (isEmpty (statesAt w 0)) × (colourOf n p w ≡ dead)) ⊎ (colourOf n p w ≡ least n p 0 w) → colourOf n p w ≤ b
+      by (inl h) = omega arith
+      by (inr h) = omega arith
+
+  pub col-mark : (i : ℕ) → Marked w i → colourOf n p w ≤ marked i
+  col-mark i h = at-most (marked i) (omega arith) (omega (arith, least-mark n p 0 w i h))
 
   pub col-gone : (i : ℕ) → i < length w → ((j : ℕ) → Marked w j → Some (After w j)) → i < p → None (After w i) → colourOf n p w ≤ emptied i
-  unfolding colourOf
-  col-gone i l ms lp z = by (deadOr-cases (isEmpty (statesAt w 0)) (least n p 0 w)) (least-gone n p 0 w i l (λ k. let (r, a) = ms i k in z r a) z (omega arith))
-    where
-      by : (T (isEmpty (statesAt w 0)) × (colourOf n p w ≡ dead)) ⊎ (colourOf n p w ≡ least n p 0 w) → least n p 0 w ≤ emptied (0 + i) → colourOf n p w ≤ emptied i
-      by (inl a) b = omega arith
-      by (inr a) b = omega arith
-
-  pub col-pos : 1 ≤ colourOf n p w
-  unfolding colourOf
-  col-pos = by (deadOr-cases (isEmpty (statesAt w 0)) (least n p 0 w)) (least-source n p 0 w)
-    where
-      by : (T (isEmpty (statesAt w 0)) × (colourOf n p w ≡ dead)) ⊎ (colourOf n p w ≡ least n p 0 w) → Source n p 0 w (least n p 0 w) → 1 ≤ colourOf n p w
-      by (inl a) b = omega arith
-      by (inr a) (inl b) = omega arith
-      by (inr a) (inr (inl (j, b, d))) = omega arith
-      by (inr a) (inr (inr (j, b, x, d))) = omega arith
+  col-gone i l some k z =
+      at-most (emptied i) (omega arith) (omega (arith, least-gone n p 0 w i l (λ m. let (r, a) = some i m in z r a) z (omega arith)))
 
   pub col-top : colourOf n p w ≤ neutral n
-  unfolding colourOf
-  col-top = by (deadOr-cases (isEmpty (statesAt w 0)) (least n p 0 w)) (least-top n p 0 w)
+  col-top = at-most (neutral n) (omega arith) (least-top n p 0 w)
+
+  -- a dead step, or the source of the least colour
+  source : (T (isEmpty (statesAt w 0)) × (colourOf n p w ≡ dead)) ⊎ Source n p 0 w (colourOf n p w)
+  source = by colour-cases (least-source n p 0 w)
     where
-      by : (T (isEmpty (statesAt w 0)) × (colourOf n p w ≡ dead)) ⊎ (colourOf n p w ≡ least n p 0 w) → least n p 0 w ≤ neutral n → colourOf n p w ≤ neutral n
-      by (inl a) b = omega arith
-      by (inr a) b = omega arith
+      by : (T (isEmpty (statesAt w 0)) × (colourOf n p w ≡ dead)) ⊎ (colourOf n p w ≡ least n p 0 w) → Source n p 0 w (least n p 0 w)
+          → (T (isEmpty (statesAt w 0)) × (colourOf n p w ≡ dead)) ⊎ Source n p 0 w (colourOf n p w)
+      by (inl h) s = inl h
+      by (inr h) (from-mark j k e) = inr (from-mark j k (h ∙ e))
+      by (inr h) (from-gone j z k e) = inr (from-gone j z k (h ∙ e))
+      by (inr h) (from-none e) = inr (from-none (h ∙ e))
+
+  pub col-pos : 1 ≤ colourOf n p w
+  col-pos = by source
+    where
+      by : (T (isEmpty (statesAt w 0)) × (colourOf n p w ≡ dead)) ⊎ Source n p 0 w (colourOf n p w) → 1 ≤ colourOf n p w
+      by (inl h) = omega arith
+      by (inr (from-mark j k e)) = omega arith
+      by (inr (from-gone j z k e)) = omega arith
+      by (inr (from-none e)) = omega arith
 
   pub col-even : (i : ℕ) → colourOf n p w ≡ marked i → Marked w i
-  unfolding colourOf
-  col-even i e = by (deadOr-cases (isEmpty (statesAt w 0)) (least n p 0 w)) (least-source n p 0 w)
+  col-even i h = by source
     where
-      by : (T (isEmpty (statesAt w 0)) × (colourOf n p w ≡ dead)) ⊎ (colourOf n p w ≡ least n p 0 w) → Source n p 0 w (least n p 0 w) → Marked w i
-      by (inl a) b = absurd (omega arith)
-      by (inr a) (inl b) = absurd (omega arith)
-      by (inr a) (inr (inl (j, b, d))) = let x : j ≡ i = omega arith in rw (← x) b
-      by (inr a) (inr (inr (j, b, x, d))) = absurd (omega arith)
+      by : (T (isEmpty (statesAt w 0)) × (colourOf n p w ≡ dead)) ⊎ Source n p 0 w (colourOf n p w) → Marked w i
+      by (inl d) = absurd (omega arith)
+      by (inr (from-mark j k e)) = let x : j ≡ i = omega arith in rw (← x) k
+      by (inr (from-gone j z k e)) = absurd (omega arith)
+      by (inr (from-none e)) = absurd (omega arith)
 
   pub col-odd : (i : ℕ) → colourOf n p w ≡ emptied i → (i ≡ n) ⊎ (None (After w i) × ((i < p) ⊎ (i ≡ 0)))
-  unfolding colourOf
-  col-odd i e = by (deadOr-cases (isEmpty (statesAt w 0)) (least n p 0 w)) (least-source n p 0 w)
+  col-odd i h = by source
     where
-      by : (T (isEmpty (statesAt w 0)) × (colourOf n p w ≡ dead)) ⊎ (colourOf n p w ≡ least n p 0 w) → Source n p 0 w (least n p 0 w) → (i ≡ n) ⊎ (None (After w i) × ((i < p) ⊎ (i ≡ 0)))
-      by (inl (a, a')) b = let x : i ≡ 0 = omega arith in inr (rw x (none-of (statesAt w 0) a), inr x)
-      by (inr a) (inl b) = inl (omega arith)
-      by (inr a) (inr (inl (j, b, d))) = absurd (omega arith)
-      by (inr a) (inr (inr (j, b, x, d))) = let y : j ≡ i = omega arith in inr (rw (← y) b, inl (omega arith))
+      by : (T (isEmpty (statesAt w 0)) × (colourOf n p w ≡ dead)) ⊎ Source n p 0 w (colourOf n p w)
+          → (i ≡ n) ⊎ (None (After w i) × ((i < p) ⊎ (i ≡ 0)))
+      by (inl (z, d)) = let x : i ≡ 0 = omega arith in inr (rw x (none-of (statesAt w 0) z), inr x)
+      by (inr (from-mark j k e)) = absurd (omega arith)
+      by (inr (from-gone j z k e)) = let x : j ≡ i = omega arith in inr (rw (← x) z, inl (omega arith))
+      by (inr (from-none e)) = inl (omega arith)

@@ -13,11 +13,11 @@ use Rattle.finite.specs.Finite.{lowest, glue, glue-lt, glue-ge, extend}
 use Rattle.theory.specs.Run.{Path, Often, Alone, Least}
 use Rattle.theory.specs.Endless.{LPO, least}
 use Rattle.theory.specs.Theorem.{repeating, endless}
-use Rattle.tuple.specs.Step.{setAt, next, run}
+use Rattle.tuple.specs.Step.{setAt, Recurrent, run, entered}
 use Rattle.tuple.specs.PassLaws.{In}
-use Rattle.tuple.specs.PlaceLaws.{Recurrent, edge-dec}
+use Rattle.tuple.specs.PlaceLaws.{edge-dec}
 use Rattle.tuple.specs.TupleLaws.{first-in, first-of}
-use Rattle.tuple.specs.RunLaws.{entered, run-repeats, is-run, set-zero}
+use Rattle.tuple.specs.RunLaws.{run-repeats, is-run, set-zero}
 
 -- The readings of a sheet are the paths of the theory, and to visit must-recur states without end is to take recurrent transitions
 -- without end
@@ -50,8 +50,8 @@ passes-both A w = (
 )
 
 -- An automaton without walks that meet in states that count, and every state of a reading counts
-module _ {A : Automaton} (fits : Fits A) (Counts : ℕ → Type 0) (count : (w x : ℕ → ℕ) → Reading A w x → (t : ℕ) → Counts (x t)) (free : Free A Counts)
-    (w : ℕ → ℕ) (letters : (t : ℕ) → w t < A .k) where
+module _ {A : Automaton} (fits : Fits A) (Counts : ℕ → Type 0) (count : (w x : ℕ → ℕ) → Reading A w x → (t : ℕ) → Counts (x t))
+    (free : Free A Counts) (w : ℕ → ℕ) (letters : (t : ℕ) → w t < A .k) where
   -- Any other state of set 0 that steps to the reading's next state would give a second walk to it.
   alone : Alone (λ t. Edge A (w t)) (λ t. In (run A w t .sets))
   alone ξ path t q s e = by (ℕ-discrete q (ξ t))
@@ -62,12 +62,13 @@ module _ {A : Automaton} (fits : Fits A) (Counts : ℕ → Type 0) (count : (w x
           let y = glue x (λ s. ξ (suc t)) (suc t) in
           let y-first : y 0 ≡ x 0 = glue-lt x (λ s. ξ (suc t)) (suc t) 0 (omega arith) in
           let y-t : y t ≡ x t = glue-lt x (λ s. ξ (suc t)) (suc t) t (omega arith) in
+          let last : Edge A (w t) (x t) (ξ (suc t)) = subst (λ (z : ℕ). Edge A (w t) z (ξ (suc t))) (sym end) e in
           let y-end : y (suc t) ≡ ξ (suc t) = glue-ge x (λ s. ξ (suc t)) (suc t) (suc t) (omega arith) in
           record {
             one = record { starts = h .starts; goes = λ s l. h .goes s };
             other = record {
               starts = subst (λ (z : ℕ). Member (A .initial) z) (sym y-first) (walk .starts);
-              goes = λ s l. extend (λ t. Edge A (w t)) 0 t (ξ (suc t)) x (λ s b l. walk .goes s l) (subst (λ (z : ℕ). Edge A (w t) z (ξ (suc t))) (sym end) e) s (omega arith) l;
+              goes = λ s l. extend (λ t. Edge A (w t)) 0 t (ξ (suc t)) x (λ s b l. walk .goes s l) last s (omega arith) l;
             };
             differ = (t, omega arith, λ g. f (sym end ∙ sym y-t ∙ sym g));
             shared = sym y-end;
@@ -76,18 +77,24 @@ module _ {A : Automaton} (fits : Fits A) (Counts : ℕ → Type 0) (count : (w x
 
       by : Dec (q ≡ ξ t) → q ≡ ξ t
       by (yes g) = g
-      by (no f) = let (x, walk, end) = set-zero fits w letters t q .0 s in absurd (free w (suc t) ξ (glue x (λ s. ξ (suc t)) (suc t)) (meet f x walk end))
+      by (no f) =
+          let (x, walk, end) = set-zero fits w letters t q .0 s in
+          absurd (free w (suc t) ξ (glue x (λ s. ξ (suc t)) (suc t)) (meet f x walk end))
 
-  colours-repeat : (T d : ℕ) → ((t : ℕ) → T ≤ t → w (t + suc d) ≡ w t) → run A w (T + suc d) ≡ run A w T → (t : ℕ) → T ≤ t → entered A w (t + suc d) ≡ entered A w t
+  colours-repeat : (T d : ℕ) → ((t : ℕ) → T ≤ t → w (t + suc d) ≡ w t) → run A w (T + suc d) ≡ run A w T → (t : ℕ) → T ≤ t
+      → entered A w (t + suc d) ≡ entered A w t
   colours-repeat T d word again t l =
       let e : suc (t + suc d) ≡ suc t + suc d = omega arith in
       ap (λ v. run A w v .colour) e ∙ ap (λ u. u .colour) (run-repeats A w T d word again (suc t) (omega arith))
 
   -- The word and the tuples repeat from T on with period d + 1: the least colour entered after T, up to and with T + d + 1, is even
   -- exactly if the sheet passes the word.
-  pub verdict : (T d : ℕ) → ((t : ℕ) → T ≤ t → w (t + suc d) ≡ w t) → run A w (T + suc d) ≡ run A w T → (lowest (entered A w) T d % 2 ≡ 0) ↔ Passes A w
-  verdict T d word again =
-      let r = repeating (is-run fits w letters) alone T d (λ s q r l e. subst (λ (a : ℕ). Edge A a q r) (sym (word s l)) e) (colours-repeat T d word again) in
+  pub demand-counts : (T d : ℕ) → ((t : ℕ) → T ≤ t → w (t + suc d) ≡ w t) → run A w (T + suc d) ≡ run A w T
+      → (lowest (entered A w) T d % 2 ≡ 0) ↔ Passes A w
+  demand-counts T d word again =
+      let edges : (s q r : ℕ) → T ≤ s → Edge A (w s) q r → Edge A (w (s + suc d)) q r =
+      λ s q r l e. subst (λ (a : ℕ). Edge A a q r) (sym (word s l)) e in
+      let r = repeating (is-run fits w letters) alone T d edges (colours-repeat T d word again) in
       let p = passes-both A w in
       (λ e. p .0 (r .0 e), λ h. r .1 (p .1 h))
 
@@ -95,13 +102,14 @@ module _ {A : Automaton} (fits : Fits A) (Counts : ℕ → Type 0) (count : (w x
   pub least-colour : LPO → (c : ℕ) × Least (entered A w) c
   least-colour lpo = least lpo (is-run fits w letters) (λ t. edge-dec A (w t)) (λ t j q. member-dec (setAt (run A w t .sets) j) q)
 
-  pub verdict-endless : LPO → (c : ℕ) → Least (entered A w) c → (c % 2 ≡ 0) ↔ Passes A w
-  verdict-endless lpo c low =
+  pub demand-endless : LPO → (c : ℕ) → Least (entered A w) c → (c % 2 ≡ 0) ↔ Passes A w
+  demand-endless lpo c low =
       let r = endless (is-run fits w letters) lpo (λ t. edge-dec A (w t)) (λ t j q. member-dec (setAt (run A w t .sets) j) q) alone c low in
       let p = passes-both A w in
       (λ e. p .0 (r .0 e), λ h. r .1 (p .1 h))
 
 -- Demand 3: an accepted sheet has no meeting walks at all.
 pub demand : {A : Automaton} → Fits A → Free A Everywhere → (w : ℕ → ℕ) → ((t : ℕ) → w t < A .k)
-    → (T d : ℕ) → ((t : ℕ) → T ≤ t → w (t + suc d) ≡ w t) → run A w (T + suc d) ≡ run A w T → (lowest (entered A w) T d % 2 ≡ 0) ↔ Passes A w
-demand fits free = verdict fits Everywhere (λ w x h t. tt) free
+    → (T d : ℕ) → ((t : ℕ) → T ≤ t → w (t + suc d) ≡ w t) → run A w (T + suc d) ≡ run A w T
+    → (lowest (entered A w) T d % 2 ≡ 0) ↔ Passes A w
+demand fits free = demand-counts fits Everywhere (λ w x h t. tt) free

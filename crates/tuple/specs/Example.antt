@@ -1,6 +1,6 @@
 -- Document 01's Sheet B, "from some job on only a": the four tuples of its listing, by computation.
 use mathlib.Core.Path.{_≡_, refl}
-use mathlib.Core.List.{[], _∷_, map}
+use mathlib.Core.List.{[], _∷_, _++_, map}
 use Rattle.sets.specs.Sets.{bit, unionOf, interOf, minusOf, isWithin}
 use Rattle.automaton.specs.Automaton.{Automaton}
 use Rattle.automaton.specs.Successors.{given, successorsBelow, successorsOf}
@@ -21,14 +21,8 @@ t2 = record { sets = 3 ∷ 2 ∷ []; colour = 4 }
 t3 : Tuple
 t3 = record { sets = 3 ∷ 2 ∷ []; colour = 3 }
 
-begins : first sheetB ≡ t0
-unfolding sheetB t0 first closed unlessEmpty
-begins = refl
-
-follows : map (λ u. next sheetB 0 u) (t0 ∷ t1 ∷ t2 ∷ t3 ∷ []) ≡ t1 ∷ t2 ∷ t2 ∷ t2 ∷ []
-unfolding sheetB t0 t1 t2 t3 places unionAll isMarked removed turns pass colourAt least deadOr colourOf unlessEmpty closed closeUp next given successorsBelow successorsOf bit unionOf interOf minusOf isWithin
-follows = refl
-
-follows-b : map (λ u. next sheetB 1 u) (t0 ∷ t1 ∷ t2 ∷ t3 ∷ []) ≡ t1 ∷ t3 ∷ t3 ∷ t3 ∷ []
-unfolding sheetB t0 t1 t2 t3 places unionAll isMarked removed turns pass colourAt least deadOr colourOf unlessEmpty closed closeUp next given successorsBelow successorsOf bit unionOf interOf minusOf isWithin
-follows-b = refl
+-- the first tuple, and the next ones on a and on b
+listing : (first sheetB ∷ map (next sheetB 0) (t0 ∷ t1 ∷ t2 ∷ t3 ∷ [])) ++ map (next sheetB 1) (t0 ∷ t1 ∷ t2 ∷ t3 ∷ [])
+    ≡ t0 ∷ t1 ∷ t2 ∷ t2 ∷ t2 ∷ t1 ∷ t3 ∷ t3 ∷ t3 ∷ []
+unfolding sheetB t0 t1 t2 t3 first next places pass turns unionAll isMarked removed colourOf colourAt least deadOr closeUp closed unlessEmpty given successorsBelow successorsOf bit unionOf interOf minusOf isWithin
+listing = refl

@@ -13,5 +13,7 @@ pub mod Demand
 pub mod RowLaws
 pub mod AdvanceLaws
 pub mod UnionLaws
+pub mod GatherLaws
 pub mod SweepLaws
 pub mod StepLaws
+pub mod EmptyPlaces

@@ -1,5 +1,5 @@
--- What the parts of the code's step do to the cells of a row. The code gathers what marked places remove, and removes it at each later place's
--- turn.
+-- What the parts of the code's step do to the cells of a row. The code gathers what marked places remove, and removes it at each later
+-- place's turn.
 use Prim.Native.Nat.{ℕ, suc, _+_, _-_, _<_}
 use mathlib.Core.Path.{_≡_}
 use mathlib.Core.Bool.{Bool, true, false}
@@ -31,7 +31,8 @@ Unions count cells later = (j : ℕ) → j < count → getD later j 0 ≡ unionA
 
 -- the first count places are closed up after the pass, and zeros fill them up; with the least colour, where p sets were non-empty before
 pub record Swept (n p count : ℕ) (cells result : List ℕ) (colour : ℕ) : Type 0 where
-  pub closes : result ≡ closeUp (pass (take count cells)) ++ (replicate (count - length (closeUp (pass (take count cells)))) 0 ++ drop count cells)
+  pub closes :
+      result ≡ closeUp (pass (take count cells)) ++ (replicate (count - length (closeUp (pass (take count cells)))) 0 ++ drop count cells)
   pub coloured : colour ≡ least n p 0 (pass (take count cells))
 
 -- points 1 and 2: the places before the marking pass, p of them with successors

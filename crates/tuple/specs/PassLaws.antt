@@ -1,6 +1,6 @@
 -- The marking pass: facts F3 to F6 of the theory. A place is never touched after its own turn. Assumes nothing.
 use Prim.Native.Nat.{ℕ, zero, suc, _≤_, _<_}
-use mathlib.Core.Path.{_≡_, refl, subst}
+use mathlib.Core.Path.{_≡_, refl, sym, ap, subst}
 use mathlib.Core.Logic.{_⊎_, inl, inr}
 use mathlib.Core.Bool.{Bool, true, false, not, _&&_}
 use mathlib.Core.List.{List, [], _∷_, map}
@@ -10,7 +10,7 @@ use lib.ListN.{length, getD, length-map}
 use Rattle.sets.specs.Sets.{Member, minusOf, isWithin}
 use Rattle.sets.specs.SetLaws.{member-dec, no-member, some-member, union-in, union-left, union-right, minus-left, minus-not, minus-of}
 use Rattle.theory.specs.Run.{Some, None}
-use Rattle.tuple.specs.Step.{setAt, isEmpty, unionAll, isMarked, removed, Place, place, turns, statesAt}
+use Rattle.tuple.specs.Step.{setAt, isEmpty, unionAll, isMarked, removed, Place, place, turns, statesAt, pass}
 
 -- state r is in the set at place j, before the pass and after it; place j is marked
 abbrev pub In : List ℕ → ℕ → ℕ → Type 0
@@ -125,6 +125,12 @@ rest-keep x l = removed-keep (isMarked x l) x l
 rest-length : (x : ℕ) (l : List ℕ) → length (rest x l) ≡ length l
 rest-length x l = removed-length (isMarked x l) x l
 
+-- The pass, place by place
+
+pub pass-cons : (x : ℕ) (l : List ℕ) → pass (x ∷ l) ≡ place x (isMarked x l) ∷ pass (removed (isMarked x l) x l)
+unfolding pass turns
+pass-cons x l = ap (λ (k : ℕ). place x (isMarked x l) ∷ turns k (rest x l)) (sym (rest-length x l))
+
 -- F3: the pass adds nothing
 pub kept : (k : ℕ) (l : List ℕ) (j r : ℕ) → After (turns k l) j r → In l j r
 unfolding turns
@@ -134,7 +140,8 @@ kept (suc k) (x ∷ l) zero r h = h
 kept (suc k) (x ∷ l) (suc j) r h = rest-in x l j r (kept k (rest x l) j r h)
 
 -- F4: a state leaves a place only if an earlier marked place keeps it
-pub gone : (k : ℕ) (l : List ℕ) → length l ≤ k → (j r : ℕ) → In l j r → After (turns k l) j r ⊎ ((i : ℕ) × (i < j) × Marked (turns k l) i × After (turns k l) i r)
+pub gone : (k : ℕ) (l : List ℕ) → length l ≤ k → (j r : ℕ) → In l j r
+    → After (turns k l) j r ⊎ ((i : ℕ) × (i < j) × Marked (turns k l) i × After (turns k l) i r)
 unfolding turns
 gone zero [] f j r h = inl h
 gone zero (x ∷ l) f j r h = absurd (omega arith)
@@ -179,7 +186,8 @@ mark-out (suc k) (x ∷ l) (suc i) zero r h w m v = omega arith
 mark-out (suc k) (x ∷ l) (suc i) (suc j) r h w m v = mark-out k (rest x l) i j r h w (omega arith) v
 
 -- F6: every non-empty set has a member in no later one
-pub own : (k : ℕ) (l : List ℕ) (i r : ℕ) → After (turns k l) i r → (x : ℕ) × After (turns k l) i x × ((j : ℕ) → i < j → After (turns k l) j x → ⊥)
+pub own : (k : ℕ) (l : List ℕ) (i r : ℕ) → After (turns k l) i r
+    → (x : ℕ) × After (turns k l) i x × ((j : ℕ) → i < j → After (turns k l) j x → ⊥)
 unfolding turns isMarked
 own zero l i r w = absurd (no-member r w)
 own (suc k) [] i r w = absurd (no-member r w)
@@ -193,11 +201,13 @@ own (suc k) (x ∷ l) zero r w = by (two (isWithin x (unionAll l)))
     full : T (not (isEmpty x))
     full = not-T (isEmpty x) (λ e. none-of x e r w)
 
-    priv : (y : ℕ) → (has-l : (j : ℕ) → In (rest x l) j y → ⊥) → (j : ℕ) → 0 < j → After (place x (isMarked x l) ∷ turns k (rest x l)) j y → ⊥
+    priv : (y : ℕ) → (has-l : (j : ℕ) → In (rest x l) j y → ⊥) → (j : ℕ) → 0 < j → After (place x (isMarked x l) ∷ turns k (rest x l)) j y
+        → ⊥
     priv y f zero m v = omega arith
     priv y f (suc j) m v = f j (kept k (rest x l) j y v)
 
-    by : T (isWithin x (unionAll l)) ⊎ T (not (isWithin x (unionAll l))) → (y : ℕ) × Member x y × ((j : ℕ) → 0 < j → After (place x (isMarked x l) ∷ turns k (rest x l)) j y → ⊥)
+    by : T (isWithin x (unionAll l)) ⊎ T (not (isWithin x (unionAll l)))
+        → (y : ℕ) × Member x y × ((j : ℕ) → 0 < j → After (place x (isMarked x l) ∷ turns k (rest x l)) j y → ⊥)
     by (inl e) = (r, w, priv r (λ j v. rest-out x l j r (and-i (not (isEmpty x)) (isWithin x (unionAll l)) full e) v w))
     by (inr e) = let (y, a, b) = outside x (unionAll l) e in (y, a, priv y (λ j v. b (union-all-of l j y (rest-in x l j y v))))
 

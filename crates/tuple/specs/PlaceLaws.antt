@@ -10,13 +10,8 @@ use Rattle.sets.specs.SetLaws.{member-dec, no-member, inter-in, inter-of}
 use Rattle.automaton.specs.Automaton.{Automaton, Edge, Fits, successorSet}
 use Rattle.automaton.specs.Successors.{successorsOf}
 use Rattle.automaton.specs.SuccessorLaws.{successors-in, successors-of-member}
-use Rattle.tuple.specs.Step.{setAt, recurrent, places}
+use Rattle.tuple.specs.Step.{setAt, recurrent, Recurrent, places}
 use Rattle.tuple.specs.PassLaws.{In}
-
--- a transition whose target goes into the new set: here each into a must-recur state
-pub record Recurrent (A : Automaton) (l q r : ℕ) : Type 0 where
-  pub edge : Edge A l q r
-  pub into : Member (A .recurring) r
 
 both : {X Y : Type 0} → Dec X → Dec Y → Dec (X × Y)
 both (yes x) (yes y) = yes (x, y)
@@ -48,22 +43,22 @@ module _ {A : Automaton} (fits : Fits A) where
           let e : getD (A .table) (8 * q + l) 0 ≡ 0 = fits .cells (8 * q + l) .empty (λ a b. let m = fits .range .3 in omega arith) in
           absurd (no-member r (subst (λ (z : ℕ). Member z r) e h))
 
-  pub edge-state : {l q r : ℕ} → Edge A l q r → r < A .n
+  edge-state : {l q r : ℕ} → Edge A l q r → r < A .n
   edge-state {l} {q} {r} e = fits .cells (8 * q + l) .within r (e .to)
 
-  pub edges-of : {l q r : ℕ} (x : ℕ) → Member x q → Edge A l q r → Member (successorsOf (A .table) l x) r
+  edges-of : {l q r : ℕ} (x : ℕ) → Member x q → Edge A l q r → Member (successorsOf (A .table) l x) r
   edges-of {l} {q} {r} x h e = successors-of-member (A .table) l x q r (let k = e .from in let m = fits .range .1 in omega arith) h (e .to)
 
-  pub recurrent-of : {l q r : ℕ} (x : ℕ) → Member x q → Recurrent A l q r → Member (recurrent A l x) r
+  recurrent-of : {l q r : ℕ} (x : ℕ) → Member x q → Recurrent A l q r → Member (recurrent A l x) r
   recurrent-of {l} {q} {r} x h e = inter-of (successorsOf (A .table) l x) (A .recurring) r (edges-of x h (e .edge)) (e .into)
 
   module _ (l : ℕ) (letter : l < A .k) where
-    pub edges-in : (x r : ℕ) → Member (successorsOf (A .table) l x) r → (q : ℕ) × Member x q × Edge A l q r
+    edges-in : (x r : ℕ) → Member (successorsOf (A .table) l x) r → (q : ℕ) × Member x q × Edge A l q r
     edges-in x r h =
         let (q, k, a, b) = successors-in (A .table) l x r h in
         (q, a, record { letter = letter; from = from-state l q r letter b; to = b })
 
-    pub recurrent-in : (x r : ℕ) → Member (recurrent A l x) r → (q : ℕ) × Member x q × Recurrent A l q r
+    recurrent-in : (x r : ℕ) → Member (recurrent A l x) r → (q : ℕ) × Member x q × Recurrent A l q r
     recurrent-in x r h =
         let (a, b) = inter-in (successorsOf (A .table) l x) (A .recurring) r h in
         let (q, c, e) = edges-in x r a in
@@ -127,4 +122,6 @@ module _ {A : Automaton} (fits : Fits A) where
 
 pub places-length : (A : Automaton) (l : ℕ) (sets : List ℕ) → length (places A l sets) ≡ suc (length sets)
 unfolding places
-places-length A l sets = length-append (map (successorsOf (A .table) l) sets) (recurrent A l (setAt sets 0) ∷ []) ∙ (let b = length-map sets (successorsOf (A .table) l) in omega arith)
+places-length A l sets =
+    length-append (map (successorsOf (A .table) l) sets) (recurrent A l (setAt sets 0) ∷ [])
+    ∙ omega (arith, length-map sets (successorsOf (A .table) l))

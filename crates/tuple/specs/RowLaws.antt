@@ -55,11 +55,11 @@ module _ (u : Tuple) (few : length (u .sets) ≤ setCells) where
   abbrev zeros : List ℕ
   zeros = replicate (setCells - length (u .sets)) 0
 
-  pub row-split : row u ≡ (u .sets ++ zeros) ++ (u .colour ∷ [])
+  row-split : row u ≡ (u .sets ++ zeros) ++ (u .colour ∷ [])
   unfolding row
   row-split = sym (append-assoc (u .sets) zeros (u .colour ∷ []))
 
-  pub front-length : length (u .sets ++ zeros) ≡ setCells
+  front-length : length (u .sets ++ zeros) ≡ setCells
   front-length = simp (length-append, length-replicate) (omega arith)
 
   pub row-length : length (row u) ≡ rowCells
@@ -68,12 +68,14 @@ module _ (u : Tuple) (few : length (u .sets) ≤ setCells) where
   pub row-colour : getD (row u) setCells 0 ≡ u .colour
   row-colour = rw row-split (getD-at (u .sets ++ zeros) (u .colour) [] 0 setCells front-length)
 
-  pub row-front : take setCells (row u) ≡ u .sets ++ zeros
+  row-front : take setCells (row u) ≡ u .sets ++ zeros
   row-front = rw row-split (take-at (u .sets ++ zeros) (u .colour ∷ []) setCells front-length)
 
   pub row-set : (i : ℕ) → i < setCells → getD (row u) i 0 ≡ setAt (u .sets) i
   row-set i h =
-      rw row-split (List·getD-append (u .sets ++ zeros) (u .colour ∷ []) 0 i (omega (arith, front-length)) ∙ zeros-behind (u .sets) (setCells - length (u .sets)) i)
+      rw row-split
+      (List·getD-append (u .sets ++ zeros) (u .colour ∷ []) 0 i (omega (arith, front-length))
+      ∙ zeros-behind (u .sets) (setCells - length (u .sets)) i)
 
   pub tuple-row : ((i : ℕ) → i < length (u .sets) → setAt (u .sets) i ≡ 0 → ⊥) → tupleOf (row u) ≡ u
   unfolding tupleOf

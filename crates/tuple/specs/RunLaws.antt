@@ -12,23 +12,21 @@ use Rattle.automaton.specs.Automaton.{Automaton, Edge, Fits}
 use Rattle.automaton.specs.Meeting.{Walk}
 use Rattle.theory.specs.Run.{Run}
 use Rattle.theory.specs.Basic.{reached, reaches}
-use Rattle.tuple.specs.Step.{setAt, places, Place, pass, first, next, run}
+pub use Rattle.tuple.specs.Step.{entered}
+use Rattle.tuple.specs.Step.{Recurrent, setAt, places, Place, pass, first, next, run}
 use Rattle.tuple.specs.PassLaws.{In, After, Marked, kept, gone, mark-some, mark-in, mark-out, turns-length}
 use Rattle.tuple.specs.CloseLaws.{rank, rank-some, rank-none, move, move⁻, front, dec-place}
 use Rattle.tuple.specs.ColourLaws.{col-mark, col-gone, col-pos, col-top, col-even, col-odd}
-use Rattle.tuple.specs.PlaceLaws.{Recurrent, recurrent-dec, places-old, places-old⁻, places-new, places-new⁻, places-none, places-length}
+use Rattle.tuple.specs.PlaceLaws.{recurrent-dec, places-old, places-old⁻, places-new, places-new⁻, places-none, places-length}
 use Rattle.tuple.specs.TupleLaws.{run-formed, first-in, first-of}
-
--- the colour entered on letter t of the word: that of the step from tuple t to tuple t + 1
-abbrev pub entered : Automaton → (ℕ → ℕ) → ℕ → ℕ
-entered A w t = run A w (suc t) .colour
 
 -- from equal tuples on, over a word that repeats, the tuples repeat
 pub run-repeats : (A : Automaton) (w : ℕ → ℕ) (T d : ℕ) → ((t : ℕ) → T ≤ t → w (t + suc d) ≡ w t) → run A w (T + suc d) ≡ run A w T
     → (t : ℕ) → T ≤ t → run A w (t + suc d) ≡ run A w t
 unfolding run
 run-repeats A w T d word again t l =
-    le-ind (λ t. run A w (t + suc d) ≡ run A w t) again (λ t l h. (let e : suc t + suc d ≡ suc (t + suc d) = omega arith in rw (e, word t l, h))) t l
+    le-ind (λ t. run A w (t + suc d) ≡ run A w t) again
+    (λ t l h. let e : suc t + suc d ≡ suc (t + suc d) = omega arith in rw (e, word t l, h)) t l
 
 module _ {A : Automaton} (fits : Fits A) (w : ℕ → ℕ) (letters : (t : ℕ) → w t < A .k) where
   -- the places of step t before the marking pass, and after it
@@ -40,6 +38,10 @@ module _ {A : Automaton} (fits : Fits A) (w : ℕ → ℕ) (letters : (t : ℕ) 
 
   same-length : (t : ℕ) → length (before t) ≤ length (before t)
   same-length t = omega arith
+
+  one-more : (t i : ℕ) → i < length (run A w t .sets) → i < length (after t)
+  unfolding pass
+  one-more t i l = omega (arith, turns-length (length (before t)) (before t) (same-length t), places-length A (w t) (run A w t .sets))
 
   pub is-run : Run (A .n) (λ t. Edge A (w t)) (λ t. Recurrent A (w t)) (λ t. In (run A w t .sets)) (λ t. In (before t)) (λ t. After (after t))
       (λ t. Marked (after t)) (λ t. length (run A w t .sets)) (entered A w) (λ t j. rank j (after t))
@@ -69,7 +71,7 @@ module _ {A : Automaton} (fits : Fits A) (w : ℕ → ℕ) (letters : (t : ℕ) 
     move = λ t. move (after t);
     move⁻ = λ t. move⁻ (after t);
     col-mark = λ t. col-mark (A .n) (length (run A w t .sets)) (after t);
-    col-gone = λ t i l. col-gone (A .n) (length (run A w t .sets)) (after t) i (let a = turns-length (length (before t)) (before t) (same-length t) in let b = places-length A (w t) (run A w t .sets) in omega arith) (mark-some (length (before t)) (before t)) l;
+    col-gone = λ t i l. col-gone (A .n) (length (run A w t .sets)) (after t) i (one-more t i l) (mark-some (length (before t)) (before t)) l;
     col-pos = λ t. col-pos (A .n) (length (run A w t .sets)) (after t);
     col-top = λ t. col-top (A .n) (length (run A w t .sets)) (after t);
     col-even = λ t. col-even (A .n) (length (run A w t .sets)) (after t);

@@ -1,11 +1,12 @@
 -- Document 01, "One step of the tuple", point by point.
-use Prim.Native.Nat.{ℕ, zero, suc, min}
+use Prim.Native.Nat.{ℕ, zero, suc, min, _≤_, _<_}
+use mathlib.Core.Path.{_≡_}
 use mathlib.Core.Bool.{Bool, true, false, not, _&&_}
 use mathlib.Core.List.{List, [], _∷_, _++_, map}
 use lib.Dec.{eqb, ltb}
 use lib.ListN.{length, getD}
-use Rattle.sets.specs.Sets.{unionOf, interOf, minusOf, isWithin}
-use Rattle.automaton.specs.Automaton.{Automaton}
+use Rattle.sets.specs.Sets.{Member, unionOf, interOf, minusOf, isWithin}
+use Rattle.automaton.specs.Automaton.{Automaton, Edge}
 use Rattle.automaton.specs.Successors.{successorsOf}
 use Rattle.tuple.specs.Colour.{neutral, marked, emptied, dead}
 
@@ -30,7 +31,13 @@ successorsEach A l sets = map (successorsOf (A .table) l) sets
 abbrev pub recurrent : Automaton → ℕ → ℕ → ℕ
 recurrent A l x = interOf (successorsOf (A .table) l x) (A .recurring)
 
--- "At place p, the count of non-empty sets before the step, put" these. "This may be place n, a spare."
+-- these are the targets of recurrent transitions: those into a must-recur state
+pub record Recurrent (A : Automaton) (l q r : ℕ) : Type 0 where
+  pub edge : Edge A l q r
+  pub into : Member (A .recurring) r
+
+-- "At place p, the count of non-empty sets before the step, put" these. "This may be place n, a spare." The places behind it are
+-- empty, and change nothing (EmptyPlaces.antt).
 unfoldable pub places : Automaton → ℕ → List ℕ → List ℕ
 places A l sets = successorsEach A l sets ++ (recurrent A l (setAt sets 0) ∷ [])
 
@@ -73,7 +80,7 @@ colourAt n i false true = emptied i
 colourAt n i false false = neutral n
 
 -- "the least of 2i+2 for marked i and 2i+1 for each i non-empty before the step and empty now; 2n+1 if there is none", over the
--- places from i on. The first p places were non-empty before the step.
+-- places from i on. The first p places were non-empty before the step. A marked or emptied place has a colour below the neutral one.
 unfoldable pub least : ℕ → ℕ → ℕ → List Place → ℕ
 least n p i [] = neutral n
 least n p i (x ∷ later) = min (colourAt n i (x .mark) (isEmpty (x .states) && ltb i p)) (least n p (suc i) later)
@@ -116,3 +123,16 @@ next A l u =
 unfoldable pub run : Automaton → (ℕ → ℕ) → ℕ → Tuple
 run A w zero = first A
 run A w (suc t) = next A (w t) (run A w t)
+
+-- the colour entered on letter t: that of the step from tuple t to tuple t + 1
+abbrev pub entered : Automaton → (ℕ → ℕ) → ℕ → ℕ
+entered A w t = run A w (suc t) .colour
+
+-- what holds of each tuple that a step enters
+pub record Formed (A : Automaton) (u : Tuple) : Type 0 where
+  -- "At most n sets are non-empty at the end."
+  pub few : length (u .sets) ≤ A .n
+  pub full : (i : ℕ) → i < length (u .sets) → setAt (u .sets) i ≡ 0 → ⊥
+  pub states : (i q : ℕ) → Member (setAt (u .sets) i) q → q < A .n
+  pub some-colour : 1 ≤ u .colour
+  pub most-colour : u .colour ≤ neutral (A .n)

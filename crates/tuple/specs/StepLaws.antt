@@ -26,11 +26,13 @@ pass-first [] = refl
 pass-first (x ∷ l) = refl
 
 -- cells behind the first m, of zeros and one last number, after p + 1 - s zeros: zeros again, and one last number
-refill : (s p k : ℕ) → s ≤ setCells → s ≤ p + 1 → p ≤ setCells
-    → (y : ℕ) × (replicate (p + 1 - s) 0 ++ drop 1 (replicate (setCells - p) 0 ++ (k ∷ [])) ≡ replicate (setCells - s) 0 ++ (y ∷ []))
+abbrev Refilled : ℕ → ℕ → ℕ → Type 0
+Refilled s p k = (y : ℕ) × (replicate (p + 1 - s) 0 ++ drop 1 (replicate (setCells - p) 0 ++ (k ∷ [])) ≡ replicate (setCells - s) 0 ++ (y ∷ []))
+
+refill : (s p k : ℕ) → s ≤ setCells → s ≤ p + 1 → p ≤ setCells → Refilled s p k
 refill s p k a b h = by (setCells - p) refl
   where
-    by : (m : ℕ) → setCells - p ≡ m → (y : ℕ) × (replicate (p + 1 - s) 0 ++ drop 1 (replicate (setCells - p) 0 ++ (k ∷ [])) ≡ replicate (setCells - s) 0 ++ (y ∷ []))
+    by : (m : ℕ) → setCells - p ≡ m → Refilled s p k
     by zero e =
         let d : p + 1 - s ≡ setCells - s + 1 = omega arith in
         (0, rw (e, d, append-nil, ← replicate-append-replicate {A = ℕ} (setCells - s) 1 0))
@@ -43,7 +45,8 @@ pub settle-done : (n p : ℕ) (cells result : List ℕ) (c : ℕ) → p < length
     → set result setCells (deadOr (isEmpty (getD cells 0 0)) c) ≡ settled n p cells
 unfolding colourOf
 settle-done n p cells result c h swept =
-    let z : getD cells 0 0 ≡ statesAt (pass (take (p + 1) cells)) 0 = sym (getD-take (p + 1) cells 0 0 (omega arith)) ∙ sym (pass-first (take (p + 1) cells)) in
+    let z : getD cells 0 0 ≡ statesAt (pass (take (p + 1) cells)) 0 =
+    sym (getD-take (p + 1) cells 0 0 (omega arith)) ∙ sym (pass-first (take (p + 1) cells)) in
     rw (swept .closes, swept .coloured, z)
 
 module _ (A : Automaton) (l : ℕ) (cells : List ℕ) (steps : Steps A l cells) where
@@ -65,7 +68,8 @@ module _ (A : Automaton) (l : ℕ) (cells : List ℕ) (steps : Steps A l cells) 
     new-first : getD w 0 0 ≡ successorsOf (A .table) l (setAt (leading (take setCells cells)) 0)
     new-first = ap (λ (z : List ℕ). getD z 0 0) (advanced .replaced) ∙ by (leading (take setCells cells)) (advanced .counted) first-cell
       where
-        by : (s : List ℕ) → p ≡ length s → getD cells 0 0 ≡ setAt s 0 → getD (map (successorsOf (A .table) l) s ++ drop p cells) 0 0 ≡ successorsOf (A .table) l (setAt s 0)
+        by : (s : List ℕ) → p ≡ length s → getD cells 0 0 ≡ setAt s 0
+            → getD (map (successorsOf (A .table) l) s ++ drop p cells) 0 0 ≡ successorsOf (A .table) l (setAt s 0)
         by [] e f = rw e (f ∙ sym (successors-empty (A .table) l))
         by (x ∷ s) e f = refl
 
@@ -74,9 +78,10 @@ module _ (A : Automaton) (l : ℕ) (cells : List ℕ) (steps : Steps A l cells) 
     put =
         let s = leading (take setCells cells) in
         let f = successorsOf (A .table) l in
-        let n : length (map (successorsOf (A .table) l) (leading (take setCells cells))) ≡ p = length-map (leading (take setCells cells)) (successorsOf (A .table) l) ∙ sym (advanced .counted) in
-        let r : interOf (getD w 0 0) (A .recurring) ≡ recurrent A l (setAt (leading (take setCells cells)) 0) = ap (λ (z : ℕ). interOf z (A .recurring)) new-first in
-        ap₂ (λ (z : List ℕ) (x : ℕ). set z p x) (advanced .replaced ∙ ap (λ (z : List ℕ). map f s ++ z) (drop-cons cells p 0 (omega (arith, cells-length, count-few)))) r
+        let n : length (map f s) ≡ p = length-map s f ∙ sym (advanced .counted) in
+        let r : interOf (getD w 0 0) (A .recurring) ≡ recurrent A l (setAt s 0) = ap (λ (z : ℕ). interOf z (A .recurring)) new-first in
+        let d : drop p cells ≡ getD cells p 0 ∷ drop (suc p) cells = drop-cons cells p 0 (omega (arith, cells-length, count-few)) in
+        ap₂ (λ (z : List ℕ) (x : ℕ). set z p x) (advanced .replaced ∙ ap (λ (z : List ℕ). map f s ++ z) d) r
         ∙ set-at (map f s) (getD cells p 0) (drop (suc p) cells) (recurrent A l (setAt s 0)) p n
         ∙ sym (append-assoc (map f s) (recurrent A l (setAt s 0) ∷ []) (drop (suc p) cells))
         ∙ rw add-one
@@ -121,7 +126,10 @@ module _ (A : Automaton) (l : ℕ) (cells : List ℕ) (steps : Steps A l cells) 
 
     after-less : length after ≤ p + 1
     unfolding pass
-    after-less = let a = closeUp-length (pass before) in let b = turns-length (length before) before (omega arith) in omega (arith, before-length)
+    after-less =
+        let a = closeUp-length (pass before) in
+        let b = turns-length (length before) before (omega arith) in
+        omega (arith, before-length)
 
     -- the cells behind the places
     rest : drop (p + 1) cells ≡ drop 1 (replicate (setCells - p) 0 ++ (tupleOf cells .colour ∷ []))
@@ -139,11 +147,12 @@ module _ (A : Automaton) (l : ℕ) (cells : List ℕ) (steps : Steps A l cells) 
     step-done =
         let (y, e) = refill (length after) p (tupleOf cells .colour) after-few after-less placed-few in
         let d = colourOf (A .n) p (pass before) in
-        let r : after ++ (replicate (p + 1 - length after) 0 ++ drop (p + 1) cells) ≡ after ++ (replicate (setCells - length after) 0 ++ (y ∷ [])) =
+        let zeros = replicate {A = ℕ} (setCells - length after) 0 in
+        let r : after ++ (replicate (p + 1 - length after) 0 ++ drop (p + 1) cells) ≡ after ++ (zeros ++ (y ∷ [])) =
         ap (λ (z : List ℕ). after ++ z) (rw rest e) in
-        let n : length (after ++ replicate (setCells - length after) 0) ≡ 16 = simp (length-append, length-replicate) (omega (arith, after-few)) in
+        let n : length (after ++ zeros) ≡ setCells = simp (length-append, length-replicate) (omega (arith, after-few)) in
         rw (before-take, before-drop)
-        (ap (λ (z : List ℕ). set z 16 d) (r ∙ sym (append-assoc after (replicate (setCells - length after) 0) (y ∷ [])))
-        ∙ set-at (after ++ replicate (setCells - length after) 0) y [] d 16 n
-        ∙ append-assoc after (replicate (setCells - length after) 0) (d ∷ [])
+        (ap (λ (z : List ℕ). set z setCells d) (r ∙ sym (append-assoc after zeros (y ∷ [])))
+        ∙ set-at (after ++ zeros) y [] d setCells n
+        ∙ append-assoc after zeros (d ∷ [])
         ∙ ap₂ (λ (s : List ℕ) (k : ℕ). s ++ (replicate (setCells - length s) 0 ++ (k ∷ []))) after-is colour-is)

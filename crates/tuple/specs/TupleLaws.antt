@@ -1,6 +1,6 @@
 -- What holds of every tuple that a step enters, whatever tuple it leaves. Assumes nothing.
-use Prim.Native.Nat.{ℕ, zero, suc, _^_, _≤_, _<_}
-use mathlib.Core.Path.{_≡_, refl, subst}
+use Prim.Native.Nat.{ℕ, zero, suc, _^_, _<_}
+use mathlib.Core.Path.{_≡_, subst}
 use mathlib.Core.Bool.{false}
 use mathlib.Core.List.{List, [], _∷_}
 use native.Mathlib.Omega.{arith}
@@ -8,21 +8,12 @@ use lib.ListN.{length}
 use Rattle.sets.specs.Sets.{Member}
 use Rattle.sets.specs.SetLaws.{no-member, small-of-within}
 use Rattle.automaton.specs.Automaton.{Automaton, Fits}
-use Rattle.tuple.specs.Colour.{neutral}
+pub use Rattle.tuple.specs.Step.{Formed}
 use Rattle.tuple.specs.Step.{Tuple, setAt, places, Place, place, pass, closeUp, first, next, run}
 use Rattle.tuple.specs.PassLaws.{In, After, kept}
 use Rattle.tuple.specs.CloseLaws.{rank, move, move⁻, full, room, closeUp-length}
 use Rattle.tuple.specs.ColourLaws.{col-pos, col-top}
 use Rattle.tuple.specs.PlaceLaws.{places-state}
-
--- "A tuple is n sets, the non-empty ones first, and the colour of the step that entered it."
-pub record Formed (A : Automaton) (u : Tuple) : Type 0 where
-  -- "At most n sets are non-empty at the end."
-  pub few : length (u .sets) ≤ A .n
-  pub full : (i : ℕ) → i < length (u .sets) → setAt (u .sets) i ≡ 0 → ⊥
-  pub states : (i q : ℕ) → In (u .sets) i q → q < A .n
-  pub some-colour : 1 ≤ u .colour
-  pub most-colour : u .colour ≤ neutral (A .n)
 
 -- each set is a number below 2^n
 pub small : {A : Automaton} {u : Tuple} → Formed A u → (i : ℕ) → setAt (u .sets) i < 2 ^ A .n
@@ -33,12 +24,8 @@ not-empty : (x : ℕ) → (q : ℕ) × Member x q → x ≡ 0 → ⊥
 not-empty x (q, h) e = no-member q (subst (λ (z : ℕ). Member z q) e h)
 
 -- the tuple before the first letter, as the closing up of one place
-pub first-places : Automaton → List Place
+first-places : Automaton → List Place
 first-places A = place (A .initial) false ∷ []
-
-pub first-sets : (A : Automaton) → first A .sets ≡ closeUp (first-places A)
-unfolding first first-places closeUp
-first-sets A = refl
 
 pub first-in : (A : Automaton) (j q : ℕ) → In (first A .sets) j q → (j ≡ 0) × Member (A .initial) q
 unfolding first first-places closeUp rank

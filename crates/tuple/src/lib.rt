@@ -5,10 +5,9 @@ ghost use mathlib.Core.Bool.{not, _&&_};
 ghost use Prim.Native.Nat.{_+_, _≤_, _<_, min};
 ghost use lib.Dec.{ltb};
 ghost use lib.ListN.{length};
-ghost use Rattle.sets.specs.Sets.{unionOf, interOf, minusOf, isWithin};
+ghost use Rattle.sets.specs.Sets.{interOf, isWithin};
 ghost use Rattle.automaton.specs.Automaton.{automaton};
-ghost use Rattle.automaton.specs.Successors.{successorsOf};
-ghost use Rattle.tuple.specs.Colour.{neutral, marked, emptied, dead};
+ghost use Rattle.tuple.specs.Colour.{neutral, marked, emptied};
 ghost use Rattle.tuple.specs.Step.{isEmpty, colourAt, deadOr, next};
 ghost use Rattle.tuple.specs.Parts.{outOf, Advanced, Unions, Swept, Placed, settled};
 ghost use Rattle.tuple.specs.Row.{row, tupleOf, Steps};
@@ -176,7 +175,7 @@ fn settle(n: usize, p: usize, w: &mut [u16])
     w[16] = colour.0;
 }
 
-// The step on a letter from the tuple whose row is given.
+// The step on a letter from the tuple whose row is given. The colour's cell serves as the spare place until the colour is known.
 pub fn step(a: Numbers, table: &[u16], letter: usize, w: &mut [u16])
     requires { ⌜ Steps (automaton a (now table)) letter (now w) ⌝ }
     ensures { λ _. ⌜ now (w .exit) ≡ row (next (automaton a (now (table .entry))) letter (tupleOf (now (w .entry)))) ⌝ }

@@ -9,29 +9,45 @@ use Rattle.tuple.proofs.place_sets.Tie as tie
 
 advance-requires : tie.Need-advance-requires
 advance-requires c κs =
-    let s = c .before .before .before .pre in
     let g = c .before .before .before .args in
-    (omega (arith, s .letter, s .fits .range .3), cells-length (automaton (g .a) (now (g .table))) (g .letter) (now (g .w)) s)
+    let A = automaton (g .a) (now (g .table)) in
+    let s = c .before .before .before .pre in
+    (omega (arith, s .letter, s .fits .range .3), cells-length A (g .letter) (now (g .w)) s)
 
 slice-read-first : tie.Need-slice-read-first
 slice-read-first c =
-    omega (arith, c .before .before .before .advance .kept .1 .1 .0, cells-length (automaton (c .before .before .before .before .before .before .before .args .a) (now (c .before .before .before .before .before .before .before .args .table))) (c .before .before .before .before .before .before .before .args .letter) (now (c .before .before .before .before .before .before .before .args .w)) (c .before .before .before .before .before .before .before .pre))
+    let g = c .before .before .before .before .before .before .before .args in
+    let A = automaton (g .a) (now (g .table)) in
+    let s = c .before .before .before .before .before .before .before .pre in
+    omega (arith, c .before .before .before .advance .kept .1 .1 .0, cells-length A (g .letter) (now (g .w)) s)
 
 recurrent-of-requires : tie.Need-recurrent-of-requires
 recurrent-of-requires c κs = search needs
 
 mul-w : tie.Need-mul-w
-mul-w c = omega (arith, count-few (automaton (c .before .before .before .before .before .before .before .before .args .a) (now (c .before .before .before .before .before .before .before .before .args .table))) (c .before .before .before .before .before .before .before .before .args .letter) (now (c .before .before .before .before .before .before .before .before .args .w)) (c .before .before .before .before .before .before .before .before .pre) (c .before .before .before .before .advance .ensures))
+mul-w c =
+    let g = c .before .before .before .before .before .before .before .before .args in
+    let A = automaton (g .a) (now (g .table)) in
+    let s = c .before .before .before .before .before .before .before .before .pre in
+    omega (arith, count-few A (g .letter) (now (g .w)) s (c .before .before .before .before .advance .ensures))
 
 slice-write-w : tie.Need-slice-write-w
 slice-write-w c =
-    omega (arith, c .before .before .before .before .advance .kept .1 .1 .0, cells-length (automaton (c .before .before .before .before .before .before .before .before .args .a) (now (c .before .before .before .before .before .before .before .before .args .table))) (c .before .before .before .before .before .before .before .before .args .letter) (now (c .before .before .before .before .before .before .before .before .args .w)) (c .before .before .before .before .before .before .before .before .pre), count-few (automaton (c .before .before .before .before .before .before .before .before .args .a) (now (c .before .before .before .before .before .before .before .before .args .table))) (c .before .before .before .before .before .before .before .before .args .letter) (now (c .before .before .before .before .before .before .before .before .args .w)) (c .before .before .before .before .before .before .before .before .pre) (c .before .before .before .before .advance .ensures))
+    let g = c .before .before .before .before .before .before .before .before .args in
+    let A = automaton (g .a) (now (g .table)) in
+    let s = c .before .before .before .before .before .before .before .before .pre in
+    let v = c .before .before .before .before .advance in
+    omega (arith, v .kept .1 .1 .0, cells-length A (g .letter) (now (g .w)) s, count-few A (g .letter) (now (g .w)) s (v .ensures))
 
 same-length : tie.Need-same-length
 same-length c = search needs
 
 returns : tie.Need-returns
-returns c = rw (c .recurrent-of .ensures) (place-done (automaton (c .before .before .before .before .before .before .before .before .args .a) (now (c .before .before .before .before .before .before .before .before .args .table))) (c .before .before .before .before .before .before .before .before .args .letter) (now (c .before .before .before .before .before .before .before .before .args .w)) (c .before .before .before .before .before .before .before .before .pre) (c .before .before .before .before .advance .ensures))
+returns c =
+    let g = c .before .before .before .before .before .before .before .before .args in
+    let A = automaton (g .a) (now (g .table)) in
+    let s = c .before .before .before .before .before .before .before .before .pre in
+    rw (c .recurrent-of .ensures) (place-done A (g .letter) (now (g .w)) s (c .before .before .before .before .advance .ensures))
 
 pub place-sets-spec : {M : Type 1} → statement M
 place-sets-spec =

@@ -36,7 +36,8 @@ same-length c = search needs
 returns : tie.Need-returns
 returns c =
     let g = c .before .before .before .before .before .before .before .before .before .before .before .before .args in
-    rw (c .dead-or .ensures) (settle-done (g .n) (g .p) (now (g .w)) (c .before .before .before .sweep .last .1 .1 .1 .0) (c .before .before .before .sweep .result .0) (omega arith) (c .before .before .before .sweep .ensures))
+    let v = c .before .before .before .sweep in
+    rw (c .dead-or .ensures) (settle-done (g .n) (g .p) (now (g .w)) (v .last .1 .1 .1 .0) (v .result .0) (omega arith) (v .ensures))
 
 pub settle-spec : {M : Type 1} → statement M
 settle-spec =

@@ -11,17 +11,22 @@ place-sets-requires : tie.Need-place-sets-requires
 place-sets-requires c κs = search needs
 
 settle-requires : tie.Need-settle-requires
-settle-requires c κs = (
-  c .before .before .before .before .before .before .before .pre .fits .range .1,
-  placed-few (automaton (c .before .before .before .before .before .before .before .args .a) (now (c .before .before .before .before .before .before .before .args .table))) (c .before .before .before .before .before .before .before .args .letter) (now (c .before .before .before .before .before .before .before .args .w)) (c .before .before .before .before .before .before .before .pre) (c .before .before .before .place-sets .ensures),
-  c .before .before .before .place-sets .kept .1 .1 .1 .0 ∙ cells-length (automaton (c .before .before .before .before .before .before .before .args .a) (now (c .before .before .before .before .before .before .before .args .table))) (c .before .before .before .before .before .before .before .args .letter) (now (c .before .before .before .before .before .before .before .args .w)) (c .before .before .before .before .before .before .before .pre),
-)
+settle-requires c κs =
+    let g = c .before .before .before .before .before .before .before .args in
+    let A = automaton (g .a) (now (g .table)) in
+    let s = c .before .before .before .before .before .before .before .pre in
+    let v = c .before .before .before .place-sets in
+    (s .fits .range .1, placed-few A (g .letter) (now (g .w)) s (v .ensures), v .kept .1 .1 .1 .0 ∙ cells-length A (g .letter) (now (g .w)) s)
 
 same-length : tie.Need-same-length
 same-length c = search needs
 
 returns : tie.Need-returns
-returns c = c .before .before .settle .ensures ∙ step-done (automaton (c .before .before .before .before .before .before .before .before .before .before .args .a) (now (c .before .before .before .before .before .before .before .before .before .before .args .table))) (c .before .before .before .before .before .before .before .before .before .before .args .letter) (now (c .before .before .before .before .before .before .before .before .before .before .args .w)) (c .before .before .before .before .before .before .before .before .before .before .pre) (c .before .before .before .before .before .before .place-sets .ensures)
+returns c =
+    let g = c .before .before .before .before .before .before .before .before .before .before .args in
+    let A = automaton (g .a) (now (g .table)) in
+    let s = c .before .before .before .before .before .before .before .before .before .before .pre in
+    c .before .before .settle .ensures ∙ step-done A (g .letter) (now (g .w)) s (c .before .before .before .before .before .before .place-sets .ensures)
 
 pub step-spec : {M : Type 1} → statement M
 step-spec = tie.close (tie.spec place-sets-requires settle-requires same-length returns)

@@ -1,9 +1,6 @@
 -- Before each turn: the sets closed up so far, and what is removed from the places left. Assumes nothing.
-use Prim.Native.Nat.{ℕ, _+_, _-_, _≤_, min}
+use Prim.Native.Nat.{_+_, _-_, _≤_}
 use mathlib.Core.Path.{_≡_, ap, _∙_}
-use mathlib.Core.Bool.{not, _&&_}
-use Rattle.sets.specs.Sets.{isWithin}
-use Rattle.tuple.specs.Step.{isEmpty}
 use mathlib.Core.Logic.{⊎-elim}
 use native.Mathlib.Omega.{arith}
 use denote.Ref.{now}
@@ -80,12 +77,30 @@ loop-again : tie.Need-loop-again Inv-loop μ-loop
 loop-again c =
     let g = c .before .before .before .before .before .before .before .before .before .before .before .before .before .args in
     let l = c .before .before .before .before .before .before .before .before .before .loop in
-    let x = c .before .before .before .before .before .before .minus .result in
-    let mark = c .before .before .before .before .is-marked .ensures ∙ ap (λ (z : ℕ). not (isEmpty x) && isWithin x z) (c .before .before .before .before .before .before .before .before .before .before .before .before .before .pre .4 (l .i) (omega arith)) in
-    let colour = c .before .before .least .ensures ∙ ap (min (l .colour .0)) (c .before .before .before .colour-at .ensures) in
+    let left = c .before .before .before .before .before .before .minus in
+    let tested = c .before .before .before .before .is-marked in
+    let least = c .before .before .least in
+    let out = c .before .out-of in
+    let x = left .result in
+    let pre = c .before .before .before .before .before .before .before .before .before .before .before .before .before .pre in
+    let long : g .p + 1 ≤ length (now (g .w)) = omega (arith, pre .1, pre .2) in
+    let unions = pre .4 (l .i) (omega arith) in
+    let place = c .before .before .before .colour-at in
     ⊎-elim
-    (λ t. (omega arith, omega arith, ap length (t .1) ∙ simp length-set (l .inv .2), sweep-full (g .n) (g .p) (g .p + 1) (now (g .w)) (omega arith) (l .inv .3) x (c .before .before .least .result .0) (c .before .out-of .result) (c .before .before .before .before .is-marked .result) (omega arith) (c .before .before .before .before .before .before .minus .ensures) mark colour (c .before .out-of .ensures) (t .0 .taken) (t .1) (t .2)))
-    (λ t. (omega arith, omega arith, ap length (t .1) ∙ simp length-set (l .inv .2), sweep-empty (g .n) (g .p) (g .p + 1) (now (g .w)) (omega arith) (l .inv .3) x (c .before .before .least .result .0) (c .before .out-of .result) (c .before .before .before .before .is-marked .result) (omega arith) (c .before .before .before .before .before .before .minus .ensures) mark colour (c .before .out-of .ensures) (t .0 .left) (t .1) (t .2)))
+    (λ t. (
+      omega arith,
+      omega arith,
+      ap length (t .1) ∙ simp length-set (l .inv .2),
+      sweep-full (g .n) (g .p) (g .p + 1) (now (g .w)) long (l .inv .3) x (least .result .0) (out .result) _ (place .result .0)
+          (tested .result) (omega arith) (left .ensures) unions (tested .ensures) (place .ensures) (least .ensures) (out .ensures) (t .0 .taken) (t .1) (t .2),
+    ))
+    (λ t. (
+      omega arith,
+      omega arith,
+      ap length (t .1) ∙ simp length-set (l .inv .2),
+      sweep-empty (g .n) (g .p) (g .p + 1) (now (g .w)) long (l .inv .3) x (least .result .0) (out .result) _ (place .result .0)
+          (tested .result) (omega arith) (left .ensures) unions (tested .ensures) (place .ensures) (least .ensures) (out .ensures) (t .0 .left) (t .1) (t .2),
+    ))
     (c .if1 .came)
 
 same-length : tie.Need-same-length Inv-loop μ-loop

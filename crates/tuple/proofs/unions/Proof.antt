@@ -12,7 +12,11 @@ use Rattle.tuple.proofs.unions.Tie as tie
 
 abbrev Inv-loop : tie.InvT-loop
 Inv-loop w count later₀ all₀ i₀ later all i =
-    (i ≤ count) × (count ≤ length w) × (length later ≡ length later₀) × (all ≡ unionAll (drop i (take count w))) × ((j : ℕ) → i ≤ j → j < count → getD later j 0 ≡ unionAll (drop (suc j) (take count w)))
+    (i ≤ count)
+    × (count ≤ length w)
+    × (length later ≡ length later₀)
+    × (all ≡ unionAll (drop i (take count w)))
+    × ((j : ℕ) → i ≤ j → j < count → getD later j 0 ≡ unionAll (drop (suc j) (take count w)))
 
 abbrev μ-loop : tie.MeasureT-loop
 μ-loop w count later₀ all₀ i₀ later all i = i
