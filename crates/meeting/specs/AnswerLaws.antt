@@ -11,7 +11,7 @@ use Rattle.automaton.specs.Automaton.{Automaton, Fits}
 use Rattle.automaton.specs.Meeting.{Meet, Everywhere, Free, Witness}
 use Rattle.automaton.specs.Lent.{Tables, SameLengths}
 use Rattle.pairs.specs.Joining.{Backwards}
-use Rattle.pairs.specs.Bound.{walk-in}
+use Rattle.pairs.specs.Edges.{walk-in}
 use Rattle.meeting.specs.Answer.{Zero, Answered}
 
 -- ---- tables that are all zero

@@ -1,7 +1,7 @@
 -- Every pair of states in which two walks on one word end comes into the queue, at the word's length or before.
 -- So where no pair of the queue joins no walks meet, and the first pair that joins has the shortest meeting. Assumes nothing.
-use Prim.Native.Nat.{ℕ, zero, suc, _+_, _/_, _%_, _≤_, _<_}
-use mathlib.Core.Path.{_≡_, sym, _∙_, ap, subst}
+use Prim.Native.Nat.{ℕ, zero, suc, _/_, _%_, _≤_, _<_}
+use mathlib.Core.Path.{sym, _∙_}
 use mathlib.Core.Logic.{inl, inr}
 use mathlib.Core.List.{List}
 use native.Mathlib.Omega.{arith}
@@ -14,54 +14,8 @@ use Rattle.pairs.specs.Joining.{Backwards, Joins, meet-joins}
 use Rattle.pairs.specs.Extending.{Both, both-start, both-step, both-meet}
 use Rattle.pairs.specs.Bound.{NoneShorter, shortest-136}
 use Rattle.queue.specs.Queue.{pair, origin, depth, one, other, Has}
-use Rattle.queue.specs.QueueLaws.{has-longer}
-use Rattle.meeting.specs.Search.{Sound, AllSound, Grown, Started, Closed, Ready, JoinsOn, Search, Found}
-use Rattle.meeting.specs.SearchLaws.{edge-of, edge-letter, initial-lt}
-
--- ---- the search goes on
-
-pub search-start : (A : Automaton) (counts : ℕ) (T : List ℕ) (count : ℕ) → Started A T count 16 → Search A counts T count 0
-search-start A counts T count s = record {
-  queue = s .queue;
-  sound = s .sound;
-  begun = s .begun;
-  within = omega arith;
-  near = λ h i l. (let m = s .most i l in omega arith);
-  closed = λ i l. absurd (omega arith);
-  none = λ i c l. absurd (omega arith);
-}
-
-pub search-ready : (A : Automaton) (counts : ℕ) (T : List ℕ) (count head : ℕ) → Fits A → 128 ≤ length (A .table) → head < count → Search A counts T count head → Ready A T count head
-search-ready A counts T count head fits cells l s = record { fits = fits; cells = cells; queue = s .queue; sound = s .sound; some = l; near = s .near l }
-
-pub search-more : (A : Automaton) (counts : ℕ) (T : List ℕ) (count head : ℕ) (T' : List ℕ) (count' : ℕ) → head < count
-    → ((l : ℕ) → l < 8 → JoinsOn (A .table) counts (pair T head) l → ⊥) → Grown A T count (suc (depth (pair T head))) T' count' → Closed A T' count' head
-    → Search A counts T count head → Search A counts T' count' (head + 1)
-search-more A counts T count head T' count' h f g c s =
-    let m = g .more in
-    record {
-      queue = g .queue;
-      sound = g .sound;
-      begun = λ p q l a b. has-longer T T' count count' 0 p q (g .keeps) (g .more) (s .begun p q l a b);
-      within = omega arith;
-      near = λ l i k. (let u = g .most i k in let v = g .queue .sorted head (head + 1) (omega arith) l in let e = g .keeps head h .0 in let v' : depth (pair T head) ≤ depth (pair T' (head + 1)) = rw e at v in omega arith);
-      closed = λ i l. closed-at i l (decLt i head);
-      none = λ i l k n. none-at i l k n (decLt i head);
-    }
-  where
-    closed-at : (i : ℕ) → i < head + 1 → Dec (i < head) → Closed A T' count' i
-    closed-at i l (yes k) =
-        let e = g .keeps i (omega arith) .0 in
-        λ d x y u v. rw e (has-longer T T' count count' (suc (depth (pair T i))) x y (g .keeps) (g .more) (s .closed i k d x y (rw e at u) (rw e at v)))
-    closed-at i l (no k) = let e : i ≡ head = omega arith in rw e c
-
-    none-at : (i l : ℕ) → i < head + 1 → l < 8 → Dec (i < head) → JoinsOn (A .table) counts (pair T' i) l → ⊥
-    none-at i l k n (yes z) j = s .none i l z n (subst (λ (e : ℕ). JoinsOn (A .table) counts e l) (g .keeps i (omega arith) .0) j)
-    none-at i l k n (no z) j =
-        let e : i ≡ head = omega arith in
-        f l n (subst (λ (e : ℕ). JoinsOn (A .table) counts e l) (ap (pair T') e ∙ g .keeps head h .0) j)
-
--- ---- what it has found
+use Rattle.meeting.specs.Search.{Sound, AllSound, JoinsOn, Search, Found}
+use Rattle.pairs.specs.Edges.{edge-of, edge-letter, initial-lt}
 
 module _ (A : Automaton) (fits : Fits A) (counts : ℕ) (back : Backwards A (Member counts)) (T : List ℕ) (count head : ℕ) (s : Search A counts T count head) where
   -- all pairs of depth below D are done

@@ -1,8 +1,13 @@
 pub mod Answer
 pub mod AnswerLaws
 pub mod Search
-pub mod SearchLaws
+pub mod SoundLaws
+pub mod StartLaws
+pub mod StepLaws
 pub mod JoinLaws
+pub mod SearchLaws
 pub mod FoundLaws
 pub mod Trace
 pub mod TraceLaws
+pub mod LastLetterLaws
+pub mod WitnessLaws

@@ -8,6 +8,7 @@ use Rattle.sets.specs.Sets.{Member}
 use Rattle.automaton.specs.Automaton.{Automaton, Edge, Fits}
 use Rattle.automaton.specs.Meeting.{Free}
 use Rattle.pairs.specs.Bound.{NoneShorter}
+use Rattle.meeting.specs.Answer.{Zero}
 use Rattle.queue.specs.Queue.{pair, origin, depth, one, other, Has, Queue, AtMost, Keeps}
 
 -- p and q are initial, on the empty word
@@ -45,7 +46,12 @@ pub record Grown (A : Automaton) (T : List ℕ) (count d : ℕ) (T' : List ℕ) 
 abbrev pub Begun : Automaton → List ℕ → ℕ → ℕ → Type 0
 Begun A T count m = (p q : ℕ) → p < m → Member (A .initial) p → Member (A .initial) q → Has T count 0 p q
 
--- a start of the queue from an empty table
+-- a table with no pair in it
+pub record Empty (T : List ℕ) : Type 0 where
+  pub size : length T ≡ 528
+  pub zeros : Zero T
+
+-- the start of the queue
 pub record Started (A : Automaton) (T : List ℕ) (count m : ℕ) : Type 0 where
   pub queue : Queue T count
   pub sound : AllSound A T count

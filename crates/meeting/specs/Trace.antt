@@ -2,7 +2,7 @@
 use Prim.Native.Nat.{ℕ, suc, _/_, _≤_, _<_}
 use mathlib.Core.Path.{_≡_}
 use mathlib.Core.List.{List}
-use lib.ListN.{getD}
+use lib.ListN.{length, getD}
 use Rattle.sets.specs.Sets.{Member}
 use Rattle.automaton.specs.Automaton.{Automaton, Edge}
 use Rattle.automaton.specs.Lent.{Tables}
@@ -31,6 +31,16 @@ pub record Traced (A : Automaton) (counts : ℕ) (T : List ℕ) (head d t i : �
 -- each of the pairs up to head that lies deeper than 0 comes from an earlier one, a letter less deep
 abbrev pub Linked : List ℕ → ℕ → Type 0
 Linked T head = (i : ℕ) → i ≤ head → 0 < depth (pair T i) → (origin T i / 8 < i) × (depth (pair T i) ≡ suc (depth (pair T (origin T i / 8))))
+
+-- the walks that end pair head, d letters deep, can be traced into tables v
+pub record Traceable (T : List ℕ) (head d : ℕ) (v : Tables) : Type 0 where
+  pub size : length T ≡ 528
+  pub some : head < 256
+  pub linked : Linked T head
+  pub deep : depth (pair T head) ≡ d
+  pub word : d < length (v .word)
+  pub one : d < length (v .one)
+  pub other : d < length (v .other)
 
 -- tables v with the last letter of a meeting have become w, with the letters from t on: whatever the automaton
 abbrev pub Leads : List ℕ → ℕ → ℕ → ℕ → ℕ → Tables → Tables → Type 0

@@ -1,7 +1,7 @@
 // Meeting walks: a breadth-first search among the pairs of states in which two walks on one word end.
 ghost use mathlib.Core.Path.{_≡_};
-ghost use Prim.Native.Nat.{ℕ, suc, _<_, _≤_, _*_, _+_};
-ghost use lib.ListN.{length, getD};
+ghost use Prim.Native.Nat.{ℕ, suc, _<_, _≤_};
+ghost use lib.ListN.{length};
 ghost use Rattle.sets.specs.Sets.{Member};
 ghost use Rattle.pairs.specs.Joining.{Backwards};
 ghost use Rattle.automaton.specs.Automaton.{automaton, Fits};
@@ -9,8 +9,8 @@ ghost use Rattle.automaton.specs.Meeting.{Witness};
 ghost use Rattle.automaton.specs.Lent.{tables};
 ghost use Rattle.meeting.specs.Answer.{Asked, Answered};
 ghost use Rattle.queue.specs.Queue.{pair, depth};
-ghost use Rattle.meeting.specs.Search.{Grown, Started, Guarded, Ready, Closed, Common, Joining, Explored, Found};
-ghost use Rattle.meeting.specs.Trace.{Linked, Leads};
+ghost use Rattle.meeting.specs.Search.{Empty, Grown, Started, Guarded, Ready, Closed, Common, Joining, Explored, Found};
+ghost use Rattle.meeting.specs.Trace.{Traceable, Leads};
 use automaton::Numbers;
 
 // The set y where p is a member of x, and else the empty set.
@@ -26,7 +26,7 @@ fn guarded(x: u16, p: usize, y: u16) -> u16
 
 // The pairs of initial states, from an empty queue.
 fn begin(a: Numbers, table: &[u16], queue: &mut [u16]) -> usize
-    requires { ⌜ Fits (automaton a (now table)) × (length (now queue) ≡ 528) × ((i : ℕ) → getD (now queue) i 0 ≡ 0) ⌝ }
+    requires { ⌜ Fits (automaton a (now table)) × Empty (now queue) ⌝ }
     ensures { λ r. ⌜ Started (automaton a (now (table .entry))) (now (queue .exit)) r 16 ⌝ }
 {
     let mut count = 0;
@@ -92,7 +92,7 @@ fn joining(table: &[u16], counts: u16, e: usize) -> usize
 
 // The first pair in the order of the search that joins, or 256.
 fn explore(a: Numbers, table: &[u16], counts: u16, queue: &mut [u16]) -> usize
-    requires { ⌜ Fits (automaton a (now table)) × (128 ≤ length (now table)) × Backwards (automaton a (now table)) (Member counts) × (length (now queue) ≡ 528) × ((i : ℕ) → getD (now queue) i 0 ≡ 0) ⌝ }
+    requires { ⌜ Fits (automaton a (now table)) × (128 ≤ length (now table)) × Backwards (automaton a (now table)) (Member counts) × Empty (now queue) ⌝ }
     ensures { λ r. ⌜ Explored (automaton a (now (table .entry))) counts (now (queue .exit)) r ⌝ }
 {
     let mut count = begin(a, table, queue);
@@ -124,7 +124,7 @@ fn member(set: u16) -> usize
 
 // From pair head, d letters deep, back to a pair of initial states.
 fn trace(queue: &[u16], head: usize, d: usize, word: &mut [u16], one: &mut [u16], other: &mut [u16])
-    requires { ⌜ (length (now queue) ≡ 528) × (head < 256) × Linked (now queue) head × (depth (pair (now queue) head) ≡ d) × (d < length (now word)) × (d < length (now one)) × (d < length (now other)) ⌝ }
+    requires { ⌜ Traceable (now queue) head d (tables (now word) (now one) (now other)) ⌝ }
     ensures { λ _. ⌜ ((i : ℕ) × Leads (now (queue .entry)) head d 0 i (tables (now (word .entry)) (now (one .entry)) (now (other .entry))) (tables (now (word .exit)) (now (one .exit)) (now (other .exit)))) ⌝ }
 {
     let mut i = head;

@@ -1,5 +1,5 @@
 -- A shortest word with meeting walks has at most n (n + 1) / 2 letters: before they join, the walks are in no pair of states twice. Assumes nothing.
-use Prim.Native.Nat.{ℕ, zero, suc, _+_, _*_, _/_, _-_, _≤_, _<_}
+use Prim.Native.Nat.{ℕ, suc, _+_, _*_, _/_, _-_, _≤_, _<_}
 use mathlib.Core.Path.{_≡_, _∙_, ap, subst}
 use mathlib.Core.Logic.{_⊎_, inl, inr}
 use native.Mathlib.Omega.{arith}
@@ -7,14 +7,10 @@ use native.Mathlib.Decide.{decLe}
 use Rattle.finite.specs.Finite.{pigeon}
 use Rattle.automaton.specs.Automaton.{Automaton, Fits}
 use Rattle.automaton.specs.Meeting.{Walk, Meet}
+use Rattle.pairs.specs.Edges.{walk-in}
 use Rattle.pairs.specs.Triangle.{triangle, triangle-is, triangle-most, pairNumber, pair-lt, pair-same}
 use Rattle.pairs.specs.Joining.{Backwards, Joins, shorter, joins-meet, meet-joins}
 use Rattle.pairs.specs.Cutting.{cut-meet}
-
--- the states of a walk are states of the sheet
-pub walk-in : (A : Automaton) → Fits A → (w : ℕ → ℕ) (t : ℕ) (x : ℕ → ℕ) → Walk A w t x → (s : ℕ) → s ≤ t → x s < A .n
-walk-in A fits w t x v zero l = fits .states .0 (x 0) (v .starts)
-walk-in A fits w t x v (suc s) l = fits .cells (8 * x s + w s) .within (x (suc s)) (v .goes s (omega arith) .to)
 
 -- no shorter word has meeting walks
 abbrev pub NoneShorter : Automaton → (ℕ → Type 0) → ℕ → Type 0

@@ -1,3 +1,4 @@
+pub mod Edges
 pub mod Triangle
 pub mod Joining
 pub mod Extending

@@ -1,1 +1,1 @@
-// Pairs of states in which two walks on one word end: specifications only.
+// How long a shortest word with meeting walks can be: specifications only.

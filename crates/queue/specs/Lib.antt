@@ -1,3 +1,5 @@
 pub mod Membership
 pub mod Queue
-pub mod QueueLaws
+pub mod Room
+pub mod Push
+pub mod Rows

@@ -1,9 +1,7 @@
 // The walk check: question 10, and the whole check of a sheet that is handed over as numbers.
-ghost use mathlib.Core.Path.{_≡_};
-ghost use Prim.Native.Nat.{_≤_};
 ghost use Rattle.automaton.specs.Automaton.{automaton};
 ghost use Rattle.automaton.specs.Meeting.{Everywhere};
-ghost use Rattle.automaton.specs.Lent.{tables, clearedTables};
+ghost use Rattle.automaton.specs.Lent.{tables};
 ghost use Rattle.meeting.specs.Answer.{Zero, Asked, Answered};
 ghost use Rattle.walks.specs.Check.{Lengths, Checks, Judges};
 use automaton::Numbers;

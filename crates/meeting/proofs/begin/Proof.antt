@@ -4,7 +4,7 @@ use mathlib.Core.Path.{_≡_, subst}
 use native.Mathlib.Omega.{arith}
 use Rattle.automaton.specs.Automaton.{automaton}
 use Rattle.meeting.specs.Search.{Started}
-use Rattle.meeting.specs.SearchLaws.{start-empty, start-open, start-more}
+use Rattle.meeting.specs.StartLaws.{start-empty, start-open, start-more}
 use borrow.Author.Needs.{needs}
 use Rattle.meeting.proofs.begin.Statement.{statement}
 use Rattle.meeting.proofs.begin.Tie as tie
@@ -19,7 +19,7 @@ loop-holds : tie.Need-loop-holds Inv-loop μ-loop
 loop-holds c =
     let a = c .before .before .args in
     let p = c .before .before .pre in
-    (omega arith, start-empty (automaton (a .a) (a .table .now)) (a .queue .now) (p .1) (p .2))
+    (omega arith, start-empty (automaton (a .a) (a .table .now)) (a .queue .now) (p .1))
 
 guarded-requires : tie.Need-guarded-requires Inv-loop μ-loop
 guarded-requires c κs = search needs
@@ -47,7 +47,7 @@ loop-again c =
 same-length : tie.Need-same-length Inv-loop μ-loop
 same-length c =
     let s = c .before .loop .inv .1 .queue .size in
-    let t = c .before .before .before .before .pre .1 in
+    let t = c .before .before .before .before .pre .1 .size in
     omega arith
 
 returns : tie.Need-returns Inv-loop μ-loop

@@ -5,7 +5,7 @@ use native.Mathlib.Omega.{arith}
 use Rattle.automaton.specs.Automaton.{automaton}
 use Rattle.queue.specs.Queue.{AtMost, one, other}
 use Rattle.meeting.specs.Search.{Grown, Stepped}
-use Rattle.meeting.specs.SearchLaws.{grown-none, step-open, step-grown, step-stepped, steps-closed, grown-by}
+use Rattle.meeting.specs.StepLaws.{grown-none, step-open, step-grown, step-stepped, steps-closed, grown-by}
 use borrow.Author.Needs.{needs}
 use Rattle.meeting.proofs.expand.Statement.{statement}
 use Rattle.meeting.proofs.expand.Tie as tie

@@ -4,7 +4,8 @@ use mathlib.Core.Path.{sym, subst}
 use native.Mathlib.Omega.{arith}
 use Rattle.automaton.specs.Automaton.{automaton}
 use Rattle.meeting.specs.Search.{Search, JoinsOn}
-use Rattle.meeting.specs.FoundLaws.{search-start, search-ready, search-more, search-found, search-free}
+use Rattle.meeting.specs.SearchLaws.{search-start, search-ready, search-more}
+use Rattle.meeting.specs.FoundLaws.{search-found, search-free}
 use borrow.Author.Needs.{needs}
 use Rattle.meeting.proofs.explore.Statement.{statement}
 use Rattle.meeting.proofs.explore.Tie as tie
@@ -36,7 +37,7 @@ joining-requires c κs = search needs
 same-length : tie.Need-same-length Inv-loop μ-loop
 same-length c =
     let s = c .before .before .before .before .before .loop .inv .queue .size in
-    let t = c .before .before .before .before .before .before .before .before .before .before .before .before .pre .3 in
+    let t = c .before .before .before .before .before .before .before .before .before .before .before .before .pre .3 .size in
     omega arith
 
 returns : tie.Need-returns Inv-loop μ-loop
@@ -84,7 +85,7 @@ loop-again c =
 same-length-2 : tie.Need-same-length-2 Inv-loop μ-loop
 same-length-2 c =
     let s = c .before .loop .inv .queue .size in
-    let t = c .before .before .before .before .before .before .before .before .pre .3 in
+    let t = c .before .before .before .before .before .before .before .before .pre .3 .size in
     omega arith
 
 returns-2 : tie.Need-returns-2 Inv-loop μ-loop

@@ -20,7 +20,7 @@ abbrev μ-loop : tie.MeasureT-loop
 loop-holds : tie.Need-loop-holds Inv-loop μ-loop
 loop-holds c =
     let p = c .before .before .before .before .pre in
-    (omega arith, omega arith, p .3, refl, refl, refl, λ A counts s x. x)
+    (omega arith, omega arith, p .deep, refl, refl, refl, λ A counts s x. x)
 
 add-number : tie.Need-add-number Inv-loop μ-loop
 add-number c = search needs
@@ -35,7 +35,7 @@ number-requires-2 : tie.Need-number-requires-2 Inv-loop μ-loop
 number-requires-2 c κs =
     let p = c .before .before .before .before .before .before .before .pre in
     let l = c .before .before .loop in
-    let z = p .2 (l .i) (l .inv .0) (omega arith) in
+    let z = p .linked (l .i) (l .inv .0) (omega arith) in
     let e = c .number .ensures in
     let z' : c .number .result / 8 < l .i = rw e (z .0) in
     omega arith
@@ -77,7 +77,7 @@ loop-again : tie.Need-loop-again Inv-loop μ-loop
 loop-again c =
     let p = c .before .before .before .before .before .before .before .before .pre in
     let l = c .before .before .before .loop in
-    let z = p .2 (l .i) (l .inv .0) (omega arith) in
+    let z = p .linked (l .i) (l .inv .0) (omega arith) in
     let a = c .before .before .before .before .before .before .before .before .args in
     let g = c .before .number in
     let k = c .number2 in

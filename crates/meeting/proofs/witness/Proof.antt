@@ -7,7 +7,8 @@ use Rattle.automaton.specs.Automaton.{automaton}
 use Rattle.automaton.specs.Lent.{tables}
 use Rattle.queue.specs.Queue.{depth}
 use Rattle.meeting.specs.JoinLaws.{common-none}
-use Rattle.meeting.specs.TraceLaws.{found-letter, linked, witness-of}
+use Rattle.meeting.specs.WitnessLaws.{found-letter, witness-of}
+use Rattle.meeting.specs.TraceLaws.{linked}
 use borrow.Author.Needs.{needs}
 use Rattle.meeting.proofs.witness.Statement.{statement}
 use Rattle.meeting.proofs.witness.Tie as tie
@@ -117,7 +118,15 @@ trace-requires c κs =
     let hw = p .0 .long .word in
     let ho = p .0 .long .one in
     let hr = p .0 .long .other in
-    (p .1 .size, p .1 .some, linked A T (a .head) (p .1 .sound), ap depth (sym (e .ensures)), simp length-set (omega arith), simp length-set (omega arith), simp length-set (omega arith))
+    record {
+      size = p .1 .size;
+      some = p .1 .some;
+      linked = linked A T (a .head) (p .1 .sound);
+      deep = ap depth (sym (e .ensures));
+      word = simp length-set (omega arith);
+      one = simp length-set (omega arith);
+      other = simp length-set (omega arith);
+    }
 
 add-result : tie.Need-add-result
 add-result c = search needs

@@ -6,7 +6,9 @@ use lib.ListN.{length-set}
 use Rattle.sets.specs.Sets.{Member}
 use Rattle.sets.specs.SetLaws.{minus-left, minus-not}
 use Rattle.queue.specs.Queue.{companions, Only}
-use Rattle.queue.specs.QueueLaws.{has-room, push, unchanged}
+use Rattle.queue.specs.Room.{has-room}
+use Rattle.queue.specs.Push.{push}
+use Rattle.queue.specs.Rows.{unchanged}
 use Rattle.queue.specs.Membership.{member-yes, member-no, minus-else}
 use borrow.Author.Needs.{needs}
 use Rattle.queue.proofs.add.Statement.{statement}

@@ -4,7 +4,7 @@ use mathlib.Core.Path.{_≡_, sym, _∙_, subst}
 use native.Mathlib.Omega.{arith}
 use Rattle.sets.specs.SetLaws.{within-is}
 use Rattle.queue.specs.Queue.{companions, Below, Longer}
-use Rattle.queue.specs.QueueLaws.{unchanged, row-more, open-longer}
+use Rattle.queue.specs.Rows.{unchanged, row-more, open-longer}
 use borrow.Author.Needs.{needs}
 use Rattle.queue.proofs.add_row.Statement.{statement}
 use Rattle.queue.proofs.add_row.Tie as tie

@@ -1,6 +1,6 @@
--- One pair more, and a row of pairs more, leave a queue. There is room for each pair that is not listed: pairs are numbers below 256. Assumes nothing.
+-- One pair more leaves a queue. Assumes nothing.
 use Prim.Native.Nat.{ℕ, _+_, _*_, _%_, _^_, _≤_, _<_}
-use mathlib.Core.Path.{_≡_, refl, sym, _∙_}
+use mathlib.Core.Path.{_≡_, sym, _∙_}
 use mathlib.Core.Logic.{_⊎_, inl, inr}
 use mathlib.Core.List.{List}
 use native.Mathlib.Omega.{arith}
@@ -9,53 +9,8 @@ use lib.ListN.{getD, set, length-set}
 use lib.Seq.{getD-set-same, getD-set-other}
 use Rattle.sets.specs.Sets.{Member, unionOf}
 use Rattle.sets.specs.SetLaws.{union-in, union-left, union-right, bit-single, single-in}
-use Rattle.finite.specs.Finite.{pigeon, glue, glue-lt, glue-ge}
-use Rattle.queue.specs.Queue.{pair, origin, companions, depth, one, other, Listed, Has, Queue, AtMost, Keeps, Fresh, Longer, Below, Only, Open, pushed}
-
--- a listed pair has its depth's bound
-pub listed-has : (T : List ℕ) (count d p q : ℕ) → AtMost T count d → Listed T count p q → Has T count d p q
-listed-has T count d p q m (i, l, a, b) = (i, l, m i l, a, b)
-
-pub has-longer : (T T' : List ℕ) (count count' d p q : ℕ) → Keeps T count T' → count ≤ count' → Has T count d p q → Has T' count' d p q
-has-longer T T' count count' d p q k l (i, h, x, a, b) = let e = k i h .0 in (i, omega arith, rw e x, rw e a, rw e b)
-
--- ---- room
-
-module _ (T : List ℕ) (count p q : ℕ) (c : Queue T count) (hp : p < 16) (hq : q < 16) (new : Member (companions T p) q → ⊥) where
-  not-listed : (i : ℕ) → i < count → pair T i % 256 ≡ 16 * p + q → ⊥
-  not-listed i l e =
-      let a : one (pair T i) ≡ p = omega arith in
-      let b : other (pair T i) ≡ q = omega arith in
-      new (rw (a, b) at (c .noted i l))
-
-  pub has-room : count < 256
-  has-room = by (decLt count 256)
-    where
-      numbers : ℕ → ℕ
-      numbers = glue (λ i. pair T i % 256) (λ i. 16 * p + q) count
-
-      small : (i : ℕ) → numbers i < 256
-      small i = at (decLt i count)
-        where
-          at : Dec (i < count) → numbers i < 256
-          at (yes l) = let e = glue-lt (λ i. pair T i % 256) (λ i. 16 * p + q) count i l in omega arith
-          at (no l) = let e = glue-ge (λ i. pair T i % 256) (λ i. 16 * p + q) count i (omega arith) in omega arith
-
-      twice : (i j : ℕ) → i < j → j ≤ 256 → 256 ≤ count → numbers i ≡ numbers j → ⊥
-      twice i j l m h e = at (decLt j count)
-        where
-          a : numbers i ≡ pair T i % 256
-          a = glue-lt (λ i. pair T i % 256) (λ i. 16 * p + q) count i (omega arith)
-
-          at : Dec (j < count) → ⊥
-          at (yes k) = c .once i j l k (sym a ∙ e ∙ glue-lt (λ i. pair T i % 256) (λ i. 16 * p + q) count j k)
-          at (no k) = not-listed i (omega arith) (sym a ∙ e ∙ glue-ge (λ i. pair T i % 256) (λ i. 16 * p + q) count j (omega arith))
-
-      by : Dec (count < 256) → count < 256
-      by (yes l) = l
-      by (no l) = let (i, j, h, m, e) = pigeon 256 numbers (λ k x. small k) in absurd (twice i j h m (omega arith) e)
-
--- ---- one pair more
+use Rattle.queue.specs.Queue.{pair, origin, companions, depth, one, other, Listed, Queue, Keeps, Longer, Only, Open, pushed}
+use Rattle.queue.specs.Room.{not-listed}
 
 module _ (T : List ℕ) (count d p q o : ℕ) (a : Open T count d p) (hq : q < 16) (room : count < 256) (new : Member (companions T p) q → ⊥) where
   first : List ℕ
@@ -175,56 +130,3 @@ module _ (T : List ℕ) (count d p q o : ℕ) (a : Open T count d p) (hq : q < 1
       most-at : (i : ℕ) → i < count + 1 → Dec (i < count) → depth (pair (pushed T count d p q o) i) ≤ d
       most-at i l (yes m) = rw (keeps i m .0) (a .most i m)
       most-at i l (no m) = let z : i ≡ count = omega arith in rw z (omega (arith, pushed-depth))
-
--- ---- rows
-
--- nothing to add
-pub unchanged : (T : List ℕ) (count d p : ℕ) (S : ℕ → Type 0) (o : ℕ) → Open T count d p → ((q : ℕ) → S q → Member (companions T p) q) → Longer T count d p S o T count
-unchanged T count d p S o a f = record {
-  queue = a .queue;
-  more = omega arith;
-  keeps = λ i l. (refl, refl);
-  most = a .most;
-  fresh = λ i l m. absurd (omega arith);
-  has = λ q s. listed-has T count d p q (a .most) (a .queue .listed p q (a .state) (f q s));
-}
-
-pub open-longer : (T : List ℕ) (count d p : ℕ) (S : ℕ → Type 0) (o : ℕ) (T' : List ℕ) (count' r : ℕ) → r < 16 → d ≤ count → Longer T count d p S o T' count' → Open T' count' d r
-open-longer T count d p S o T' count' r h l x = let m = x .more in record { queue = x .queue; most = x .most; deep = omega arith; state = h }
-
--- first the members of S, then those of S′
-pub longer-both : (T : List ℕ) (count d p : ℕ) (S S′ U : ℕ → Type 0) (o : ℕ) (T₁ : List ℕ) (count₁ : ℕ) (T₂ : List ℕ) (count₂ : ℕ)
-    → ((q : ℕ) → U q → S q ⊎ S′ q) → ((q : ℕ) → S q → U q) → ((q : ℕ) → S′ q → U q)
-    → Longer T count d p S o T₁ count₁ → Longer T₁ count₁ d p S′ o T₂ count₂ → Longer T count d p U o T₂ count₂
-longer-both T count d p S S′ U o T₁ count₁ T₂ count₂ split f g x y =
-    let lx = x .more in
-    let ly = y .more in
-    record {
-      queue = y .queue;
-      more = omega arith;
-      keeps = λ i l. (let k = y .keeps i (omega arith) in let h = x .keeps i l in (k .0 ∙ h .0, k .1 ∙ h .1));
-      most = y .most;
-      fresh = λ i l m. fresh-at i l m (decLt i count₁);
-      has = λ q u. has-at q (split q u);
-    }
-  where
-    fresh-at : (i : ℕ) → count ≤ i → i < count₂ → Dec (i < count₁) → Fresh T₂ d p U o i
-    fresh-at i l m (yes h) = let k = y .keeps i h in let w = x .fresh i l h in
-        record { deep = rw (k .0) (w .deep); left = rw (k .0) (w .left); right = rw (k .0) (f (other (pair T₁ i)) (w .right)); from = k .1 ∙ w .from }
-    fresh-at i l m (no h) = let w = y .fresh i (omega arith) m in record { deep = w .deep; left = w .left; right = g (other (pair T₂ i)) (w .right); from = w .from }
-
-    has-at : (q : ℕ) → S q ⊎ S′ q → Has T₂ count₂ d p q
-    has-at q (inl s) = has-longer T₁ T₂ count₁ count₂ d p q (y .keeps) (y .more) (x .has q s)
-    has-at q (inr s) = y .has q s
-
--- one member more
-pub row-more : (T : List ℕ) (count d p x q o : ℕ) (T₁ : List ℕ) (count₁ : ℕ) (T₂ : List ℕ) (count₂ : ℕ)
-    → Longer T count d p (Below x q) o T₁ count₁ → Longer T₁ count₁ d p (Only x q) o T₂ count₂ → Longer T count d p (Below x (q + 1)) o T₂ count₂
-row-more T count d p x q o T₁ count₁ T₂ count₂ = longer-both T count d p (Below x q) (Only x q) (Below x (q + 1)) o T₁ count₁ T₂ count₂ split (λ r s. (omega arith, s .1)) (λ r s. (omega arith, s .1))
-  where
-    split : (r : ℕ) → Below x (q + 1) r → Below x q r ⊎ Only x q r
-    split r (l, m) = by (decLt r q)
-      where
-        by : Dec (r < q) → Below x q r ⊎ Only x q r
-        by (yes h) = inl (h, m)
-        by (no h) = inr (omega arith, m)

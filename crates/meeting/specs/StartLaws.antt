@@ -1,0 +1,49 @@
+-- The queue starts with the pairs of initial states. Assumes nothing.
+use Prim.Native.Nat.{ℕ, _+_, _<_}
+use mathlib.Core.Path.{_≡_, refl, subst}
+use mathlib.Core.Logic.{inl}
+use mathlib.Core.List.{List}
+use native.Mathlib.Omega.{arith}
+use native.Mathlib.Decide.{decLt}
+use Rattle.sets.specs.Sets.{Member}
+use Rattle.sets.specs.SetLaws.{no-member}
+use Rattle.automaton.specs.Automaton.{Automaton, Fits}
+use Rattle.queue.specs.Queue.{Has, Longer, Below, Open}
+use Rattle.queue.specs.Rows.{has-longer}
+use Rattle.meeting.specs.Search.{Empty, Started, Guarded}
+use Rattle.pairs.specs.Edges.{initial-lt}
+use Rattle.meeting.specs.SoundLaws.{sound-longer}
+
+pub start-empty : (A : Automaton) (T : List ℕ) → Empty T → Started A T 0 0
+start-empty A T e = record {
+  queue = record {
+    size = e .size;
+    room = omega arith;
+    early = λ i l. absurd (omega arith);
+    sorted = λ i j l m. absurd (omega arith);
+    once = λ i j l m e. absurd (omega arith);
+    noted = λ i l. absurd (omega arith);
+    listed = λ p q l m. absurd (no-member q (subst (λ (x : ℕ). Member x q) (e .zeros (512 + p)) m));
+  };
+  sound = λ i l. absurd (omega arith);
+  most = λ i l. absurd (omega arith);
+  begun = λ p q l. absurd (omega arith);
+}
+
+pub start-open : (A : Automaton) (T : List ℕ) (count p : ℕ) → p < 16 → Started A T count p → Open T count 0 p
+start-open A T count p l s = record { queue = s .queue; most = s .most; deep = omega arith; state = l }
+
+pub start-more : (A : Automaton) (T : List ℕ) (count p x : ℕ) (T' : List ℕ) (count' : ℕ) → Fits A → Started A T count p
+    → Guarded (A .initial) p (A .initial) x → Longer T count 0 p (Below x 16) 0 T' count' → Started A T' count' (p + 1)
+start-more A T count p x T' count' fits s g y = record {
+  queue = y .queue;
+  sound = sound-longer A T count 0 p (Below x 16) 0 T' count' (s .sound) y (λ q m. (let (a, b) = g q .0 (m .1) in inl (record { deep = refl; left = a; right = b })));
+  most = y .most;
+  begun = λ r q l a b. at r q l a b (decLt r p);
+}
+  where
+    at : (r q : ℕ) → r < p + 1 → Member (A .initial) r → Member (A .initial) q → Dec (r < p) → Has T' count' 0 r q
+    at r q l a b (yes h) = has-longer T T' count count' 0 r q (y .keeps) (y .more) (s .begun r q h a b)
+    at r q l a b (no h) =
+        let e : r ≡ p = omega arith in
+        rw e (y .has q (initial-lt A fits q b, g q .1 (rw e at a, b)))

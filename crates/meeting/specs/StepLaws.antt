@@ -1,0 +1,74 @@
+-- The queue grows by what one of its pairs steps to. Assumes nothing.
+use Prim.Native.Nat.{ℕ, suc, _+_, _*_, _/_, _%_, _≤_, _<_}
+use mathlib.Core.Path.{_≡_, refl, sym, _∙_}
+use mathlib.Core.Logic.{inr}
+use mathlib.Core.List.{List}
+use native.Mathlib.Omega.{arith}
+use native.Mathlib.Decide.{decLt}
+use Rattle.automaton.specs.Automaton.{Automaton, Edge, Fits, successorSet}
+use Rattle.queue.specs.Queue.{pair, depth, one, other, Has, Queue, AtMost, Longer, Below, Open}
+use Rattle.queue.specs.Rows.{has-longer}
+use Rattle.meeting.specs.Search.{Arrives, AllSound, Grown, Guarded, Stepped, Closed}
+use Rattle.pairs.specs.Edges.{edge-of, edge-to}
+use Rattle.meeting.specs.SoundLaws.{sound-longer}
+
+pub grown-none : (A : Automaton) (T : List ℕ) (count d : ℕ) → Queue T count → AllSound A T count → AtMost T count d → Grown A T count d T count
+grown-none A T count d q s m = record { queue = q; sound = s; more = omega arith; keeps = λ i l. (refl, refl); most = m }
+
+-- Step j is on letter j / 16 to state j % 16; e is the pair whose steps they are.
+module _ (A : Automaton) (fits : Fits A) (T₀ : List ℕ) (count₀ head e d : ℕ) (h : head < count₀) (is : e ≡ pair T₀ head) (deep : d ≡ depth e + 1) (T : List ℕ) (count j : ℕ) (g : Grown A T₀ count₀ d T count) where
+  pub step-open : Queue T₀ count₀ → Open T count d (j % 16)
+  step-open q = let m = g .more in let u = q .early head h in let v : depth e ≤ head = rw is u in record { queue = g .queue; most = g .most; deep = omega arith; state = omega arith }
+
+  module _ (x : ℕ) (T' : List ℕ) (count' : ℕ) (l : j / 16 < A .k) (gd : Guarded (successorSet A (one e) (j / 16)) (j % 16) (successorSet A (other e) (j / 16)) x)
+      (y : Longer T count d (j % 16) (Below x 16) (8 * head + j / 16) T' count') where
+    why : (q : ℕ) → Below x 16 q → Arrives A T count d (j % 16) q (8 * head + j / 16)
+    why q m =
+        let k = fits .range .3 in
+        let more = g .more in
+        let a : (8 * head + j / 16) / 8 ≡ head = omega arith in
+        let b : (8 * head + j / 16) % 8 ≡ j / 16 = omega arith in
+        let o : pair T head ≡ e = g .keeps head h .0 ∙ sym is in
+        let (u, v) = gd q .0 (m .1) in
+        inr (record {
+          earlier = omega arith;
+          deep = rw (a, o) (omega arith);
+          left = rw (a, b, o) (edge-of A fits (j / 16) (one e) (j % 16) (omega arith) u);
+          right = rw (a, b, o) (edge-of A fits (j / 16) (other e) q (omega arith) v);
+        })
+
+    pub step-grown : Grown A T₀ count₀ d T' count'
+    step-grown =
+        let a = g .more in
+        let b = y .more in
+        record {
+          queue = y .queue;
+          sound = sound-longer A T count d (j % 16) (Below x 16) (8 * head + j / 16) T' count' (g .sound) y why;
+          more = omega arith;
+          keeps = λ i m. (let k = y .keeps i (omega arith) in let u = g .keeps i m in (k .0 ∙ u .0, k .1 ∙ u .1));
+          most = y .most;
+        }
+
+    pub step-stepped : Stepped A (one e) (other e) d T count j → Stepped A (one e) (other e) d T' count' (j + 1)
+    step-stepped s c r z i m u v = at (decLt (16 * c + r) j)
+      where
+        at : Dec (16 * c + r < j) → Has T' count' d r z
+        at (yes w) = has-longer T T' count count' d r z (y .keeps) (y .more) (s c r z w m u v)
+        at (no w) =
+            let a : r ≡ j % 16 = omega arith in
+            let b : c ≡ j / 16 = omega arith in
+            rw a (y .has z (edge-to A fits c (other e) z v, gd z .1 (rw (b, a) at (u .to), rw b at (v .to))))
+
+  -- all steps are taken
+  pub steps-closed : 16 * A .k ≤ j → Stepped A (one e) (other e) d T count j → Closed A T count head
+  steps-closed l s c x y u v =
+      let o : pair T head ≡ e = g .keeps head h .0 ∙ sym is in
+      let u' : Edge A c (one e) x = rw o at u in
+      let v' : Edge A c (other e) y = rw o at v in
+      let n = u' .letter in
+      let m = edge-to A fits c (one e) x u' in
+      let z : suc (depth (pair T head)) ≡ d = rw o (omega arith) in
+      rw z (s c x y (omega arith) m u' v')
+
+  pub grown-by : Grown A T₀ count₀ (suc (depth (pair T₀ head))) T count
+  grown-by = let z : suc (depth (pair T₀ head)) ≡ d = rw (← is) (omega arith) in rw z g

@@ -1,0 +1,69 @@
+-- A meeting traced back to its start is a witness. Assumes nothing.
+use Prim.Native.Nat.{ℕ, suc, _+_, _<_}
+use mathlib.Core.Path.{_≡_, sym, ap, subst}
+use mathlib.Core.Logic.{inl, inr}
+use mathlib.Core.List.{List}
+use native.Mathlib.Numerals.{add-one}
+use native.Mathlib.Omega.{arith}
+use native.Mathlib.Decide.{decLt}
+use lib.ListN.{getD, set}
+use Rattle.sets.specs.Sets.{Member}
+use Rattle.automaton.specs.Automaton.{Automaton}
+use Rattle.automaton.specs.Meeting.{Walk, Witness, cells}
+use Rattle.automaton.specs.Lent.{Tables, tables}
+use Rattle.queue.specs.Queue.{pair, depth, one, other}
+use Rattle.meeting.specs.Search.{Sound, JoinsOn, Common, Joining, Found}
+use Rattle.meeting.specs.Trace.{Tail, Traced, Leads}
+use Rattle.meeting.specs.Answer.{Asked}
+use Rattle.meeting.specs.LastLetterLaws.{trace-start}
+
+whole : (A : Automaton) (d : ℕ) (word states : List ℕ) → Member (A .initial) (getD states 0 0) → Tail A d 0 word states → Walk A (cells word) (suc d) (cells states)
+whole A d word states m t = record { starts = m; goes = λ s l. t .goes s (omega arith) (omega arith) }
+
+pub traced-witness : (A : Automaton) (counts : ℕ) (T : List ℕ) (head d i : ℕ) (word first second : List ℕ) → d ≡ depth (pair T head) → Found A counts T head
+    → Traced A counts T head d 0 i word first second → Witness A (Member counts) (suc d) word first second
+traced-witness A counts T head d i word first second e f x = go (f .sound i (let b = x .before in omega arith))
+  where
+    go : Sound A T i → Witness A (Member counts) (suc d) word first second
+    go (inr n) = absurd (let a = n .deep in let b = x .deep in omega arith)
+    go (inl n) =
+        let m = f .most in
+        record {
+          meets = record {
+            one = whole A d word first (rw (x .left) (n .left)) (x .tail-one);
+            other = whole A d word second (rw (x .right) (n .right)) (x .tail-other);
+            differ = (d, omega arith, x .apart);
+            shared = x .shared;
+            counts = x .counted;
+          };
+          shortest = rw e (f .shortest);
+          most = omega arith;
+          behind-word = λ j l. x .tail-one .behind-word j (omega arith);
+          behind-one = λ j l. x .tail-one .behind j l;
+          behind-other = λ j l. x .tail-other .behind j l;
+        }
+
+-- the pair found joins on some letter
+pub found-letter : (A : Automaton) (counts : ℕ) (T : List ℕ) (head e l : ℕ) → Found A counts T head → e ≡ pair T head → Joining (A .table) counts e l → l < 8
+found-letter A counts T head e l f h j = by (decLt l 8)
+  where
+    by : Dec (l < 8) → l < 8
+    by (yes k) = k
+    by (no k) = let m = f .low in absurd (j .none (f .letter) (omega arith) (subst (λ (x : ℕ). JoinsOn (A .table) counts x (f .letter)) (sym h) (f .joins)))
+
+-- the tables once the last letter is written
+abbrev pub lastStep : Tables → ℕ → ℕ → ℕ → Tables
+lastStep v e l z = tables (set (v .word) (depth e) l) (set (set (v .one) (depth e) (one e)) (depth e + 1) z) (set (set (v .other) (depth e) (other e)) (depth e + 1) z)
+
+pub witness-of : (A : Automaton) (counts : ℕ) (T : List ℕ) (head e l r z i : ℕ) (v w : Tables) → Asked A v → Found A counts T head → e ≡ pair T head
+    → Joining (A .table) counts e l → Common (A .table) counts (one e) (other e) l r → Member r z → Leads T head (depth e) 0 i (lastStep v e l z) w
+    → Witness A (Member counts) (depth e + 1) (w .word) (w .one) (w .other)
+witness-of A counts T head e l r z i v w a f he j c m g =
+    let low = found-letter A counts T head e l f he j in
+    let (x, y, n) = c z .0 m in
+    let most : depth e < 136 = rw he (f .most) in
+    let hw = a .long .word in
+    let ho = a .long .one in
+    let hr = a .long .other in
+    let start = trace-start A (a .fits) counts T head e l z (v .word) (v .one) (v .other) he (omega arith) (omega arith) (omega arith) (a .zero-word) (a .zero-one) (a .zero-other) low (j .joins low .apart) x y n in
+    rw add-one (traced-witness A counts T head (depth e) i (w .word) (w .one) (w .other) (ap depth he) f (g A counts (f .sound) start))

@@ -1,0 +1,43 @@
+-- There is room for each pair that is not listed: pairs are numbers below 256, and each is listed once. Assumes nothing.
+use Prim.Native.Nat.{ℕ, _+_, _*_, _%_, _≤_, _<_}
+use mathlib.Core.Path.{_≡_, sym, _∙_}
+use mathlib.Core.List.{List}
+use native.Mathlib.Omega.{arith}
+use native.Mathlib.Decide.{decLt}
+use Rattle.sets.specs.Sets.{Member}
+use Rattle.finite.specs.Finite.{pigeon, glue, glue-lt, glue-ge}
+use Rattle.queue.specs.Queue.{pair, companions, one, other, Queue}
+
+module _ (T : List ℕ) (count p q : ℕ) (c : Queue T count) (hp : p < 16) (hq : q < 16) (new : Member (companions T p) q → ⊥) where
+  pub not-listed : (i : ℕ) → i < count → pair T i % 256 ≡ 16 * p + q → ⊥
+  not-listed i l e =
+      let a : one (pair T i) ≡ p = omega arith in
+      let b : other (pair T i) ≡ q = omega arith in
+      new (rw (a, b) at (c .noted i l))
+
+  pub has-room : count < 256
+  has-room = by (decLt count 256)
+    where
+      numbers : ℕ → ℕ
+      numbers = glue (λ i. pair T i % 256) (λ i. 16 * p + q) count
+
+      small : (i : ℕ) → numbers i < 256
+      small i = at (decLt i count)
+        where
+          at : Dec (i < count) → numbers i < 256
+          at (yes l) = let e = glue-lt (λ i. pair T i % 256) (λ i. 16 * p + q) count i l in omega arith
+          at (no l) = let e = glue-ge (λ i. pair T i % 256) (λ i. 16 * p + q) count i (omega arith) in omega arith
+
+      twice : (i j : ℕ) → i < j → j ≤ 256 → 256 ≤ count → numbers i ≡ numbers j → ⊥
+      twice i j l m h e = at (decLt j count)
+        where
+          a : numbers i ≡ pair T i % 256
+          a = glue-lt (λ i. pair T i % 256) (λ i. 16 * p + q) count i (omega arith)
+
+          at : Dec (j < count) → ⊥
+          at (yes k) = c .once i j l k (sym a ∙ e ∙ glue-lt (λ i. pair T i % 256) (λ i. 16 * p + q) count j k)
+          at (no k) = not-listed i (omega arith) (sym a ∙ e ∙ glue-ge (λ i. pair T i % 256) (λ i. 16 * p + q) count j (omega arith))
+
+      by : Dec (count < 256) → count < 256
+      by (yes l) = l
+      by (no l) = let (i, j, h, m, e) = pigeon 256 numbers (λ k x. small k) in absurd (twice i j h m (omega arith) e)

@@ -1,0 +1,92 @@
+-- What the answer of a whole file says of the file: the theorem of ParseLaws, put to use. Assumes nothing.
+use Prim.Native.Nat.{ℕ}
+use mathlib.Core.Path.{_≡_, sym, _∙_, ap, subst}
+use mathlib.Core.List.{List}
+use native.Mathlib.Omega.{arith}
+use lib.ListN.{length}
+use Rattle.gate.specs.Gate.{refusal, cleared}
+use Rattle.gate.specs.declared.Refusal.{Refusal}
+use Rattle.automaton.specs.Automaton.{InRange}
+use Rattle.automaton.specs.declared.Numbers.{Numbers}
+use Rattle.format.specs.Format.{Sheet, FileIs, Faulty, numbers}
+use Rattle.sheet.specs.Read.{AreNumbers, lentTable}
+use Rattle.sheet.specs.Parse.{Phase, refused, passed, Contents, parse}
+use Rattle.sheet.specs.ParseLaws.{Means, AreContents, parse-means}
+use Rattle.sheet.specs.Rows.{Holds}
+use Rattle.sheet.specs.Answers.{numbersOf, FileRead, LettersOf, LettersRead}
+use Rattle.sheet.specs.declared.File.{File}
+use Rattle.sheet.specs.declared.File.the-variants as F
+
+-- a file that is refused
+pub record FileRefused (s t u : List ℕ) (r : Refusal) : Type 0 where
+  pub number : ℕ
+  pub line : ℕ
+  pub faulty : Faulty s number line
+  pub is : r ≡ refusal number line
+  pub clear : u ≡ cleared t
+
+-- a file that is read
+pub record FileAccepted (s t u rows : List ℕ) (a : Numbers) : Type 0 where
+  pub sheet : Sheet
+  pub file : FileIs s sheet
+  pub contents : Contents
+  pub are : AreContents s sheet contents
+  pub is : a ≡ numbersOf contents
+  pub table : u ≡ lentTable (contents .table) t
+  pub range : InRange (a .n) (a .k)
+  pub all : length (contents .names) ≡ a .k
+  pub holds : Holds (contents .names) rows
+
+module _ (s t u rows : List ℕ) where
+  pub file-refused : (r : Refusal) → FileRead (parse s) t u rows (F.Refused r) → FileRefused s t u r
+  file-refused r = cases (parse s) (parse-means s)
+    where
+      cases : (p : Phase Contents) → Means s p → FileRead p t u rows (F.Refused r) → FileRefused s t u r
+      cases (refused number line) m e =
+          record { number = number; line = line; faulty = m; is = (let d = e .0 in cc); clear = e .1 }
+      cases (passed c) m e = absurd (let d = e .0 in let z : _≡_ {A = ℕ} 0 1 = cc in omega arith)
+
+  pub file-read : (a : Numbers) → FileRead (parse s) t u rows (F.Is a) → FileAccepted s t u rows a
+  file-read a = cases (parse s) (parse-means s)
+    where
+      cases : (p : Phase Contents) → Means s p → FileRead p t u rows (F.Is a) → FileAccepted s t u rows a
+      cases (refused number line) m e = absurd (let d = e .0 in let z : _≡_ {A = ℕ} 0 1 = cc in omega arith)
+      cases (passed c) m e =
+          let d : F.Is a ≡ F.Is (numbersOf c) = e .0 in
+          let h : a ≡ numbersOf c = cc in
+          record {
+            sheet = m .0;
+            file = m .1;
+            contents = c;
+            are = m .2;
+            is = h;
+            table = e .1;
+            range = rw h (e .2);
+            all = rw h (e .3);
+            holds = e .4;
+          }
+
+-- its numbers and its letters
+module _ (s t u rows : List ℕ) (a : Numbers) (h : FileAccepted s t u rows a) where
+  pub are-numbers : AreNumbers (numbers (h .sheet)) a
+  are-numbers = record {
+    n = ap (λ (z : Numbers). z .n) (h .is) ∙ h .are .n;
+    k = ap (λ (z : Numbers). z .k) (h .is) ∙ h .are .k;
+    initial = ap (λ (z : Numbers). z .initial) (h .is) ∙ h .are .initial;
+    recurring = ap (λ (z : Numbers). z .recurring) (h .is) ∙ h .are .recurring;
+  }
+
+  abbrev pub letters-of : LettersOf s rows a
+  letters-of = record {
+    sheet = h .sheet;
+    file = h .file;
+    are = are-numbers;
+    range = h .range;
+    all = ap (λ (names : List (List ℕ)). length names) (sym (h .are .names)) ∙ h .all;
+    holds = subst (λ (names : List (List ℕ)). Holds names rows) (h .are .names) (h .holds);
+  }
+
+-- the answer on the letters
+pub letters-read : (s t u rows : List ℕ) (r : File) → FileRead (parse s) t u rows r → LettersRead s rows r
+letters-read s t u rows (F.Refused r) e = let h = file-refused s t u rows r e in (h .number, h .line, h .faulty, h .is)
+letters-read s t u rows (F.Is a) e = letters-of s t u rows a (file-read s t u rows a e)

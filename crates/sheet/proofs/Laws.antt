@@ -1,0 +1,152 @@
+-- One step of each definition that a loop goes along. Assumes nothing.
+use Prim.Native.Nat.{ℕ, suc, _+_, _-_, _*_, _^_, _<_, _≤_}
+use mathlib.Core.Path.{_≡_, sym, _∙_, ap}
+use mathlib.Core.List.{List, [], _∷_, _++_}
+use mathlib.Core.Bool.{Bool, true, false}
+use lib.Dec.{eqb}
+use lib.ListN.{length, getD}
+use lib.Pow.{pow-add}
+use native.Mathlib.Nat.{one-mul, mul-le-mul-right}
+use native.Mathlib.Omega.{arith}
+use borrow.Author.Tests.{eq-eqb, ne-eqb}
+use Rattle.text.specs.Choice.{choose}
+use Rattle.text.specs.Word.{startsAt}
+use Rattle.format.specs.Format.{place, entered, endLine}
+use Rattle.sheet.specs.Parse.{refused, passed, stateLineAt, statesAt, transitionLineAt, transitionsAt, endAt, Span, span, nameLineAt, letterOf, namesAt}
+use Rattle.text.specs.Bytes.{stretch}
+use Rattle.names.specs.Name.{compose}
+use Rattle.names.specs.Scan.{nameEndAt}
+use Rattle.sheet.specs.Rows.{Holds}
+use Rattle.sheet.specs.Spelling.{lineBelow}
+use Rattle.names.specs.declared.Ending.the-variants as E
+use Rattle.sheet.specs.declared.StateLine.the-variants as S
+use Rattle.sheet.specs.Answers.{transitionsAnswer, Fills}
+use Rattle.sheet.specs.declared.TransitionLine.the-variants as T
+use Rattle.sheet.specs.declared.Transitions.{Transitions}
+
+-- a flag times a number is at most the number
+pub flag-part : (a b : ℕ) → a ≤ 1 → a * b ≤ b
+flag-part a b h = rw one-mul at (mul-le-mul-right b h)
+
+pub double : (q : ℕ) → 2 ^ q * 2 ≡ 2 ^ (q + 1)
+double q = sym (pow-add 2 q 1)
+
+-- THE STATE LINES: q of n are read
+module _ (s : List ℕ) (line at q initial recurring n : ℕ) where
+  pub states-good :
+      {i r : ℕ} → q < n → stateLineAt s at q ≡ S.Is i r →
+      statesAt s line at q initial recurring (n - q) ≡
+      statesAt s (line + 1) (at + 11) (q + 1) (initial + i * 2 ^ q) (recurring + r * 2 ^ q) (n - (q + 1))
+  unfolding statesAt
+  states-good h e =
+      let k : n - q ≡ suc (n - (q + 1)) = omega arith in
+      rw k (simp e)
+
+  pub states-bad : q < n → stateLineAt s at q ≡ S.Bad → statesAt s line at q initial recurring (n - q) ≡ refused 7 line
+  unfolding statesAt
+  states-bad h e =
+      let k : n - q ≡ suc (n - (q + 1)) = omega arith in
+      rw k (simp e)
+
+  pub states-done :
+      n ≤ q →
+      statesAt s line at q initial recurring (n - q) ≡ passed (record { initial = initial; recurring = recurring; at = at; line = line })
+  unfolding statesAt
+  states-done h =
+      let k : n - q ≡ 0 = omega arith in
+      rw k
+
+-- THE TRANSITION LINES: g of them may still come
+module _ (s : List ℕ) (n k line at least : ℕ) (table : List ℕ) (f g : ℕ) (h : g ≡ suc f) where
+  pub transitions-good :
+      {from letter to : ℕ} → getD s at 0 ≡ 84 → transitionLineAt s at n k least ≡ T.Is from letter to →
+      transitionsAt s n k line at least table g ≡
+      transitionsAt s n k (line + 1) (at + 11) (place (record { from = from; letter = letter; to = to }) + 1)
+      (entered table (record { from = from; letter = letter; to = to })) f
+  unfolding transitionsAt
+  transitions-good t e = rw h (simp (eq-eqb _ _ t, e))
+
+  pub transitions-bad :
+      getD s at 0 ≡ 84 → transitionLineAt s at n k least ≡ T.Bad → transitionsAt s n k line at least table g ≡ refused 8 line
+  unfolding transitionsAt
+  transitions-bad t e = rw h (simp (eq-eqb _ _ t, e))
+
+  pub transitions-end : (getD s at 0 ≡ 84 → ⊥) → transitionsAt s n k line at least table g ≡ endAt s line at table
+  unfolding transitionsAt
+  transitions-end t = rw h (simp (ne-eqb _ _ t))
+
+-- the answer of the last line does not depend on the table
+pub end-fills :
+    (s : List ℕ) (line at : ℕ) (t rest table : List ℕ) (r : Transitions) →
+    r ≡ transitionsAnswer (endAt s line at []) → table ≡ t ++ rest → Fills (endAt s line at t) rest table r
+unfolding endAt
+end-fills s line at t rest table r e same = cases (startsAt s at endLine) (eqb (length s) (at + 4)) e
+  where
+    cases :
+        (b c : Bool) →
+        r ≡ transitionsAnswer (choose b (choose c (passed []) (refused 9 (line + 1))) (refused 9 line)) →
+        Fills (choose b (choose c (passed t) (refused 9 (line + 1))) (refused 9 line)) rest table r
+    cases true true e = (e, same)
+    cases true false e = e
+    cases false c e = e
+
+-- the name lines as far as they are read: the next one is line `line`, stands at `at` and is of letter l
+pub record NamesSoFar (s : List ℕ) (k : ℕ) (rows : List ℕ) (line at l : ℕ) : Type 0 where
+  pub names : List (List ℕ)
+  pub spans : List Span
+  pub count : length names ≡ l
+  pub goes : namesAt s line at names spans (k - l) ≡ namesAt s 2 12 [] [] k
+  pub holds : Holds names rows
+
+-- THE NAME LINES: those of `names` are read, of k
+module _ (s : List ℕ) (line at l : ℕ) (names : List (List ℕ)) (spans : List Span) (k : ℕ) (n : length names ≡ l) (h : l < k) where
+  pub names-bad : nameLineAt s at l ≡ E.Bad → namesAt s line at names spans (k - l) ≡ refused 5 line
+  unfolding namesAt
+  names-bad b =
+      let m : k - l ≡ suc (k - (l + 1)) = omega arith in
+      rw m (simp (n, b))
+
+  module _ (e : ℕ) (b : nameLineAt s at l ≡ E.At e) where
+    pub names-twice :
+        (letterOf names (compose (stretch s (at + 5) e)) ≡ l → ⊥) → namesAt s line at names spans (k - l) ≡ refused 6 line
+    unfolding namesAt
+    names-twice d =
+        let m : k - l ≡ suc (k - (l + 1)) = omega arith in
+        rw m (simp (n, b, ne-eqb _ _ d))
+
+    pub names-good :
+        letterOf names (compose (stretch s (at + 5) e)) ≡ l →
+        namesAt s line at names spans (k - l) ≡
+        namesAt s (line + 1) (e + 1) (names ++ (compose (stretch s (at + 5) e) ∷ [])) (spans ++ (span (at + 5) e ∷ [])) (k - (l + 1))
+    unfolding namesAt
+    names-good d =
+        let m : k - l ≡ suc (k - (l + 1)) = omega arith in
+        rw m (simp (n, b, eq-eqb _ _ d))
+
+pub names-done :
+    (s : List ℕ) (line at l : ℕ) (names : List (List ℕ)) (spans : List Span) (k : ℕ) → k ≤ l →
+    namesAt s line at names spans (k - l) ≡ passed (record { names = names; spans = spans; at = at; line = line })
+unfolding namesAt
+names-done s line at l names spans k h =
+    let m : k - l ≡ 0 = omega arith in
+    rw m
+
+-- A NAME LINE found again: `left` lines are to be passed
+module _ (s : List ℕ) (at left : ℕ) where
+  pub below-next : 0 < left → (e : ℕ) → nameEndAt s (at + 5) ≡ E.At e → lineBelow s at left ≡ lineBelow s (e + 1) (left - 1)
+  unfolding lineBelow
+  below-next h e b =
+      let m : left ≡ suc (left - 1) = omega arith in
+      ap (λ (n : ℕ). lineBelow s at n) m ∙ simp b
+
+  pub below-none : 0 < left → nameEndAt s (at + 5) ≡ E.Bad → lineBelow s at left ≡ at
+  unfolding lineBelow
+  below-none h b =
+      let m : left ≡ suc (left - 1) = omega arith in
+      rw m (simp b)
+
+  pub below-done : left ≤ 0 → lineBelow s at left ≡ at
+  unfolding lineBelow
+  below-done h =
+      let m : left ≡ 0 = omega arith in
+      rw m

@@ -1,0 +1,5 @@
+pub mod Laws
+pub mod FileLaws
+pub mod FileMeans
+pub mod LetterAnswers
+pub mod ReadLaws

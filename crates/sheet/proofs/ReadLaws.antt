@@ -1,0 +1,154 @@
+-- From the file and the walk check to the answer of reading. Assumes nothing.
+use Prim.Native.Nat.{ℕ, _-_, _≤_}
+use mathlib.Core.Path.{_≡_, refl, sym, _∙_, ap, subst}
+use mathlib.Core.List.{List, [], _∷_, _++_}
+use mathlib.Core.Logic._⊎_.{inr}
+use native.Mathlib.Omega.{arith}
+use lib.ListN.{length, take, replicate, length-set, length-replicate}
+use lib.Seq.{take-at}
+use Rattle.gate.specs.Gate.{cleared}
+use Rattle.gate.specs.declared.Refusal.{Refusal}
+use Rattle.automaton.specs.Automaton.{Automaton, automaton, Fits}
+use Rattle.automaton.specs.declared.Numbers.{Numbers}
+use Rattle.automaton.specs.Meeting.{Everywhere}
+use Rattle.automaton.specs.Lent.{Tables, tables, Long, clearedTables}
+use Rattle.meeting.specs.Answer.{Zero, Asked, Answered}
+use Rattle.meeting.specs.AnswerLaws.{zero-cleared}
+use Rattle.format.specs.Format.{Sheet, Transition, entered, tableOf, numbers}
+use Rattle.format.specs.NumbersLaws.{sheet-fits}
+use Rattle.sheet.specs.Read.{AreNumbers, lentTable}
+use Rattle.sheet.specs.Read as read
+use Rattle.sheet.specs.Answers.{FileRead, Answers}
+use Rattle.sheet.specs.Parse.{parse}
+use Rattle.sheet.specs.declared.File.the-variants as F
+use Rattle.sheet.specs.declared.Read.{Read}
+use Rattle.sheet.specs.declared.Read.the-variants as R
+use Rattle.sheet.proofs.FileMeans.{FileAccepted, file-refused, are-numbers, letters-of}
+
+-- THE AUTOMATON of a file that is read
+table-length : (ts : List Transition) (t : List ℕ) → length (tableOf t ts) ≡ length t
+unfolding tableOf entered
+table-length [] t = refl
+table-length (x ∷ ts) t = table-length ts (entered t x) ∙ simp length-set
+
+numbers-length : (σ : Sheet) → length (numbers σ .table) ≡ 128
+unfolding numbers
+numbers-length σ = table-length (σ .transitions) (replicate 128 0) ∙ length-replicate {A = ℕ} 128 0
+
+automaton-is : (A : Automaton) (a : Numbers) (x : List ℕ) → AreNumbers A a → x ≡ A .table → automaton a x ≡ A
+automaton-is A a x h e = rw (h .n, h .k, h .initial, h .recurring, e)
+
+module _ (s t u rows : List ℕ) (a : Numbers) (h : FileAccepted s t u rows a) where
+  sets-are : take 128 u ≡ numbers (h .sheet) .table
+  sets-are =
+      ap (λ (x : List ℕ). take 128 x) (h .table ∙ ap (λ (x : List ℕ). lentTable x t) (h .are .table)) ∙
+      take-at (numbers (h .sheet) .table) (replicate (length t - 128) 0) 128 (numbers-length (h .sheet))
+
+  pub sheet-automaton : automaton a (take 128 u) ≡ numbers (h .sheet)
+  sheet-automaton = automaton-is (numbers (h .sheet)) a (take 128 u) (are-numbers s t u rows a h) sets-are
+
+  module _ (v : Tables) (zeros : v ≡ clearedTables v) where
+    pub asked : Long v → Asked (automaton a (take 128 u)) v
+    asked long = record {
+      fits = subst Fits (sym sheet-automaton) (sheet-fits s (h .sheet) (h .file));
+      cells = let n = numbers-length (h .sheet) in rw sets-are (omega arith);
+      long = long;
+      zero-word = subst (λ (x : Tables). Zero (x .word)) (sym zeros) (zero-cleared (v .word));
+      zero-one = subst (λ (x : Tables). Zero (x .one)) (sym zeros) (zero-cleared (v .one));
+      zero-other = subst (λ (x : Tables). Zero (x .other)) (sym zeros) (zero-cleared (v .other));
+    }
+
+    module _ (w : Tables) (r : ℕ) (answer : Answered (automaton a (take 128 u)) Everywhere v w r) where
+      answered : Answered (numbers (h .sheet)) Everywhere v w r
+      answered = subst (λ (A : Automaton). Answered A Everywhere v w r) sheet-automaton answer
+
+      pub free-accepts : r ≡ 0 → Answers s t u rows v w (R.Is a)
+      free-accepts e = record {
+        letters = letters-of s t u rows a h;
+        free = answered .free e;
+        table = h .table ∙ ap (λ (x : List ℕ). lentTable x t) (h .are .table);
+        clear = answered .kept e ∙ zeros;
+      }
+
+      pub meeting-refuses : (r ≡ 0 → ⊥) → (u′ : List ℕ) → u′ ≡ cleared t → Answers s t u′ rows v w (R.Refused (record { number = 10; line = 0; length = r }))
+      meeting-refuses e u′ z = (
+        read.Refuses.meeting (h .sheet) (h .file)
+            (record {
+              number = refl;
+              line = refl;
+              some = omega arith;
+              witness = answered .witness (omega arith);
+              lengths = answered .lengths;
+            }),
+        z,
+      )
+
+pub fault-refuses :
+    (s t u rows : List ℕ) (r : Refusal) (v : Tables) → FileRead (parse s) t u rows (F.Refused r) → v ≡ clearedTables v → Answers s t u rows v v (R.Refused r)
+fault-refuses s t u rows r v e zeros =
+    let h = file-refused s t u rows r e in
+    (read.Refuses.faulty (h .number) (h .line) (h .faulty) (h .is) zeros, h .clear)
+
+-- TABLES THAT ARE CLEARED FIRST
+length-cleared : (t : List ℕ) → length (cleared t) ≡ length t
+length-cleared t = length-replicate {A = ℕ} (length t) 0
+
+pub cleared-twice : (t : List ℕ) → cleared (cleared t) ≡ cleared t
+cleared-twice t = ap (λ (n : ℕ). replicate {A = ℕ} n 0) (length-cleared t)
+
+tables-twice : (v : Tables) → clearedTables (clearedTables v) ≡ clearedTables v
+tables-twice v = rw (cleared-twice (v .word), cleared-twice (v .one), cleared-twice (v .other))
+
+pub answered-cleared :
+    (s t u rows : List ℕ) (v w : Tables) (r : Read) → 128 ≤ length t → Long v →
+    Answers s (cleared t) u rows (clearedTables v) w r → read.Reads s t u v w r
+answered-cleared s t u rows v w (R.Refused r) long lent j = inr (long, lent, refuses (j .0), j .1 ∙ cleared-twice t)
+  where
+    refuses : read.Refuses s (clearedTables v) w r → read.Refuses s v w r
+    refuses (read.Refuses.faulty number line f e c) = read.Refuses.faulty number line f e (c ∙ tables-twice v)
+    refuses (read.Refuses.meeting σ f m) =
+        read.Refuses.meeting σ f
+        (record {
+          number = m .number;
+          line = m .line;
+          some = m .some;
+          witness = m .witness;
+          lengths =
+              let l = m .lengths in
+              record {
+                word = l .word ∙ length-cleared (v .word);
+                one = l .one ∙ length-cleared (v .one);
+                other = l .other ∙ length-cleared (v .other);
+              };
+        })
+answered-cleared s t u rows v w (R.Is a) long lent j =
+    let σ = j .letters .sheet in (
+      long,
+      lent,
+      (
+        σ,
+        record { file = j .letters .file; free = j .free },
+        j .letters .are,
+        j .table ∙ ap (λ (n : ℕ). numbers σ .table ++ replicate {A = ℕ} (n - 128) 0) (length-cleared t),
+      ),
+      j .clear ∙ tables-twice v,
+    )
+
+module _ (t : List ℕ) (v : Tables) (t′ word one other : List ℕ) (et : t′ ≡ cleared t) (ew : word ≡ cleared (v .word)) (eo : one ≡ cleared (v .one))
+    (er : other ≡ cleared (v .other)) (long : 128 ≤ length t) (lent : Long v) where
+  -- the tables once they are cleared
+  pub ready : (128 ≤ length t′) × (t′ ≡ cleared t′) × Long (tables word one other) × (tables word one other ≡ clearedTables (tables word one other))
+  ready =
+      rw (et, ew, eo, er) (
+        rw (length-cleared t) long,
+        sym (cleared-twice t),
+        record {
+          word = rw (length-cleared (v .word)) (lent .word);
+          one = rw (length-cleared (v .one)) (lent .one);
+          other = rw (length-cleared (v .other)) (lent .other);
+        },
+        sym (tables-twice v),
+      )
+
+  pub reads : (s u rows : List ℕ) (w : Tables) (r : Read) → Answers s t′ u rows (tables word one other) w r → read.Reads s t u v w r
+  reads s u rows w r j = answered-cleared s t u rows v w r long lent (rw (et, ew, eo, er) at j)

@@ -1,0 +1,112 @@
+-- The file is refused, or read and the name looked up in the rows of its letters. Assumes nothing.
+use mathlib.Core.Path.{_≡_, refl, sym, _∙_}
+use mathlib.Core.List.{map}
+use mathlib.Core.Logic._⊎_.{inl, inr}
+use native.Mathlib.Omega.{arith}
+use borrow.Author.Tests.{not-true, not-false}
+use denote.Ref.{now}
+use lib.ListN.{length}
+use Rattle.text.specs.ChoiceLaws.{true-is-not-false}
+use Rattle.names.specs.Name.{IsName, compose}
+use Rattle.sheet.specs.Rows.{FirstName}
+use Rattle.sheet.specs.Answers.{LettersOf}
+use Rattle.sheet.proofs.LetterAnswers.{whole-stretch, no-name, letter-found, letter-nowhere}
+use borrow.Author.Needs.{needs}
+use Rattle.sheet.proofs.find.Statement.{statement}
+use Rattle.sheet.proofs.find.Tie as tie
+
+-- the letters are read
+letters : (c : tie.After-known-told2) → LettersOf (now (c .before .before .before .before .before .before .before .before .args .sheet)) (c .before .before .before .before .read-letters .last .1 .0) (c .before .a .given .0 .0)
+letters c = rw (c .before .a .given .1) at (c .before .before .before .before .read-letters .ensures)
+
+-- what was given is a name
+is-one : (c : tie.Else1) → IsName (now (c .before .before .before .before .before .before .before .before .before .before .args .name))
+is-one c = c .before .is-name .ensures .0 (not-false _ (c .if1 .left))
+
+slice-aggregate-read-letters : tie.Need-slice-aggregate-read-letters
+slice-aggregate-read-letters c = search needs
+
+read-letters-requires : tie.Need-read-letters-requires
+read-letters-requires c κs = search needs
+
+enum-known-r : tie.Need-enum-known-r
+enum-known-r c = search needs
+
+enum-known-a : tie.Need-enum-known-a
+enum-known-a c = search needs
+
+is-name-requires : tie.Need-is-name-requires
+is-name-requires c κs = search needs
+
+returns : tie.Need-returns
+returns c =
+    let a = c .before .before .before .before .before .before .before .before .before .before .args in
+    let h = letters (c .before .before) in
+    inr (
+      h .sheet,
+      h .file,
+      no-name (now (a .sheet)) (c .before .before .before .before .before .before .read-letters .last .1 .0) (c .before .before .before .a .given .0 .0) h (now (a .name))
+          (λ is. true-is-not-false (sym (c .before .is-name .ensures .1 is) ∙ not-true _ (c .if1 .taken))),
+      refl,
+    )
+
+slice-aggregate-letter-of : tie.Need-slice-aggregate-letter-of
+slice-aggregate-letter-of c = search needs
+
+letter-of-requires : tie.Need-letter-of-requires
+letter-of-requires c κs =
+    let h = letters (c .before .before .before) in
+    let m = is-one (c .before) .most in
+    let z : length (c .before .before .before .before .before .before .before .read-letters .last .1 .0) ≡ 216 = c .before .before .before .before .before .before .before .read-letters .kept .1 .0 in
+    let k = h .range .3 in
+    (omega arith, omega arith, record { order = omega arith; fits = omega arith }, omega arith)
+
+returns-2 : tie.Need-returns-2
+returns-2 c = inl (rw (c .before .r .given .1) at (c .before .before .before .before .read-letters .ensures))
+
+returns-3 : tie.Need-returns-3
+returns-3 c =
+    let a = c .before .before .before .before .before .before .before .before .before .before .before .before .before .before .args in
+    let name = now (a .name) in
+    let h = letters (c .before .before .before .before .before .before) in
+    let is = is-one (c .before .before .before .before) in
+    let whole = whole-stretch name in
+    let r = c .before .before .letter-of .result in
+    let f : FirstName (map compose (h .sheet .names)) (compose name) r =
+    rw whole at
+    (c .before .before .letter-of .ensures (map compose (h .sheet .names)) (h .all) (h .holds) (rw whole is) .0) in
+    (h .sheet, h .file, letter-found (now (a .sheet)) (c .before .before .before .before .before .before .before .before .before .before .read-letters .last .1 .0) (c .before .before .before .before .before .before .before .a .given .0 .0) h name is r f (c .if2 .taken))
+
+returns-4 : tie.Need-returns-4
+returns-4 c =
+    let a = c .before .before .before .before .before .before .before .before .before .before .before .before .before .before .args in
+    let name = now (a .name) in
+    let h = letters (c .before .before .before .before .before .before) in
+    let is = is-one (c .before .before .before .before) in
+    let whole = whole-stretch name in
+    let r = c .before .before .letter-of .result in
+    let f : FirstName (map compose (h .sheet .names)) (compose name) r =
+    rw whole at
+    (c .before .before .letter-of .ensures (map compose (h .sheet .names)) (h .all) (h .holds) (rw whole is) .0) in
+    inr (
+      h .sheet,
+      h .file,
+      letter-nowhere (now (a .sheet)) (c .before .before .before .before .before .before .before .before .before .before .read-letters .last .1 .0) (c .before .before .before .before .before .before .before .a .given .0 .0) h name is r f (c .if2 .left),
+      refl,
+    )
+
+pub find-spec : {M : Type 1} → statement M
+find-spec =
+    tie.close
+    (tie.spec
+    slice-aggregate-read-letters
+    read-letters-requires
+    enum-known-r
+    enum-known-a
+    is-name-requires
+    returns
+    slice-aggregate-letter-of
+    letter-of-requires
+    returns-2
+    returns-3
+    returns-4)

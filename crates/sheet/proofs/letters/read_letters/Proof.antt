@@ -1,0 +1,25 @@
+-- The theorem on reading a file, for its letters. Assumes nothing.
+use denote.Ref.{now}
+use lib.ListN.{replicate}
+use Rattle.sheet.proofs.FileMeans.{letters-read}
+use borrow.Author.Needs.{needs}
+use Rattle.sheet.proofs.letters.read_letters.Statement.{statement}
+use Rattle.sheet.proofs.letters.read_letters.Tie as tie
+
+slice-aggregate-read-file : tie.Need-slice-aggregate-read-file
+slice-aggregate-read-file c = search needs
+
+read-file-requires : tie.Need-read-file-requires
+read-file-requires c κs = search needs
+
+same-length : tie.Need-same-length
+same-length c = search needs
+
+returns : tie.Need-returns
+returns c =
+    let z = c .before .before .before .read-file in
+    letters-read (now (c .before .before .before .before .before .before .before .before .args .s)) (replicate 128 0) (z .last .1 .0) (z .last .1 .1 .0) (z .result) (z .ensures)
+
+pub read-letters-spec : {M : Type 1} → statement M
+read-letters-spec =
+    tie.close (tie.spec slice-aggregate-read-file read-file-requires same-length returns)

@@ -1,0 +1,72 @@
+-- The file is refused, or read and the name found again in it. Assumes nothing.
+use mathlib.Core.Path.{refl, sym, subst}
+use mathlib.Core.List.{List}
+use Prim.Native.Nat.{ℕ}
+use native.Mathlib.Omega.{arith}
+use denote.Ref.{now}
+use Rattle.sheet.specs.Letters.{NoName, NameIs}
+use Rattle.sheet.specs.Answers.{LettersOf}
+use Rattle.sheet.proofs.LetterAnswers.{name-given, no-letter}
+use borrow.Author.Needs.{needs}
+use Rattle.sheet.proofs.name.Statement.{statement}
+use Rattle.sheet.proofs.name.Tie as tie
+
+-- the letters are read
+letters : (c : tie.After-known-told) → LettersOf (now (c .before .before .before .before .before .before .before .args .sheet)) (c .before .before .before .before .read-letters .last .1 .0) (c .before .a .given .0 .0)
+letters c = rw (c .before .a .given .1) at (c .before .before .before .before .read-letters .ensures)
+
+slice-aggregate-read-letters : tie.Need-slice-aggregate-read-letters
+slice-aggregate-read-letters c = search needs
+
+read-letters-requires : tie.Need-read-letters-requires
+read-letters-requires c κs = search needs
+
+enum-told : tie.Need-enum-told
+enum-told c = search needs
+
+slice-aggregate-result : tie.Need-slice-aggregate-result
+slice-aggregate-result c = search needs
+
+enum-known-a : tie.Need-enum-known-a
+enum-known-a c = search needs
+
+spelled-requires : tie.Need-spelled-requires
+spelled-requires c κs = omega (arith, letters (c .before .before) .range)
+
+slice-aggregate-result-2 : tie.Need-slice-aggregate-result-2
+slice-aggregate-result-2 c = search needs
+
+returns : tie.Need-returns
+returns c =
+    let e = rw (c .before .enum-told .given .1) at (c .before .before .before .before .read-letters .ensures) in
+    NameIs.nothing (e .0) (e .1) (NoName.faulty (e .2)) refl
+
+returns-2 : tie.Need-returns-2
+returns-2 c =
+    let a = c .before .before .before .before .before .before .before .before .before .before .args in
+    let z = c .before .before .before .before .before .before .before .read-letters in
+    let s = now (a .sheet) in
+    subst (λ (x : List ℕ). NameIs s (a .letter) x) (sym (c .spelled .ensures))
+    (name-given s (z .last .1 .0) (c .before .before .before .before .a .given .0 .0) (letters (c .before .before .before)) (a .letter) (c .before .if1 .taken))
+
+returns-3 : tie.Need-returns-3
+returns-3 c =
+    let a = c .before .before .before .before .before .before .before .before .before .before .args in
+    let z = c .before .before .before .before .before .before .before .read-letters in
+    NameIs.nothing 14 0
+    (no-letter (now (a .sheet)) (z .last .1 .0) (c .before .before .before .before .a .given .0 .0) (letters (c .before .before .before)) (a .letter) (c .before .if1 .left)) refl
+
+pub name-spec : {M : Type 1} → statement M
+name-spec =
+    tie.close
+    (tie.spec
+    slice-aggregate-read-letters
+    read-letters-requires
+    enum-told
+    slice-aggregate-result
+    enum-known-a
+    spelled-requires
+    slice-aggregate-result-2
+    returns
+    returns-2
+    returns-3)

@@ -1,0 +1,56 @@
+-- The file is refused, or read and the letter asked for compared with k. Assumes nothing.
+use mathlib.Core.Path.{refl}
+use native.Mathlib.Omega.{arith}
+use denote.Ref.{now}
+use Rattle.sheet.specs.Letters.{NoName, NumberIs}
+use Rattle.sheet.specs.Answers.{LettersOf}
+use Rattle.sheet.proofs.LetterAnswers.{letters-are, no-letter}
+use borrow.Author.Needs.{needs}
+use Rattle.sheet.proofs.name_number.Statement.{statement}
+use Rattle.sheet.proofs.name_number.Tie as tie
+
+-- the letters are read
+letters : (c : tie.After-known-told2) → LettersOf (now (c .before .before .before .before .before .before .before .args .sheet)) (c .before .before .before .before .read-letters .last .1 .0) (c .before .a .given .0 .0)
+letters c = rw (c .before .a .given .1) at (c .before .before .before .before .read-letters .ensures)
+
+slice-aggregate-read-letters : tie.Need-slice-aggregate-read-letters
+slice-aggregate-read-letters c = search needs
+
+read-letters-requires : tie.Need-read-letters-requires
+read-letters-requires c κs = search needs
+
+enum-known-r : tie.Need-enum-known-r
+enum-known-r c = search needs
+
+enum-known-a : tie.Need-enum-known-a
+enum-known-a c = search needs
+
+returns : tie.Need-returns
+returns c =
+    let e = rw (c .before .r .given .1) at (c .before .before .before .before .read-letters .ensures) in
+    NumberIs.refused (e .0) (e .1) (NoName.faulty (e .2)) (e .3)
+
+returns-2 : tie.Need-returns-2
+returns-2 c =
+    let a = c .before .before .before .before .before .before .before .before .before .args in
+    let h = letters (c .before .before) in
+    let k = letters-are (now (a .sheet)) (c .before .before .before .before .before .before .read-letters .last .1 .0) (c .before .before .before .a .given .0 .0) h in
+    NumberIs.named (h .sheet) (h .file) (omega arith) refl
+
+returns-3 : tie.Need-returns-3
+returns-3 c =
+    let a = c .before .before .before .before .before .before .before .before .before .args in
+    NumberIs.refused 14 0
+    (no-letter (now (a .sheet)) (c .before .before .before .before .before .before .read-letters .last .1 .0) (c .before .before .before .a .given .0 .0) (letters (c .before .before)) (a .letter) (c .if1 .left)) refl
+
+pub name-number-spec : {M : Type 1} → statement M
+name-number-spec =
+    tie.close
+    (tie.spec
+    slice-aggregate-read-letters
+    read-letters-requires
+    enum-known-r
+    enum-known-a
+    returns
+    returns-2
+    returns-3)

@@ -1,0 +1,17 @@
+pub mod Read
+pub mod Letters
+pub mod Parse
+pub mod Rows
+pub mod Spelling
+pub mod Answers
+pub mod FieldLaws
+pub mod LetterLaws
+pub mod HeadLaws
+pub mod NameLaws
+pub mod StateLaws
+pub mod TransitionLaws
+pub mod ParseLaws
+pub mod CompleteLaws
+pub mod UniqueLaws
+pub mod RowsLaws
+pub mod SpellingLaws

@@ -1,0 +1,47 @@
+-- What reading a sheet file answers, and what the lent tables hold then.
+use Prim.Native.Nat.{ℕ, _-_, _≤_}
+use mathlib.Core.Path.{_≡_}
+use mathlib.Core.List.{List, _++_}
+use mathlib.Core.Logic.{_⊎_}
+use lib.ListN.{length, replicate}
+use Rattle.gate.specs.Gate.{refusal, cleared}
+use Rattle.gate.specs.declared.Refusal.{Refusal}
+use Rattle.automaton.specs.declared.Numbers.{Numbers}
+use Rattle.automaton.specs.Automaton.{Automaton}
+use Rattle.automaton.specs.Meeting.{Free, Everywhere}
+use Rattle.automaton.specs.Lent.{Tables, Long, clearedTables, Meets}
+use Rattle.sheet.specs.declared.Read.{Read}
+use Rattle.sheet.specs.declared.Read.the-variants.{Refused, Is}
+use Rattle.format.specs.Format.{Sheet, FileIs, Faulty, numbers}
+
+-- QUESTIONS 2 TO 10 on a sheet file: s is the file of σ, and no two walks meet
+pub record Accepted (s : List ℕ) (σ : Sheet) : Type 0 where
+  pub file : FileIs s σ
+  pub free : Free (numbers σ) Everywhere
+
+-- or the first that is answered no refuses with r; the witness was v and is w then
+pub data Refuses (s : List ℕ) (v w : Tables) (r : Refusal) : Type 0 where
+  faulty : (number line : ℕ) → Faulty s number line → r ≡ refusal number line → w ≡ clearedTables v → Refuses s v w r
+  meeting : (σ : Sheet) → FileIs s σ → Meets (numbers σ) v w r → Refuses s v w r
+
+-- the answer's numbers are those of an automaton
+pub record AreNumbers (A : Automaton) (a : Numbers) : Type 0 where
+  pub n : a .n ≡ A .n
+  pub k : a .k ≡ A .k
+  pub initial : a .initial ≡ A .initial
+  pub recurring : a .recurring ≡ A .recurring
+
+-- a table of 128 successor sets, in a lent one: zero behind it
+abbrev pub lentTable : List ℕ → List ℕ → List ℕ
+lentTable sets table = sets ++ replicate (length table - 128) 0
+
+-- READING. The successor sets' table was t and is u then.
+-- "Refusal 1 asked first touches nothing; .. every other refusal leave the tables of that call all zero, except the witness of 10"
+abbrev pub Reads : List ℕ → List ℕ → List ℕ → Tables → Tables → Read → Type 0
+Reads s t u v w (Refused r) =
+    (((128 ≤ length t) × Long v → ⊥) × (r ≡ refusal 1 0) × (u ≡ t) × (w ≡ v))
+    ⊎ ((128 ≤ length t) × Long v × Refuses s v w r × (u ≡ cleared t))
+Reads s t u v w (Is a) =
+    (128 ≤ length t) × Long v
+    × ((σ : Sheet) × Accepted s σ × AreNumbers (numbers σ) a × (u ≡ lentTable (numbers σ .table) t))
+    × (w ≡ clearedTables v)

@@ -1,0 +1,28 @@
+-- Composed names in rows: the row of letter l starts at cell 24 * l.
+use Prim.Native.Nat.{ℕ, _*_, _≤_, _<_}
+use mathlib.Core.Path.{_≡_}
+use mathlib.Core.List.{List, []}
+use lib.ListN.{length, getD}
+use Rattle.names.specs.Name.{IsName}
+use Rattle.names.specs.Row.{row, padded}
+
+-- the row of a letter holds a name
+pub record RowIs (rows : List ℕ) (l : ℕ) (x : List ℕ) : Type 0 where
+  pub is-name : IsName x
+  pub is : row rows (24 * l) ≡ padded x
+
+-- the rows hold composed names, those of the letters from 0 on
+abbrev pub Holds : List (List ℕ) → List ℕ → Type 0
+Holds names rows = (l : ℕ) → l < length names → RowIs rows l (getD names l [])
+
+-- the first row that is like row `count`
+pub record FirstLike (rows : List ℕ) (count l : ℕ) : Type 0 where
+  pub most : l ≤ count
+  pub like : row rows (24 * l) ≡ row rows (24 * count)
+  pub first : (i : ℕ) → i < l → row rows (24 * i) ≡ row rows (24 * count) → ⊥
+
+-- the first of some composed names that is x; their count where none is
+pub record FirstName (names : List (List ℕ)) (x : List ℕ) (l : ℕ) : Type 0 where
+  pub most : l ≤ length names
+  pub is : l < length names → getD names l [] ≡ x
+  pub first : (i : ℕ) → i < l → getD names i [] ≡ x → ⊥

@@ -1,0 +1,56 @@
+// The first line of a sheet: questions 3 and 4.
+ghost use mathlib.Core.Path.{_≡_};
+ghost use Rattle.sheet.specs.Parse.{rangesOf, headOf};
+ghost use Rattle.sheet.specs.Answers.{headAnswer, SizesFit};
+use super::Head;
+use super::Sizes;
+use gate::Refusal;
+use text::Number;
+
+// n and k, or else question 4.
+fn ranges(n: usize, k: usize) -> Head
+    ensures { λ r. ⌜ (r ≡ headAnswer (rangesOf n k)) × SizesFit r ⌝ }
+{
+    let out = Refusal {
+        number: 4,
+        line: 1,
+        length: 0,
+    };
+    if n < 1 {
+        return Head::Refused(out);
+    }
+    if 16 < n {
+        return Head::Refused(out);
+    }
+    if k < 1 {
+        return Head::Refused(out);
+    }
+    if 8 < k {
+        return Head::Refused(out);
+    }
+    Head::Is(Sizes { n, k })
+}
+
+// The first line, or else question 3.
+pub fn read_head(s: &[u8]) -> Head
+    ensures { λ r. ⌜ (r ≡ headAnswer (headOf (now (s .entry)))) × SizesFit r ⌝ }
+{
+    let bad = Refusal {
+        number: 3,
+        line: 1,
+        length: 0,
+    };
+    if !text::starts_at(s, 0, b"SHEET") {
+        return Head::Refused(bad);
+    }
+    let Number::Is(n) = text::number_at(s, 5) else {
+        return Head::Refused(bad);
+    };
+    let Number::Is(k) = text::number_at(s, 8) else {
+        return Head::Refused(bad);
+    };
+    if text::byte_at(s, 11) != 10 {
+        return Head::Refused(bad);
+    }
+    ranges(n, k)
+}

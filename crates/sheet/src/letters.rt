@@ -1,0 +1,65 @@
+// The names of letters, in a file that is read and in rows.
+ghost use mathlib.Core.Path.{_≡_};
+ghost use Prim.Native.Nat.{ℕ, _+_, _-_, _*_, _<_, _≤_};
+ghost use mathlib.Core.List.{List};
+ghost use lib.ListN.{length};
+ghost use Rattle.text.specs.Bytes.{stretch};
+ghost use Rattle.names.specs.Name.{IsName, compose};
+ghost use Rattle.names.specs.Row.{Stretches};
+ghost use Rattle.sheet.specs.Answers.{LettersRead};
+ghost use Rattle.sheet.specs.Rows.{Holds, FirstName};
+ghost use Rattle.sheet.specs.Spelling.{lineBelow, spelling};
+use super::File;
+use super::name_lines::first_like;
+use super::whole_file::read_file;
+use names::Ending;
+
+// The questions 2 to 9 on a sheet file, and its composed names in rows.
+pub fn read_letters(s: &[u8], rows: &mut [u8]) -> File
+    requires { ⌜ 192 ≤ length (now rows) ⌝ }
+    ensures { λ r. ⌜ LettersRead (now (s .entry)) (now (rows .exit)) r ⌝ }
+{
+    let mut table = [0u16; 128];
+    read_file(s, &mut table, rows)
+}
+
+// Where the name line of a letter stands.
+fn line_of(s: &[u8], letter: usize) -> usize
+    requires { ⌜ letter < 8 ⌝ }
+    ensures { λ r. ⌜ (r ≡ lineBelow (now (s .entry)) 12 letter) × (r ≤ 252) ⌝ }
+{
+    let mut at = 12;
+    let mut left = letter;
+    while 0 < left {
+        let Ending::At(e) = names::name_end(s, at + 5) else {
+            return at;
+        };
+        at = e + 1;
+        left -= 1;
+    }
+    at
+}
+
+// The name of a letter, as that very stretch of the file.
+pub fn spelled(s: &[u8], letter: usize) -> &[u8]
+    requires { ⌜ letter < 8 ⌝ }
+    ensures { λ r. ⌜ now r ≡ spelling (now (s .entry)) letter ⌝ }
+{
+    let at = line_of(s, letter);
+    let start = at + 5;
+    let Ending::At(end) = names::name_end(s, start) else {
+        return &s[..0];
+    };
+    &s[start..end]
+}
+
+// The letter whose name, in one of `count` rows, is that of a stretch after composing; `count` where there is none.
+// The row behind is overwritten.
+pub fn letter_of(rows: &mut [u8], count: usize, s: &[u8], start: usize, end: usize) -> usize
+    requires { ⌜ (count ≤ 8) × (24 * count + 24 ≤ length (now rows)) × Stretches (now s) start end × (end - start ≤ 24) ⌝ }
+    ensures { λ r. ⌜ ((names : List (List ℕ)) → length names ≡ count → Holds names (now (rows .entry)) → IsName (stretch (now (s .entry)) start end)
+        → FirstName names (compose (stretch (now (s .entry)) start end)) r × Holds names (now (rows .exit))) ⌝ }
+{
+    names::compose_into(s, start, end, rows, 24 * count);
+    first_like(rows, count)
+}

@@ -1,0 +1,194 @@
+// The sheet file: read, its names given and found.
+pub mod first_line;
+pub mod letters;
+pub mod name_lines;
+pub mod reading;
+pub mod state_lines;
+pub mod transition_lines;
+pub mod whole_file;
+
+ghost use Rattle.automaton.specs.Lent.{tables};
+ghost use Rattle.sheet.specs.Read.{Reads};
+ghost use Rattle.sheet.specs.Letters.{NameIs, NumberIs, Finds};
+use automaton::Numbers;
+use gate::Refusal;
+
+// The answer of reading: a refusal, or the sheet's numbers, whose successor sets stand in the lent table.
+pub enum Read {
+    Refused(Refusal),
+    Is(Numbers),
+}
+
+// The answer of a search for a name: a refusal, or the letter's number.
+pub enum Found {
+    Refused(Refusal),
+    Letter(usize),
+}
+
+// n and k of the first line.
+pub struct Sizes {
+    pub n: usize,
+    pub k: usize,
+}
+
+// The answer of the first line.
+pub enum Head {
+    Refused(Refusal),
+    Is(Sizes),
+}
+
+// The next line's position and number.
+pub struct Place {
+    pub at: usize,
+    pub line: usize,
+}
+
+// The answer of the name lines.
+pub enum Names {
+    Refused(Refusal),
+    Are(Place),
+}
+
+// The initial and the must-recur flag of a state line.
+pub enum StateLine {
+    Is(usize, usize),
+    Bad,
+}
+
+// The initial and the must-recur set of the state lines, and the next line's position and number.
+pub struct Sets {
+    pub initial: u16,
+    pub recurring: u16,
+    pub at: usize,
+    pub line: usize,
+}
+
+// The answer of the state lines.
+pub enum States {
+    Refused(Refusal),
+    Are(Sets),
+}
+
+// From, letter and to of a transition line.
+pub enum TransitionLine {
+    Is(usize, usize, usize),
+    Bad,
+}
+
+// The answer of the transition lines and the end.
+pub enum Transitions {
+    Refused(Refusal),
+    Done,
+}
+
+// The answer of a whole file on the questions 2 to 9.
+pub enum File {
+    Refused(Refusal),
+    Is(Numbers),
+}
+
+// Questions 1 to 10 on a sheet file. Question 1 touches nothing; with 10 the last three tables hold a shortest word with
+// meeting walks, with zeros behind; what a table has no meaning for is zero.
+pub fn read_sheet(
+    sheet: &[u8],
+    table: &mut [u16],
+    word: &mut [u16],
+    one: &mut [u16],
+    other: &mut [u16],
+) -> Read
+    ensures { λ r. ⌜ Reads (now (sheet .entry)) (now (table .entry)) (now (table .exit))
+        (tables (now (word .entry)) (now (one .entry)) (now (other .entry))) (tables (now (word .exit)) (now (one .exit)) (now (other .exit))) r ⌝ }
+{
+    let short = Refusal {
+        number: 1,
+        line: 0,
+        length: 0,
+    };
+    if table.len() < 128 {
+        return Read::Refused(short);
+    }
+    if word.len() < 136 {
+        return Read::Refused(short);
+    }
+    if one.len() < 137 {
+        return Read::Refused(short);
+    }
+    if other.len() < 137 {
+        return Read::Refused(short);
+    }
+    gate::clear(table);
+    gate::clear(word);
+    gate::clear(one);
+    gate::clear(other);
+    let mut rows = [0u8; 192];
+    reading::read_cleared(sheet, table, &mut rows, word, one, other)
+}
+
+// The name of a letter, as that very stretch of the sheet file, in the spelling found there; empty where there is none.
+pub fn name(sheet: &[u8], letter: usize) -> &[u8]
+    ensures { λ r. ⌜ NameIs (now (sheet .entry)) letter (now r) ⌝ }
+{
+    let mut rows = [0u8; 192];
+    match letters::read_letters(sheet, &mut rows) {
+        File::Refused(_) => &sheet[..0],
+        File::Is(a) => {
+            if letter < a.k {
+                letters::spelled(sheet, letter)
+            } else {
+                &sheet[..0]
+            }
+        }
+    }
+}
+
+// The number for which a letter has no name, with the line; 0 and 0 where it has one.
+pub fn name_number(sheet: &[u8], letter: usize) -> Refusal
+    ensures { λ r. ⌜ NumberIs (now (sheet .entry)) letter r ⌝ }
+{
+    let mut rows = [0u8; 192];
+    match letters::read_letters(sheet, &mut rows) {
+        File::Refused(r) => r,
+        File::Is(a) => {
+            if letter < a.k {
+                Refusal {
+                    number: 0,
+                    line: 0,
+                    length: 0,
+                }
+            } else {
+                Refusal {
+                    number: 14,
+                    line: 0,
+                    length: 0,
+                }
+            }
+        }
+    }
+}
+
+// The letter of a name: the one whose name is the same after composing.
+pub fn find(sheet: &[u8], name: &[u8]) -> Found
+    ensures { λ r. ⌜ Finds (now (sheet .entry)) (now (name .entry)) r ⌝ }
+{
+    let mut rows = [0u8; 216];
+    match letters::read_letters(sheet, &mut rows) {
+        File::Refused(r) => Found::Refused(r),
+        File::Is(a) => {
+            let unknown = Refusal {
+                number: 14,
+                line: 0,
+                length: 0,
+            };
+            if !names::is_name(name) {
+                return Found::Refused(unknown);
+            }
+            let k = a.k;
+            let l = letters::letter_of(&mut rows, k, name, 0, name.len());
+            if l < k {
+                Found::Letter(l)
+            } else {
+                Found::Refused(unknown)
+            }
+        }
+    }
+}

@@ -1,0 +1,114 @@
+// The transition lines of a sheet and its end: questions 8 and 9.
+ghost use mathlib.Core.Path.{_≡_};
+ghost use Prim.Native.Nat.{_+_, _<_, _≤_, _^_};
+ghost use lib.ListN.{length, take, drop};
+ghost use mathlib.Core.List.{[]};
+ghost use Rattle.format.specs.Format.{most};
+ghost use Rattle.sheet.specs.Parse.{transitionOf, transitionLineAt, endAt, transitionsAt};
+ghost use Rattle.sheet.specs.Answers.{CellFits, transitionsAnswer, Fills};
+use super::TransitionLine;
+use super::Transitions;
+use gate::Refusal;
+use text::Number;
+
+// The transition, if it is in range and not below the place `least`.
+fn transition_of(
+    n: usize,
+    k: usize,
+    least: usize,
+    from: usize,
+    letter: usize,
+    to: usize,
+) -> TransitionLine
+    requires { ⌜ (n ≤ 16) × (k ≤ 8) ⌝ }
+    ensures { λ r. ⌜ (r ≡ transitionOf n k least from letter to) × CellFits r ⌝ }
+{
+    if from >= n {
+        return TransitionLine::Bad;
+    }
+    if letter >= k {
+        return TransitionLine::Bad;
+    }
+    if to >= n {
+        return TransitionLine::Bad;
+    }
+    if (8 * from + letter) * 16 + to < least {
+        return TransitionLine::Bad;
+    }
+    TransitionLine::Is(from, letter, to)
+}
+
+// The line at `at`, which begins with T.
+fn transition_line(s: &[u8], at: usize, n: usize, k: usize, least: usize) -> TransitionLine
+    requires { ⌜ (at < 2 ^ 30) × (n ≤ 16) × (k ≤ 8) ⌝ }
+    ensures { λ r. ⌜ (r ≡ transitionLineAt (now (s .entry)) at n k least) × CellFits r ⌝ }
+{
+    if text::byte_at(s, at + 10) != 10 {
+        return TransitionLine::Bad;
+    }
+    let Number::Is(from) = text::number_at(s, at + 1) else {
+        return TransitionLine::Bad;
+    };
+    let Number::Is(letter) = text::number_at(s, at + 4) else {
+        return TransitionLine::Bad;
+    };
+    let Number::Is(to) = text::number_at(s, at + 7) else {
+        return TransitionLine::Bad;
+    };
+    transition_of(n, k, least, from, letter, to)
+}
+
+// The last line: END, with nothing after it.
+fn end_line(s: &[u8], line: usize, at: usize) -> Transitions
+    requires { ⌜ (line < 2 ^ 30) × (at < 2 ^ 30) ⌝ }
+    ensures { λ r. ⌜ r ≡ transitionsAnswer (endAt (now (s .entry)) line at []) ⌝ }
+{
+    if !text::starts_at(s, at, b"END\n") {
+        return Transitions::Refused(Refusal {
+            number: 9,
+            line,
+            length: 0,
+        });
+    }
+    if s.len() != at + 4 {
+        return Transitions::Refused(Refusal {
+            number: 9,
+            line: line + 1,
+            length: 0,
+        });
+    }
+    Transitions::Done
+}
+
+// The transition lines, the first of which is line `first` and stands at `start`, and the end. Each transition goes into its set.
+pub fn read_transitions(
+    s: &[u8],
+    n: usize,
+    k: usize,
+    first: usize,
+    start: usize,
+    table: &mut [u16],
+) -> Transitions
+    requires { ⌜ (length (now s) ≤ most) × (first ≤ 26) × (start ≤ 500) × (n ≤ 16) × (k ≤ 8) × (128 ≤ length (now table)) ⌝ }
+    ensures { λ r. ⌜ Fills (transitionsAt (now (s .entry)) n k first start 0 (take 128 (now (table .entry))) (length (now (s .entry)) + 1))
+        (drop 128 (now (table .entry))) (now (table .exit)) r ⌝ }
+{
+    let mut line = first;
+    let mut at = start;
+    let mut least = 0;
+    while text::byte_at(s, at) == 84 {
+        let TransitionLine::Is(from, letter, to) = transition_line(s, at, n, k, least) else {
+            return Transitions::Refused(Refusal {
+                number: 8,
+                line,
+                length: 0,
+            });
+        };
+        let cell = 8 * from + letter;
+        table[cell] = sets::insert(table[cell], to);
+        least = cell * 16 + to + 1;
+        line += 1;
+        at += 11;
+    }
+    end_line(s, line, at)
+}

@@ -1,0 +1,130 @@
+-- The tables hold what is found before each step, and behind the last step it is all. Assumes nothing.
+use Prim.Native.Nat.{_+_, _-_, _*_, _/_}
+use mathlib.Core.Path.{_≡_, refl, sym, _∙_}
+use native.Mathlib.Omega.{arith}
+use lib.ListN.{length}
+use Rattle.automaton.specs.Automaton.{automaton}
+use Rattle.tracker.specs.Build.{store}
+use Rattle.tracker.specs.Fill.{Filled}
+use Rattle.tracker.specs.FillLaws.{filled-begins, fills-over, fills-all}
+use borrow.Author.Needs.{needs}
+use Rattle.tracker.proofs.fill.Statement.{statement}
+use Rattle.tracker.proofs.fill.Tie as tie
+
+abbrev Inv-loop : tie.InvT-loop
+Inv-loop a table room tuples₀ nexts₀ head₀ link₀ m₀ c₀ tuples nexts head link m c = Filled (automaton a table) room c m tuples nexts head link × (length tuples ≡ length tuples₀) × (length nexts ≡ length nexts₀)
+
+abbrev μ-loop : tie.MeasureT-loop
+μ-loop a table room tuples₀ nexts₀ head₀ link₀ m₀ c₀ tuples nexts head link m c = 8 * room - c
+
+slice-aggregate-begin : tie.Need-slice-aggregate-begin Inv-loop μ-loop
+slice-aggregate-begin c = search needs
+
+slice-aggregate-begin-2 : tie.Need-slice-aggregate-begin-2 Inv-loop μ-loop
+slice-aggregate-begin-2 c = search needs
+
+begin-requires : tie.Need-begin-requires Inv-loop μ-loop
+begin-requires c κs =
+    let p = c .before .before .before .before .before .before .pre in
+    let n = p .fits .range .1 in
+    let r = p .room-fits .some in
+    let t = p .room-fits .tuples in
+    (n, omega arith, record { heads = refl; links = refl })
+
+loop-holds : tie.Need-loop-holds Inv-loop μ-loop
+loop-holds c =
+    let a = c .before .before .before .before .before .before .before .before .before .before .before .args in
+    let b = c .before .before .before .before .begin in
+    (filled-begins (automaton (a .a) (a .table .now)) (a .room) (store (a .tuples .now) (a .nexts .now)) (c .before .before .before .before .before .before .before .before .before .before .before .pre) (b .last .1 .0) (b .last .1 .1 .0) (b .last .1 .1 .1 .0) (b .ensures), refl, refl)
+
+mul-loop : tie.Need-mul-loop Inv-loop μ-loop
+mul-loop c =
+    let f = c .loop .inv .0 in
+    let q = f .room-is in
+    let r = f .most in
+    omega arith
+
+slice-aggregate-expand : tie.Need-slice-aggregate-expand Inv-loop μ-loop
+slice-aggregate-expand c = search needs
+
+slice-aggregate-expand-2 : tie.Need-slice-aggregate-expand-2 Inv-loop μ-loop
+slice-aggregate-expand-2 c = search needs
+
+expand-requires : tie.Need-expand-requires Inv-loop μ-loop
+expand-requires c κs =
+    let l = c .before .before .before .before .before .loop in
+    let h = c .before .before .before .before .loop-test .taken in
+    (l .inv .0, omega arith)
+
+same-length : tie.Need-same-length Inv-loop μ-loop
+same-length c = search needs
+
+same-length-2 : tie.Need-same-length-2 Inv-loop μ-loop
+same-length-2 c = search needs
+
+returns : tie.Need-returns Inv-loop μ-loop
+returns c =
+    let a = c .before .before .before .before .before .before .before .before .before .before .before .before .before .before .before .before .before .before .before .before .before .before .before .before .before .args in
+    let l = c .before .before .before .before .before .before .before .before .before .before .before .before .before .loop in
+    let e = c .before .before .before .before .before .before .before .expand in
+    fills-over (automaton (a .a) (a .table .now)) (a .room) (l .c + 1) (e .result) (store (a .tuples .now) (a .nexts .now)) (store (e .last .1 .1 .1 .1 .1 .0) (e .last .1 .1 .1 .1 .1 .1 .0)) (c .if1 .taken) (e .ensures .over (c .if1 .taken))
+
+add-c : tie.Need-add-c Inv-loop μ-loop
+add-c c =
+    let f = c .before .before .before .before .before .before .before .before .before .before .before .before .before .loop .inv .0 in
+    let q = f .room-is in
+    let r = f .most in
+    let h = c .before .before .before .before .before .before .before .before .before .before .before .before .loop-test .taken in
+    omega arith
+
+loop-less : tie.Need-loop-less Inv-loop μ-loop
+loop-less c =
+    let f = c .before .before .before .before .before .before .before .before .before .before .before .before .before .loop .inv .0 in
+    let q = f .room-is in
+    let r = f .most in
+    let h = c .before .before .before .before .before .before .before .before .before .before .before .before .loop-test .taken in
+    omega arith
+
+loop-again : tie.Need-loop-again Inv-loop μ-loop
+loop-again c =
+    let l = c .before .before .before .before .before .before .before .before .before .before .before .before .before .loop in
+    let e = c .before .before .before .before .before .before .before .expand in
+    (e .ensures .fitting (c .if1 .left), e .kept .1 .1 .1 .1 .1 .0 ∙ l .inv .1, e .kept .1 .1 .1 .1 .1 .1 .0 ∙ l .inv .2)
+
+same-length-3 : tie.Need-same-length-3 Inv-loop μ-loop
+same-length-3 c = search needs
+
+same-length-4 : tie.Need-same-length-4 Inv-loop μ-loop
+same-length-4 c = search needs
+
+returns-2 : tie.Need-returns-2 Inv-loop μ-loop
+returns-2 c =
+    let a = c .before .before .before .before .before .before .before .before .before .before .before .before .before .args in
+    let l = c .before .loop in
+    let h = c .loop-test .left in
+    fills-all (automaton (a .a) (a .table .now)) (a .room) (l .c) (l .m) (l .tuples) (l .nexts) (l .head) (l .link) (l .inv .0) (store (a .tuples .now) (a .nexts .now))
+    (sym (l .inv .1 ∙ c .before .before .before .before .before .before .begin .kept .1 .0)) (sym (l .inv .2)) (omega arith)
+
+pub fill-spec : {M : Type 1} → statement M
+fill-spec =
+    tie.close
+    (tie.spec
+    Inv-loop
+    μ-loop
+    slice-aggregate-begin
+    slice-aggregate-begin-2
+    begin-requires
+    loop-holds
+    mul-loop
+    slice-aggregate-expand
+    slice-aggregate-expand-2
+    expand-requires
+    same-length
+    same-length-2
+    returns
+    add-c
+    loop-less
+    loop-again
+    same-length-3
+    same-length-4
+    returns-2)

@@ -1,0 +1,39 @@
+-- The tuples of a tracker in the order in which they are found: "tuple by tuple, letters ascending". These definitions compute; that they
+-- give the numbering of Numbering.antt is a theorem of ExploreLaws.antt.
+use Prim.Native.Nat.{ℕ, zero, suc, _/_, _%_}
+use mathlib.Core.Bool.{Bool, true, false, _&&_}
+use mathlib.Core.List.{List, [], _∷_, _++_}
+use lib.Dec.{eqb, ltb}
+use lib.ListN.{length}
+use Rattle.text.specs.Choice.{choose}
+use Rattle.automaton.specs.Automaton.{Automaton}
+use Rattle.tuple.specs.Step.{Tuple, first}
+use Rattle.tracker.specs.Numbering.{entered}
+
+unfoldable pub sameSets : List ℕ → List ℕ → Bool
+sameSets [] [] = true
+sameSets [] (y ∷ ys) = false
+sameSets (x ∷ xs) [] = false
+sameSets (x ∷ xs) (y ∷ ys) = eqb x y && sameSets xs ys
+
+-- "Tuples are equal when sets and colour are."
+unfoldable pub sameTuple : Tuple → Tuple → Bool
+sameTuple u v = sameSets (u .sets) (v .sets) && eqb (u .colour) (v .colour)
+
+-- the number of a tuple in a list, and the list's length where it is not there
+unfoldable pub numberOf : Tuple → List Tuple → ℕ
+numberOf u [] = 0
+numberOf u (v ∷ ts) = choose (sameTuple u v) 0 (suc (numberOf u ts))
+
+-- a tuple behind those of a list, where it is new
+unfoldable pub addNew : List Tuple → Tuple → List Tuple
+addNew ts u = choose (ltb (numberOf u ts) (length ts)) ts (ts ++ (u ∷ []))
+
+-- step c, from tuple c / 8 on letter c % 8: there may be no such tuple or no such letter
+unfoldable pub step : Automaton → ℕ → List Tuple → List Tuple
+step A c ts = choose (ltb (c / 8) (length ts) && ltb (c % 8) (A .k)) (addNew ts (entered A ts c)) ts
+
+-- the tuples that are found before step c
+unfoldable pub found : Automaton → ℕ → List Tuple
+found A zero = first A ∷ []
+found A (suc c) = step A c (found A c)

@@ -1,0 +1,9 @@
+pub mod Numbering
+pub mod Explore
+pub mod ExploreLaws
+pub mod NumberingLaws
+pub mod Build
+pub mod Fill
+pub mod FillLaws
+pub mod BuildLaws
+pub mod Example
