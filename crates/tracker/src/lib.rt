@@ -1,6 +1,7 @@
 // The tracker: every tuple that some word reaches, numbered as found, in lent tables.
 use automaton::Numbers;
 use gate::Refusal;
+use sheet::Read;
 use walks::Checked;
 ghost use mathlib.Core.Path.{_≡_};
 ghost use Prim.Native.Nat.{_<_, _≤_, _*_, _+_, _/_, _%_};
@@ -11,7 +12,7 @@ ghost use Rattle.automaton.specs.Questions.{Decides};
 ghost use Rattle.automaton.specs.Lent.{tables};
 ghost use Rattle.tuple.specs.Step.{next};
 ghost use Rattle.tuple.specs.Row.{row, tupleOf, Steps};
-ghost use Rattle.tracker.specs.Build.{store, RoomFits, BuildsNumbers};
+ghost use Rattle.tracker.specs.Build.{store, RoomFits, BuildsNumbers, Builds};
 ghost use Rattle.tracker.specs.Fill.{firstCells, NoRows, Entering, Filled, Goes, Filling, Fills, Fit, Enough};
 
 // A tracker that was built: the sheet's numbers, and how many tuples the tables hold.
@@ -195,6 +196,59 @@ pub fn build_numbers(
             numbers: a,
             tuples: m,
         });
+    }
+    Built::Refused(Refusal {
+        number: 1,
+        line: 0,
+        length: 0,
+    })
+}
+
+// A tracker from a sheet file.
+pub fn build(
+    sheet: &[u8],
+    room: usize,
+    table: &mut [u16],
+    tuples: &mut [u16],
+    nexts: &mut [u16],
+    word: &mut [u16],
+    one: &mut [u16],
+    other: &mut [u16],
+) -> Built
+    ensures { λ r. ⌜ Builds (now (sheet .entry)) room (now (table .entry)) (now (table .exit)) (tables (now (word .entry)) (now (one .entry)) (now (other .entry))) (tables (now (word .exit)) (now (one .exit)) (now (other .exit))) (store (now (tuples .entry)) (now (nexts .entry))) (store (now (tuples .exit)) (now (nexts .exit))) r ⌝ }
+{
+    if enough(
+        room,
+        table.len(),
+        tuples.len(),
+        nexts.len(),
+        word.len(),
+        one.len(),
+        other.len(),
+    ) {
+        let read = sheet::read_sheet(sheet, table, word, one, other);
+        match read {
+            Read::Refused(r) => {
+                gate::clear(tuples);
+                gate::clear(nexts);
+                return Built::Refused(r);
+            }
+            Read::Is(a) => {
+                let m = fit(a, &table[..128], room, tuples, nexts);
+                if room < m {
+                    gate::clear(table);
+                    return Built::Refused(Refusal {
+                        number: 11,
+                        line: 0,
+                        length: 0,
+                    });
+                }
+                return Built::Is(Tracker {
+                    numbers: a,
+                    tuples: m,
+                });
+            }
+        }
     }
     Built::Refused(Refusal {
         number: 1,

@@ -1,0 +1,147 @@
+-- The other way round: the lines of a plan's upper part are read through, and behind them its fault is met, or its end. So the answer of
+-- reading is a plan's letters exactly if the file is that plan, and a refusal exactly if the file has that fault. Assumes nothing.
+use Prim.Native.Nat.{ℕ, suc, _+_, _-_, _<_}
+use mathlib.Core.Path.{_≡_, refl, sym, ap, subst, _∙_}
+use mathlib.Core.Bool.{Bool, true, false}
+use mathlib.Core.List.{List, [], _∷_, _++_, map}
+use lib.ListN.{length, take, drop, length-append, length-drop}
+use lib.Seq.{take-append-seam, drop-append-seam}
+use borrow.Author.Tests.{eq-eqb, ne-eqb}
+use native.Mathlib.Omega.{arith}
+use Rattle.text.specs.BytesLaws.{stretch-rest}
+use Rattle.text.specs.Column.{column}
+use Rattle.text.specs.Word.{startsAt}
+use Rattle.text.specs.WordLaws.{starts-word, starts-is}
+use Rattle.names.specs.Name.{compose}
+use Rattle.format.specs.Format.{Sheet, NamesRight, endLine}
+use Rattle.sheet.specs.Parse.{refused, passed, andThen}
+use Rattle.plan.specs.Plan.{planHead, nameLines, PlanIs, Above, Faulty}
+use Rattle.plan.specs.Parse.{lengths, lettered, lettersAt, endAt, contents, afterHead, planOf}
+use Rattle.plan.specs.HeadLaws.{head-right, head-range, head-form}
+use Rattle.plan.specs.LineLaws.{LetterFault, no-name, unknown-name, letters-fault, letters-along}
+use Rattle.plan.specs.ParseLaws.{known-length}
+
+head-length : (lead cycle : ℕ) → length (planHead lead cycle) ≡ 11
+unfolding planHead column
+head-length lead cycle = refl
+
+module _ (σ : Sheet) (all : length (σ .names) ≡ σ .k) (right : NamesRight [] (σ .names)) where
+  abbrev composed : List (List ℕ)
+  composed = map compose (σ .names)
+
+  -- behind the first line and some known names
+  module _ (p : List ℕ) (lead cycle : ℕ) (names : List (List ℕ)) (rest : List ℕ) (above : Above σ p lead cycle names rest) where
+    after-head : drop 11 p ≡ nameLines names ++ rest
+    after-head = rw head-length at (stretch-rest p 0 (planHead lead cycle) (nameLines names ++ rest) (above .text))
+
+    plan-head : planOf composed p ≡ afterHead composed p (lengths lead cycle)
+    unfolding planOf
+    plan-head = simp (head-right p lead cycle (nameLines names ++ rest) (above .range) (above .text))
+
+    -- a name is due
+    name-fault : {number : ℕ} → length names < lead + cycle → LetterFault σ rest number → planOf composed p ≡ refused number (2 + length names)
+    name-fault {number} due f =
+        let left = lead + cycle - (1 + length names) in
+        let (behind, text, goes) = letters-along σ all right p rest (suc left) 2 11 [] (above .known) after-head in
+        let e : length names + suc left ≡ lead + cycle = omega arith in
+        let w : lettersAt composed p 2 11 [] (lead + cycle) ≡ refused number (2 + length names) =
+        ap (lettersAt composed p 2 11 []) (sym e)
+        ∙ (goes ∙ letters-fault σ all p (2 + length names) behind ([] ++ above .letters) left (subst (λ (r : List ℕ). LetterFault σ r number) (sym text) f)) in
+        plan-head ∙ simp w
+
+    none-left : (behind : ℕ) → lettersAt composed p (2 + length names) behind (above .letters) 0 ≡ passed (lettered (above .letters) behind (2 + length names))
+    unfolding lettersAt
+    none-left behind = refl
+
+    -- END is due
+    end-due : length names ≡ lead + cycle → (behind : ℕ) × (drop behind p ≡ rest)
+        × (planOf composed p ≡ andThen (endAt p (lettered (above .letters) behind (2 + length names))) (λ letters. passed (contents (lengths lead cycle) letters)))
+    end-due due =
+        let (behind, text, goes) = letters-along σ all right p rest 0 2 11 [] (above .known) after-head in
+        let e : length names + 0 ≡ lead + cycle = omega arith in
+        let w : lettersAt composed p 2 11 [] (lead + cycle) ≡ passed (lettered (above .letters) behind (2 + length names)) =
+        ap (lettersAt composed p 2 11 []) (sym e) ∙ (goes ∙ none-left behind) in
+        (behind, text, plan-head ∙ simp w)
+
+    no-end : length names ≡ lead + cycle → ((after : List ℕ) → rest ≡ endLine ++ after → ⊥) → planOf composed p ≡ refused 12 (2 + length names)
+    unfolding endAt
+    no-end due f =
+        let (behind, text, goes) = end-due due in
+        let s : startsAt p behind endLine ≡ false = by behind text (startsAt p behind endLine) refl in
+        goes ∙ simp s
+      where
+        by : (behind : ℕ) → drop behind p ≡ rest → (t : Bool) → startsAt p behind endLine ≡ t → t ≡ false
+        by behind text true e = absurd (f (drop (behind + 4) p) (sym text ∙ starts-is p behind endLine refl e))
+        by behind text false e = refl
+
+    -- END is there
+    module _ (after : List ℕ) (ends : rest ≡ endLine ++ after) where
+      end-there : (behind : ℕ) → drop behind p ≡ rest → (startsAt p behind endLine ≡ true) × (length p ≡ behind + 4 + length after)
+      end-there behind text =
+          let e : drop behind p ≡ endLine ++ after = text ∙ ends in
+          let d = length-drop behind p in
+          let l = ap length e in
+          (starts-word p behind endLine after e, omega arith)
+
+      not-last : length names ≡ lead + cycle → (after ≡ [] → ⊥) → planOf composed p ≡ refused 12 (3 + length names)
+      unfolding endAt
+      not-last due some =
+          let (behind, text, goes) = end-due due in
+          let (s, l) = end-there behind text in
+          let n : 2 + length names + 1 ≡ 3 + length names = omega arith in
+          goes ∙ simp (s, ne-eqb (length p) (behind + 4) (λ e. more-behind after some (omega arith)), n)
+        where
+          more-behind : (r : List ℕ) → (r ≡ [] → ⊥) → length r ≡ 0 → ⊥
+          more-behind [] f e = f refl
+          more-behind (b ∷ r) f e = omega arith
+
+      is-last : length names ≡ lead + cycle → after ≡ [] → planOf composed p ≡ passed (contents (lengths lead cycle) (above .letters))
+      unfolding endAt
+      is-last due none =
+          let (behind, text, goes) = end-due due in
+          let (s, l) = end-there behind text in
+          let z = ap length none in
+          goes ∙ simp (s, eq-eqb (length p) (behind + 4) (omega arith))
+
+  -- A FAULT is the refusal
+  pub fault-read : (p : List ℕ) (number line : ℕ) → Faulty σ p number line → planOf composed p ≡ refused number line
+  unfolding planOf
+  fault-read p number line (Faulty.head f) = simp (head-form p f)
+  fault-read p number line (Faulty.range lead cycle rest h g e out) = simp (head-range p lead cycle rest h g e out)
+  fault-read p number line (Faulty.name lead cycle names rest above due f) = name-fault p lead cycle names rest above due (no-name f)
+  fault-read p number line (Faulty.unknown lead cycle names rest above due x after is e f) =
+      name-fault p lead cycle names rest above due (unknown-name x after is e f)
+  fault-read p number line (Faulty.end lead cycle names rest above due f) = no-end p lead cycle names rest above due f
+  fault-read p number line (Faulty.behind lead cycle names after above due some) =
+      not-last p lead cycle names (endLine ++ after) above after refl due some
+
+  -- A PLAN is read
+  pub plan-read : (p lead cycle : List ℕ) → PlanIs σ p lead cycle → planOf composed p ≡ passed (contents (lengths (length lead) (length cycle)) (lead ++ cycle))
+  plan-read p lead cycle h =
+      is-last p (length lead) (length cycle) (h .names) endLine
+      (record { range = h .range; letters = lead ++ cycle; known = h .known; text = h .text }) [] refl
+      (sym (known-length σ (h .known)) ∙ length-append lead cycle) refl
+
+  -- So a file has one fault, one plan, and not both
+  pub one-fault : (p : List ℕ) (n l m k : ℕ) → Faulty σ p n l → Faulty σ p m k → (n ≡ m) × (l ≡ k)
+  one-fault p n l m k f g = let e : refused n l ≡ refused m k = sym (fault-read p n l f) ∙ fault-read p m k g in (cc, cc)
+
+  pub plan-or-fault : (p lead cycle : List ℕ) (n l : ℕ) → PlanIs σ p lead cycle → Faulty σ p n l → ⊥
+  plan-or-fault p lead cycle n l h f =
+      let e : passed (contents (lengths (length lead) (length cycle)) (lead ++ cycle)) ≡ refused n l = sym (plan-read p lead cycle h) ∙ fault-read p n l f in
+      let z : _≡_ {A = ℕ} 0 1 = cc in omega arith
+
+  pub one-plan : (p lead cycle lead′ cycle′ : List ℕ) → PlanIs σ p lead cycle → PlanIs σ p lead′ cycle′ → (lead ≡ lead′) × (cycle ≡ cycle′)
+  one-plan p lead cycle lead′ cycle′ h g = parted (read (sym (plan-read p lead cycle h) ∙ plan-read p lead′ cycle′ g))
+    where
+      read : passed (contents (lengths (length lead) (length cycle)) (lead ++ cycle)) ≡ passed (contents (lengths (length lead′) (length cycle′)) (lead′ ++ cycle′))
+          → (length lead ≡ length lead′) × (lead ++ cycle ≡ lead′ ++ cycle′)
+      read e =
+          let f : contents (lengths (length lead) (length cycle)) (lead ++ cycle) ≡ contents (lengths (length lead′) (length cycle′)) (lead′ ++ cycle′) = cc in
+          (ap (λ x. x .lead) f, ap (λ x. x .letters) f)
+
+      parted : (length lead ≡ length lead′) × (lead ++ cycle ≡ lead′ ++ cycle′) → (lead ≡ lead′) × (cycle ≡ cycle′)
+      parted (l, e) = (
+        sym (take-append-seam lead cycle) ∙ (ap (λ (n : ℕ). take n (lead ++ cycle)) l ∙ (ap (take (length lead′)) e ∙ take-append-seam lead′ cycle′)),
+        sym (drop-append-seam lead cycle) ∙ (ap (λ (n : ℕ). drop n (lead ++ cycle)) l ∙ (ap (drop (length lead′)) e ∙ drop-append-seam lead′ cycle′)),
+      )

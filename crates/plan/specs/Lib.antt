@@ -1,0 +1,12 @@
+pub mod Plan
+pub mod Letter
+pub mod LetterLaws
+pub mod Parse
+pub mod Answers
+pub mod Read
+pub mod HeadLaws
+pub mod KnownLaws
+pub mod LineLaws
+pub mod ParseLaws
+pub mod CompleteLaws
+pub mod ReadLaws

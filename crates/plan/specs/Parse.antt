@@ -1,0 +1,99 @@
+-- A plan file read from the top, line by line: questions 12 to 14 in the order in which a reader asks them. The sheet's names are given
+-- composed. That this is what Plan describes is a theorem. A byte past the end is 0, and 0 stands in no line.
+use Prim.Native.Nat.{ℕ, zero, suc, _+_}
+use mathlib.Core.List.{List, [], _∷_, _++_}
+use lib.ListN.{length, getD}
+use lib.Dec.{ltb, eqb}
+use Rattle.text.specs.Choice.{choose}
+use Rattle.text.specs.Bytes.{lf, stretch}
+use Rattle.text.specs.Number.{numberAt}
+use Rattle.text.specs.Word.{startsAt}
+use Rattle.names.specs.Name.{compose}
+use Rattle.names.specs.Scan.{nameEndAt}
+use Rattle.format.specs.Format.{endLine}
+use Rattle.sheet.specs.Parse.{Phase, refused, passed, andThen, withNumber, withEnding, letterOf}
+use Rattle.plan.specs.declared.Lengths.{Lengths}
+use Rattle.plan.specs.declared.LetterLine.{LetterLine}
+use Rattle.plan.specs.declared.LetterLine.the-variants as L
+use Rattle.plan.specs.Plan.{planWord}
+
+abbrev pub lengths : ℕ → ℕ → Lengths
+lengths lead cycle = record { lead = lead; cycle = cycle }
+
+-- THE FIRST LINE
+
+-- "Are both lengths in range? No: 13."
+unfoldable pub lengthsOf : ℕ → ℕ → Phase Lengths
+lengthsOf lead cycle =
+    choose (ltb 200 lead) (refused 13 1)
+    (choose (ltb cycle 1) (refused 13 1)
+    (choose (ltb 200 cycle) (refused 13 1)
+    (passed (lengths lead cycle))))
+
+-- "Is each plan line of its form? No: 12.": PLAN, lead-in length, cycle length, LF
+unfoldable pub headOf : List ℕ → Phase Lengths
+headOf p =
+    choose (startsAt p 0 planWord)
+    (withNumber (numberAt p 4)
+    (λ lead. withNumber (numberAt p 7) (λ cycle. choose (eqb (getD p 10 0) lf) (lengthsOf lead cycle) (refused 12 1)) (refused 12 1))
+    (refused 12 1))
+    (refused 12 1)
+
+-- THE NAME LINES
+
+-- what they give: the letters that the names stand for, and the next line's position and number
+pub record Lettered : Type 0 where
+  pub letters : List ℕ
+  pub at : ℕ
+  pub line : ℕ
+
+abbrev pub lettered : List ℕ → ℕ → ℕ → Lettered
+lettered letters at line = record { letters = letters; at = at; line = line }
+
+-- the letter of the name from `at` to e; the count of letters where it is no letter's name
+abbrev pub letterFrom : List (List ℕ) → List ℕ → ℕ → ℕ → ℕ
+letterFrom names p at e = letterOf names (compose (stretch p at e))
+
+-- a line with a name: its letter, and where its LF stands
+-- "Is each plan line of its form? No: 12. .. Is each name known? No: 14."
+unfoldable pub letterLineAt : List (List ℕ) → List ℕ → ℕ → LetterLine
+letterLineAt names p at =
+    withEnding (nameEndAt p at) (λ e. choose (ltb (letterFrom names p at e) (length names)) (L.Is (letterFrom names p at e) e) L.Unknown) L.Bad
+
+abbrev pub withLetter : {A : Type 0} → LetterLine → (ℕ → ℕ → A) → A → A → A
+withLetter (L.Is l e) go unknown bad = go l e
+withLetter L.Unknown go unknown bad = unknown
+withLetter L.Bad go unknown bad = bad
+
+-- `todo` name lines, the first of which is line `line` and stands at `at`, after those of `letters`
+unfoldable pub lettersAt : List (List ℕ) → List ℕ → ℕ → ℕ → List ℕ → ℕ → Phase Lettered
+lettersAt names p line at letters zero = passed (lettered letters at line)
+lettersAt names p line at letters (suc todo) =
+    withLetter (letterLineAt names p at) (λ l e. lettersAt names p (line + 1) (e + 1) (letters ++ (l ∷ [])) todo) (refused 14 line) (refused 12 line)
+
+-- THE END
+
+-- "`END`", "What follows `END` is a fault of the line after it: .. 12 in a plan."
+unfoldable pub endAt : List ℕ → Lettered → Phase (List ℕ)
+endAt p y =
+    choose (startsAt p (y .at) endLine)
+    (choose (eqb (length p) (y .at + 4)) (passed (y .letters)) (refused 12 (y .line + 1)))
+    (refused 12 (y .line))
+
+-- THE WHOLE FILE
+
+-- what a plan file holds: how long its lead-in and its cycle are, and the letters of both
+pub record Contents : Type 0 where
+  pub lead : ℕ
+  pub cycle : ℕ
+  pub letters : List ℕ
+
+abbrev pub contents : Lengths → List ℕ → Contents
+contents z letters = record { lead = z .lead; cycle = z .cycle; letters = letters }
+
+abbrev pub afterHead : List (List ℕ) → List ℕ → Lengths → Phase Contents
+afterHead names p z =
+    andThen (lettersAt names p 2 11 [] (z .lead + z .cycle)) (λ y. andThen (endAt p y) (λ letters. passed (contents z letters)))
+
+unfoldable pub planOf : List (List ℕ) → List ℕ → Phase Contents
+planOf names p = andThen (headOf p) (afterHead names p)

@@ -1,0 +1,25 @@
+-- What reading a plan file answers, and what the lent buffer holds then.
+use Prim.Native.Nat.{ℕ, _+_}
+use mathlib.Core.Path.{_≡_}
+use mathlib.Core.List.{List, _++_, map}
+use lib.ListN.{length, drop}
+use Rattle.gate.specs.Gate.{refusal}
+use Rattle.names.specs.Name.{compose}
+use Rattle.format.specs.Format.{Sheet}
+use Rattle.sheet.specs.Rows.{Holds}
+use Rattle.plan.specs.declared.Planned.{Planned}
+use Rattle.plan.specs.declared.Planned.the-variants.{Refused, Is}
+use Rattle.plan.specs.Plan.{PlanIs, Faulty}
+
+-- the rows hold the composed names of the k letters of a sheet
+pub record NamesIn (σ : Sheet) (k : ℕ) (rows : List ℕ) : Type 0 where
+  pub letters : σ .k ≡ k
+  pub all-names : length (σ .names) ≡ k
+  pub holds : Holds (map compose (σ .names)) rows
+
+-- QUESTIONS 12 TO 14 on a plan file over the sheet σ. The buffer was t and is u then: the lead-in's letters, the cycle's, and what was behind.
+abbrev pub Reads : Sheet → List ℕ → List ℕ → List ℕ → Planned → Type 0
+Reads σ p t u (Refused r) = (number : ℕ) × (line : ℕ) × Faulty σ p number line × (r ≡ refusal number line)
+Reads σ p t u (Is z) =
+    (lead : List ℕ) × (cycle : List ℕ) × PlanIs σ p lead cycle
+    × (z .lead ≡ length lead) × (z .cycle ≡ length cycle) × (u ≡ lead ++ (cycle ++ drop (z .lead + z .cycle) t))

@@ -1,0 +1,46 @@
+-- The answer of reading is the one that the definitions of a plan and of its faults give. Assumes nothing.
+use Prim.Native.Nat.{ℕ, zero, suc, _+_, _≤_, _<_}
+use mathlib.Core.Path.{_≡_, sym, ap, _∙_}
+use mathlib.Core.List.{List, _++_, map, append-assoc}
+use lib.ListN.{length, getD, drop, length-take, length-drop, take-append-drop}
+use native.Mathlib.Omega.{arith}
+use Rattle.names.specs.Name.{compose}
+use Rattle.format.specs.Format.{Sheet}
+use Rattle.sheet.specs.Parse.{Phase, refused, passed}
+use Rattle.plan.specs.declared.Planned.{Planned}
+use Rattle.plan.specs.declared.Planned.the-variants.{Refused, Is}
+use Rattle.plan.specs.Plan.{mostPlan, Known, none, more}
+use Rattle.plan.specs.Parse.{Contents, lengths, planOf}
+use Rattle.plan.specs.Answers.{PlanRead}
+use Rattle.plan.specs.Read.{Reads}
+use Rattle.plan.specs.ParseLaws.{leadOf, cycleOf, Means, plan-means}
+
+-- every letter of a plan is one of the sheet's
+pub known-below : (σ : Sheet) {names : List (List ℕ)} {letters : List ℕ} → Known σ names letters → (i : ℕ) → i < length letters → getD letters i 0 < σ .k
+known-below σ none i l = absurd (omega arith)
+known-below σ (more s k) zero l = s .letter
+known-below σ (more s k) (suc i) l = known-below σ k i (omega arith)
+
+means-read : (σ : Sheet) (p t u : List ℕ) (w : Phase Contents) → Means σ p w → (r : Planned) → PlanRead w t u r → Reads σ p t u r
+means-read σ p t u (refused number line) f (Refused r) e = (number, line, f, cc)
+means-read σ p t u (refused number line) f (Is z) e = absurd (let o : _≡_ {A = ℕ} 0 1 = cc in omega arith)
+means-read σ p t u (passed x) f (Refused r) e = absurd (let g = e .0 in let o : _≡_ {A = ℕ} 0 1 = cc in omega arith)
+means-read σ p t u (passed x) (n, plan) (Is z) (e, b) =
+    let f : z ≡ lengths (x .lead) (x .cycle) = cc in
+    let m : z .lead ≡ x .lead = ap (λ y. y .lead) f in
+    let c : z .cycle ≡ x .cycle = ap (λ y. y .cycle) f in
+    let k : z .lead + z .cycle ≡ x .lead + x .cycle = omega arith in
+    let l : length (leadOf x) ≡ x .lead = simp length-take (omega arith) in
+    let d : length (cycleOf x) ≡ x .cycle = simp length-drop (omega arith) in (
+      leadOf x,
+      cycleOf x,
+      plan,
+      m ∙ sym l,
+      c ∙ sym d,
+      b ∙ (ap (λ (y : List ℕ). y ++ drop (x .lead + x .cycle) t) (sym (take-append-drop (x .lead) (x .letters)))
+          ∙ (append-assoc (leadOf x) (cycleOf x) (drop (x .lead + x .cycle) t) ∙ ap (λ (y : ℕ). leadOf x ++ (cycleOf x ++ drop y t)) (sym k))),
+    )
+
+pub reads : (σ : Sheet) → length (σ .names) ≡ σ .k → (p t u : List ℕ) → length p ≤ mostPlan → (r : Planned)
+    → PlanRead (planOf (map compose (σ .names)) p) t u r → Reads σ p t u r
+reads σ all p t u size r e = means-read σ p t u (planOf (map compose (σ .names)) p) (plan-means σ all p size) r e

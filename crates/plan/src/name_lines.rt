@@ -1,0 +1,73 @@
+// The name lines of a plan: questions 12 and 14.
+ghost use mathlib.Core.Path.{_≡_};
+ghost use mathlib.Core.List.{List, []};
+ghost use Prim.Native.Nat.{ℕ, _<_, _≤_, _^_};
+ghost use lib.ListN.{length};
+ghost use Rattle.sheet.specs.Rows.{Holds};
+ghost use Rattle.plan.specs.Plan.{mostPlan};
+ghost use Rattle.plan.specs.Parse.{letterLineAt, lettersAt};
+ghost use Rattle.plan.specs.Answers.{LineFits, LettersRead, PlaceFits};
+use super::LetterLine;
+use super::Letters;
+use gate::Refusal;
+use names::Ending;
+use sheet::Place;
+use sheet::letters::letter_of;
+
+// The line at `at`. The rows hold the composed names of k letters; the line's own name goes into the row behind them.
+fn letter_line(p: &[u8], at: usize, rows: &mut [u8], k: usize) -> LetterLine
+    requires { ⌜ (at < 2 ^ 30) × (k ≤ 8) × (216 ≤ length (now rows)) ⌝ }
+    ensures { λ r. ⌜ LineFits (length (now (p .entry))) k r × ((names : List (List ℕ)) → length names ≡ k → Holds names (now (rows .entry))
+        → (r ≡ letterLineAt names (now (p .entry)) at) × Holds names (now (rows .exit))) ⌝ }
+{
+    let Ending::At(e) = names::name_end(p, at) else {
+        return LetterLine::Bad;
+    };
+    let l = letter_of(rows, k, p, at, e);
+    if l < k {
+        return LetterLine::Is(l, e);
+    }
+    LetterLine::Unknown
+}
+
+// The lines of `count` names: the letters that they stand for go into the buffer.
+pub fn read_letters(
+    p: &[u8],
+    rows: &mut [u8],
+    k: usize,
+    count: usize,
+    letters: &mut [u8],
+) -> Letters
+    requires { ⌜ (length (now p) ≤ mostPlan) × (k ≤ 8) × (216 ≤ length (now rows)) × (count ≤ length (now letters)) × (count ≤ 400) ⌝ }
+    ensures { λ r. ⌜ PlaceFits r × ((names : List (List ℕ)) → length names ≡ k → Holds names (now (rows .entry))
+        → LettersRead (lettersAt names (now (p .entry)) 2 11 [] count) count (now (letters .entry)) (now (letters .exit)) r) ⌝ }
+{
+    let mut line = 2;
+    let mut at = 11;
+    let mut i = 0;
+    while i < count {
+        match letter_line(p, at, rows, k) {
+            LetterLine::Is(l, e) => {
+                letters[i] = l as u8;
+                line += 1;
+                at = e + 1;
+                i += 1;
+            }
+            LetterLine::Unknown => {
+                return Letters::Refused(Refusal {
+                    number: 14,
+                    line,
+                    length: 0,
+                });
+            }
+            LetterLine::Bad => {
+                return Letters::Refused(Refusal {
+                    number: 12,
+                    line,
+                    length: 0,
+                });
+            }
+        }
+    }
+    Letters::Are(Place { at, line })
+}

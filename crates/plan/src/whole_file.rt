@@ -1,0 +1,56 @@
+// A whole plan file: questions 12 to 14.
+ghost use mathlib.Core.Path.{_≡_};
+ghost use mathlib.Core.List.{[]};
+ghost use Prim.Native.Nat.{_<_, _≤_, _^_};
+ghost use lib.ListN.{length};
+ghost use Rattle.format.specs.Format.{Sheet};
+ghost use Rattle.plan.specs.Plan.{mostPlan};
+ghost use Rattle.plan.specs.Parse.{lettered, endAt};
+ghost use Rattle.plan.specs.Answers.{endAnswer, LengthsFit};
+ghost use Rattle.plan.specs.Read.{NamesIn, Reads};
+use super::Lengths;
+use super::Letters;
+use super::Planned;
+use super::first_line::read_head;
+use super::name_lines::read_letters;
+use gate::Refusal;
+use sheet::Place;
+
+// The last line of a plan of lengths z: END, with nothing after it.
+fn end_line(p: &[u8], z: Lengths, place: Place) -> Planned
+    requires { ⌜ (place .at < 2 ^ 30) × (place .line < 2 ^ 30) ⌝ }
+    ensures { λ r. ⌜ r ≡ endAnswer z (endAt (now (p .entry)) (lettered [] (place .at) (place .line))) ⌝ }
+{
+    let at = place.at;
+    let line = place.line;
+    if !text::starts_at(p, at, b"END\n") {
+        return Planned::Refused(Refusal {
+            number: 12,
+            line,
+            length: 0,
+        });
+    }
+    if p.len() != at + 4 {
+        return Planned::Refused(Refusal {
+            number: 12,
+            line: line + 1,
+            length: 0,
+        });
+    }
+    Planned::Is(z)
+}
+
+// The plan, over the letters whose composed names the first k rows hold; the row behind them is written.
+pub fn read_plan(p: &[u8], rows: &mut [u8], k: usize, letters: &mut [u8]) -> Planned
+    requires { ⌜ (length (now p) ≤ mostPlan) × (k ≤ 8) × (216 ≤ length (now rows)) × (400 ≤ length (now letters)) ⌝ }
+    ensures { λ r. ⌜ LengthsFit r × ((σ : Sheet) → NamesIn σ k (now (rows .entry))
+        → Reads σ (now (p .entry)) (now (letters .entry)) (now (letters .exit)) r) ⌝ }
+{
+    match read_head(p) {
+        Planned::Refused(r) => Planned::Refused(r),
+        Planned::Is(z) => match read_letters(p, rows, k, z.lead + z.cycle, letters) {
+            Letters::Refused(r) => Planned::Refused(r),
+            Letters::Are(place) => end_line(p, z, place),
+        },
+    }
+}

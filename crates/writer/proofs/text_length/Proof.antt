@@ -1,0 +1,49 @@
+-- `writer::text_length` meets its contract: the lengths of the parts add up. Assumes nothing.
+use native.Mathlib.Omega.{arith}
+use denote.Ref.{now}
+use Rattle.automaton.specs.Automaton.{automaton}
+use Rattle.writer.specs.RowNames.{rowNames}
+use Rattle.writer.specs.LengthLaws.{transitionsOf-most}
+use Rattle.writer.specs.TextLaws.{text-length}
+use borrow.Author.Needs.{needs}
+use Rattle.writer.proofs.text_length.Statement.{statement}
+use Rattle.writer.proofs.text_length.Tie as tie
+
+names-length-requires : tie.Need-names-length-requires
+names-length-requires c κs = search needs
+
+add-result : tie.Need-add-result
+add-result c = search needs
+
+mul-result : tie.Need-mul-result
+mul-result c = search needs
+
+add-result-2 : tie.Need-add-result-2
+add-result-2 c = search needs
+
+count-transitions-requires : tie.Need-count-transitions-requires
+count-transitions-requires c κs = search needs
+
+mul-result-2 : tie.Need-mul-result-2
+mul-result-2 c = omega (arith, transitionsOf-most (now (c .before .before .before .before .before .args .table)) 2048 0)
+
+add-result-3 : tie.Need-add-result-3
+add-result-3 c = omega (arith, transitionsOf-most (now (c .before .before .before .before .before .args .table)) 2048 0)
+
+returns : tie.Need-returns
+returns c =
+    let a = c .before .before .before .before .before .args in
+    omega (arith, text-length (automaton (a .a) (now (a .table))) (rowNames (now (a .rows)) 0 (a .a .k)))
+
+pub text-length-spec : {M : Type 1} → statement M
+text-length-spec =
+    tie.close
+    (tie.spec
+    names-length-requires
+    add-result
+    mul-result
+    add-result-2
+    count-transitions-requires
+    mul-result-2
+    add-result-3
+    returns)

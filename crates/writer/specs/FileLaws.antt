@@ -1,0 +1,109 @@
+-- What is written is a sheet file: each line answers its question yes, and the longest text has 22,960 bytes. Assumes nothing.
+use Prim.Native.Nat.{ℕ, zero, suc, _+_, _*_, _/_, _%_, _≤_, _<_}
+use mathlib.Core.Path.{_≡_, refl, sym, ap, _∙_, subst}
+use mathlib.Core.List.{List, [], _∷_, _++_, map}
+use native.Mathlib.Omega.{arith}
+use native.Mathlib.Decide.{decLt}
+use lib.ListN.{length, getD, length-append, length-map}
+use Rattle.names.specs.Name.{compose}
+use Rattle.names.specs.NameLaws.{composed-name, compose-idempotent}
+use Rattle.sets.specs.Sets.{bit, Member}
+use Rattle.sets.specs.SetLaws.{bit-lt, no-member}
+use Rattle.automaton.specs.Automaton.{Automaton, Fits}
+use Rattle.format.specs.Format.{Distinct, NamesRight, StatesRight, TransitionRight, TransitionsRight, Right, most, place, FileIs, nameLines, statesOf, placed, unless, transitionsOf, writtenSheet, written}
+use Rattle.format.specs.FormatLaws.{name-length}
+use Rattle.writer.specs.LengthLaws.{statesOf-length, transitionsOf-most}
+use Rattle.writer.specs.TextLaws.{written-length}
+
+-- The names
+
+map-snoc : (xs : List (List ℕ)) (x : List ℕ) → map compose (xs ++ (x ∷ [])) ≡ map compose xs ++ (compose x ∷ [])
+map-snoc [] x = refl
+map-snoc (y ∷ ys) x = ap (compose y ∷_) (map-snoc ys x)
+
+distinct-composed : (xs : List (List ℕ)) (x : List ℕ) → Distinct xs x → Distinct (map compose xs) (compose x)
+distinct-composed [] x d = tt
+distinct-composed (y ∷ ys) x d = ((λ e. d .0 (sym (compose-idempotent y) ∙ e ∙ compose-idempotent x)), distinct-composed ys x (d .1))
+
+-- names that are right are right when they are composed
+pub names-composed : (xs earlier : List (List ℕ)) → NamesRight earlier xs → NamesRight (map compose earlier) (map compose xs)
+names-composed [] earlier r = tt
+names-composed (x ∷ xs) earlier r = (
+  composed-name x (r .0),
+  distinct-composed earlier x (r .1),
+  subst (λ (e : List (List ℕ)). NamesRight e (map compose xs)) (map-snoc earlier x) (names-composed xs (earlier ++ (x ∷ [])) (r .2)),
+)
+
+-- the line of a name has at most 30 bytes
+names-most : (xs earlier : List (List ℕ)) (l : ℕ) → NamesRight earlier xs → length (nameLines l xs) ≤ 30 * length xs
+unfolding nameLines
+names-most [] earlier l r = omega arith
+names-most (x ∷ xs) earlier l r =
+    simp (length-append, name-length) (omega (arith, r .0 .most, names-most xs (earlier ++ (x ∷ [])) (suc l) (r .2)))
+
+-- The states
+
+pub states-right : (initial recurring n q : ℕ) → StatesRight (statesOf initial recurring q n)
+unfolding statesOf
+states-right initial recurring zero q = tt
+states-right initial recurring (suc n) q = ((omega (arith, bit-lt initial q), omega (arith, bit-lt recurring q)), states-right initial recurring n (suc q))
+
+-- The transitions
+
+module _ (A : Automaton) (fits : Fits A) where
+  -- a member of a cell lies in range
+  right : (i least : ℕ) → least ≤ i → Member (getD (A .table) (i / 16) 0) (i % 16) → TransitionRight (A .n) (A .k) least (placed i)
+  right i least h m = by (decLt (i / 16 / 8) (A .n)) (decLt (i / 16 % 8) (A .k))
+    where
+      outside : ((i / 16 / 8 < A .n) → (i / 16 % 8 < A .k) → ⊥) → ⊥
+      outside f = no-member (i % 16) (subst (λ (x : ℕ). Member x (i % 16)) (fits .cells (i / 16) .empty f) m)
+
+      by : Dec (i / 16 / 8 < A .n) → Dec (i / 16 % 8 < A .k) → TransitionRight (A .n) (A .k) least (placed i)
+      by (yes a) (yes b) = record { from = omega arith; letter = b; to = fits .cells (i / 16) .within (i % 16) m; order = omega arith }
+      by (no a) b = absurd (outside (λ f g. a f))
+      by (yes a) (no b) = absurd (outside (λ f g. b g))
+
+  pub transitions-right : (left i least : ℕ) → least ≤ i → TransitionsRight (A .n) (A .k) least (transitionsOf (A .table) i left)
+  unfolding transitionsOf
+  transitions-right zero i least h = tt
+  transitions-right (suc left) i least h =
+      by (bit (getD (A .table) (i / 16) 0) (i % 16)) refl
+      (transitions-right left (suc i) least (omega arith))
+      (transitions-right left (suc i) (place (placed i) + 1) (omega arith))
+    where
+      by : (b : ℕ) → bit (getD (A .table) (i / 16) 0) (i % 16) ≡ b
+          → TransitionsRight (A .n) (A .k) least (transitionsOf (A .table) (suc i) left)
+          → TransitionsRight (A .n) (A .k) (place (placed i) + 1) (transitionsOf (A .table) (suc i) left)
+          → TransitionsRight (A .n) (A .k) least (unless b (placed i) (transitionsOf (A .table) (suc i) left))
+      by zero e same after = same
+      by (suc b) e same after = (right i least h (omega (arith, bit-lt (getD (A .table) (i / 16) 0) (i % 16))), after)
+
+-- The file
+
+module _ (A : Automaton) (fits : Fits A) (names : List (List ℕ)) (right : NamesRight [] names) (all : length names ≡ A .k) where
+  written-right : Right (writtenSheet A names)
+  unfolding writtenSheet
+  written-right = record {
+    range = fits .range;
+    names = names-composed names [] right;
+    states = states-right (A .initial) (A .recurring) (A .n) 0;
+    transitions = transitions-right A fits 2048 0 0 (omega arith);
+  }
+
+  -- 12 for the first line, 8 names of 30, 16 states and 2048 transitions of 11, 4 for END
+  pub longest : length (written A names) ≤ 22960
+  longest =
+      let composed = names-composed names [] right in
+      let k : length (map compose names) ≡ A .k = length-map names compose ∙ all in
+      omega (arith, written-length A names, names-most (map compose names) [] 0 composed, transitionsOf-most (A .table) 2048 0, fits .range)
+
+  -- WHAT IS WRITTEN IS THE FILE of the sheet that is written
+  pub written-file : FileIs (written A names) (writtenSheet A names)
+  unfolding written writtenSheet
+  written-file = record {
+    size = omega (arith, longest);
+    right = written-right;
+    all-names = length-map names compose ∙ all;
+    all-states = statesOf-length (A .initial) (A .recurring) (A .n) 0;
+    text = refl;
+  }

@@ -1,0 +1,20 @@
+-- A line that is stored part by part is stored as a whole. Assumes nothing.
+use Prim.Native.Nat.{ℕ, suc, _+_}
+use mathlib.Core.Path.{_≡_, sym}
+use mathlib.Core.List.{List, [], _∷_}
+use native.Mathlib.Omega.{arith}
+use lib.ListN.{length, set}
+use lib.Seq.{sets}
+use Rattle.text.specs.Bytes.{lf, space}
+use Rattle.text.specs.Column.{column}
+use Rattle.text.specs.SetsLaws.{sets-append}
+use Rattle.format.specs.Format.{nameLine}
+
+pub name-stored : (out : List ℕ) (at l : ℕ) (name : List ℕ) →
+    set (sets (set (sets (set out at 78) (at + 1) (column 3 l)) (at + 4) space) (at + 5) name) (at + 5 + length name) lf ≡ sets out at (nameLine l name)
+unfolding nameLine column
+name-stored out at l name =
+    let one : at + 1 ≡ suc at = omega arith in
+    let four : at + 4 ≡ suc (suc (suc (suc at))) = omega arith in
+    let five : at + 5 ≡ suc (suc (suc (suc (suc at)))) = omega arith in
+    rw (one, four, five) (sym (sets-append name (lf ∷ []) _ (suc (suc (suc (suc (suc at)))))))

@@ -1,0 +1,166 @@
+-- The numbers of the sheet that is written are those it is written from: state by state, and place by place of the table. Assumes nothing.
+use Prim.Native.Nat.{ℕ, zero, suc, _+_, _*_, _/_, _%_, _^_, _≤_, _<_}
+use mathlib.Core.Path.{_≡_, refl, sym, ap, _∙_}
+use mathlib.Core.List.{List, [], _∷_}
+use native.Mathlib.Omega.{arith}
+use native.Mathlib.Decide.{decLt, ℕ-discrete}
+use native.Mathlib.Nat.{add-zero, zero-add}
+use lib.ListN.{length, getD, set, take, replicate, length-set, getD-replicate}
+use lib.Seq.{ext-getD, getD-take, length-take-le, getD-set-same, getD-set-other, set-out}
+use Rattle.sets.specs.Sets.{bit, Member, setOf, unionOf}
+use Rattle.sets.specs.SetLaws.{bit-lt, bit-out, bit-zero, bit-union, bit-single, bit-single-other, ext, small-of-within, set-is-sum}
+use Rattle.automaton.specs.Automaton.{Automaton, Fits}
+use Rattle.format.specs.Format.{State, Transition, flagSet, entered, tableOf, numbers, statesOf, placed, unless, transitionsOf, writtenSheet}
+use Rattle.writer.specs.Same.{trimmed}
+
+-- The states' flags
+
+module _ (initial recurring : ℕ) (flag : State → ℕ) (x : ℕ) (reads : (q : ℕ) → flag (record { initial = bit initial q; recurring = bit recurring q }) ≡ bit x q) where
+  flags-sum : (m q : ℕ) → setOf (q + m) (bit x) ≡ setOf q (bit x) + flagSet flag q (statesOf initial recurring q m)
+  unfolding setOf flagSet statesOf
+  flags-sum zero q = rw (add-zero q) (sym (add-zero _))
+  flags-sum (suc m) q =
+      let e : q + suc m ≡ suc q + m = omega arith in
+      rw (e, flags-sum m (suc q), reads q) (omega arith)
+
+  -- the flags of n states give back the set that they were taken from
+  pub flags-back : (n : ℕ) → x < 2 ^ n → flagSet flag 0 (statesOf initial recurring 0 n) ≡ x
+  unfolding setOf
+  flags-back n h =
+      let e = flags-sum n 0 in
+      let f : setOf n (bit x) ≡ 0 + flagSet flag 0 (statesOf initial recurring 0 n) = rw (zero-add n) at e in
+      sym (f ∙ zero-add _) ∙ set-is-sum n x h
+
+-- One transition more
+
+-- a table with the transition of place i, where b says that there is one
+abbrev enteredAt : ℕ → List ℕ → ℕ → List ℕ
+enteredAt zero table i = table
+enteredAt (suc b) table i = entered table (placed i)
+
+entered-length : (table : List ℕ) (t : Transition) → length (entered table t) ≡ length table
+unfolding entered
+entered-length table t = simp length-set
+
+enteredAt-length : (b : ℕ) (table : List ℕ) (i : ℕ) → length (enteredAt b table i) ≡ length table
+enteredAt-length zero table i = refl
+enteredAt-length (suc b) table i = entered-length table (placed i)
+
+pub table-length : (ts : List Transition) (table : List ℕ) → length (tableOf table ts) ≡ length table
+unfolding tableOf
+table-length [] table = refl
+table-length (t ∷ ts) table = table-length ts (entered table t) ∙ entered-length table t
+
+table-next : (b : ℕ) (table : List ℕ) (i : ℕ) (ts : List Transition) → tableOf table (unless b (placed i) ts) ≡ tableOf (enteredAt b table i) ts
+unfolding tableOf
+table-next zero table i ts = refl
+table-next (suc b) table i ts = refl
+
+-- the cell of place i is number i / 16
+entered-is : (table : List ℕ) (i : ℕ) → entered table (placed i) ≡ set table (i / 16) (unionOf (getD table (i / 16) 0) (2 ^ (i % 16)))
+unfolding entered
+entered-is table i =
+    let e : 8 * (i / 128) + i / 16 % 8 ≡ i / 16 = omega arith in
+    rw e
+
+entered-same : (table : List ℕ) (i c q : ℕ) → c ≡ i / 16 → q ≡ i % 16 → c < length table → bit (getD (entered table (placed i)) c 0) q ≡ 1
+entered-same table i c q e f h =
+    let l : i / 16 < length table = omega arith in
+    let u = bit-union (getD table (i / 16) 0) (2 ^ (i % 16)) (i % 16) in
+    let o = bit-single (i % 16) in
+    rw (e, f, entered-is, getD-set-same) (omega (arith, bit-lt (getD table (i / 16) 0) (i % 16)))
+
+entered-other : (table : List ℕ) (i c q : ℕ) → (c ≡ i / 16 → q ≡ i % 16 → ⊥) → bit (getD (entered table (placed i)) c 0) q ≡ bit (getD table c 0) q
+entered-other table i c q h = rw entered-is (by (ℕ-discrete c (i / 16)) (decLt c (length table)))
+  where
+    by : Dec (c ≡ i / 16) → Dec (c < length table) → bit (getD (set table (i / 16) (unionOf (getD table (i / 16) 0) (2 ^ (i % 16)))) c 0) q ≡ bit (getD table c 0) q
+    by (no d) l = rw (getD-set-other table (i / 16) c _ 0 d)
+    by (yes e) (yes l) =
+        let l′ : i / 16 < length table = omega arith in
+        let u = bit-union (getD table (i / 16) 0) (2 ^ (i % 16)) q in
+        let o = bit-single-other (i % 16) q (h e) in
+        rw (e, getD-set-same) (omega arith)
+    by (yes e) (no l) = rw (set-out table (i / 16) _ (omega arith))
+
+-- The places of a table, from i on
+
+module _ (T : List ℕ) where
+  -- a bit that is at no place from i on stays as it was
+  keeps : (left i : ℕ) (table : List ℕ) (c q : ℕ) → ((j : ℕ) → i ≤ j → c ≡ j / 16 → q ≡ j % 16 → ⊥)
+      → bit (getD (tableOf table (transitionsOf T i left)) c 0) q ≡ bit (getD table c 0) q
+  unfolding tableOf transitionsOf
+  keeps zero i table c q h = refl
+  keeps (suc left) i table c q h =
+      let b = bit (getD T (i / 16) 0) (i % 16) in
+      rw (table-next b table i (transitionsOf T (suc i) left))
+      (keeps left (suc i) (enteredAt b table i) c q (λ j l. h j (omega arith)) ∙ by b)
+    where
+      by : (b : ℕ) → bit (getD (enteredAt b table i) c 0) q ≡ bit (getD table c 0) q
+      by zero = refl
+      by (suc b) = entered-other table i c q (h i (omega arith))
+
+  -- a bit that is 0 and at a place from i on becomes T's
+  gains : (left i : ℕ) (table : List ℕ) (c q : ℕ) → c < length table → q < 16 → i ≤ 16 * c + q → 16 * c + q < i + left → bit (getD table c 0) q ≡ 0
+      → bit (getD (tableOf table (transitionsOf T i left)) c 0) q ≡ bit (getD T c 0) q
+  unfolding tableOf transitionsOf
+  gains zero i table c q hc hq h l z = absurd (omega arith)
+  gains (suc left) i table c q hc hq h l z =
+      let b = bit (getD T (i / 16) 0) (i % 16) in
+      rw (table-next b table i (transitionsOf T (suc i) left))
+      (elim (ℕ-discrete i (16 * c + q)) [
+        | yes e ↦ keeps left (suc i) (enteredAt b table i) c q (λ j k f g. omega arith) ∙ here b refl e
+        | no d ↦ gains left (suc i) (enteredAt b table i) c q (rw enteredAt-length hc) hq (omega arith) (omega arith) (before b d ∙ z)
+      ])
+    where
+      here : (b : ℕ) → bit (getD T (i / 16) 0) (i % 16) ≡ b → i ≡ 16 * c + q → bit (getD (enteredAt b table i) c 0) q ≡ bit (getD T c 0) q
+      here b f e =
+          let cell : i / 16 ≡ c = omega arith in
+          let member : i % 16 ≡ q = omega arith in
+          by b (rw (cell, member) at f)
+        where
+          by : (b : ℕ) → bit (getD T c 0) q ≡ b → bit (getD (enteredAt b table i) c 0) q ≡ bit (getD T c 0) q
+          by zero f = z ∙ sym f
+          by (suc b) f =
+              let o : bit (getD T c 0) q ≡ 1 = omega (arith, bit-lt (getD T c 0) q) in
+              entered-same table i c q (omega arith) (omega arith) hc ∙ sym o
+
+      before : (b : ℕ) → (i ≡ 16 * c + q → ⊥) → bit (getD (enteredAt b table i) c 0) q ≡ bit (getD table c 0) q
+      before zero d = refl
+      before (suc b) d = entered-other table i c q (λ f g. d (omega arith))
+
+  -- the transitions of a table of 128 sets of states below 16 give it back
+  pub table-back : 128 ≤ length T → ((c q : ℕ) → Member (getD T c 0) q → q < 16) → (empty : List ℕ) → length empty ≡ 128 → ((c : ℕ) → c < 128 → getD empty c 0 ≡ 0)
+      → tableOf empty (transitionsOf T 0 2048) ≡ take 128 T
+  table-back h within empty k z =
+      ext-getD 0 (tableOf empty (transitionsOf T 0 2048)) (take 128 T) (size ∙ sym (length-take-le 128 T h))
+      (λ c l. let l′ : c < 128 = omega (arith, size) in rw (getD-take 128 T c 0 l′) (cell c l′))
+    where
+      size : length (tableOf empty (transitionsOf T 0 2048)) ≡ 128
+      size = table-length (transitionsOf T 0 2048) empty ∙ k
+
+      cell : (c : ℕ) → c < 128 → getD (tableOf empty (transitionsOf T 0 2048)) c 0 ≡ getD T c 0
+      cell c l = ext _ _ (λ q. at q (decLt q 16))
+        where
+          none : (q : ℕ) → bit (getD empty c 0) q ≡ 0
+          none q = ap (λ (x : ℕ). bit x q) (z c l) ∙ bit-zero q
+
+          at : (q : ℕ) → Dec (q < 16) → bit (getD (tableOf empty (transitionsOf T 0 2048)) c 0) q ≡ bit (getD T c 0) q
+          at q (yes s) = gains 2048 0 empty c q (omega arith) s (omega arith) (omega arith) (none q)
+          at q (no s) = keeps 2048 0 empty c q (λ j u f g. s (omega arith)) ∙ none q ∙ sym (bit-out (getD T c 0) q (λ m. s (within c q m)))
+
+-- The numbers
+
+pub numbers-written : (A : Automaton) (names : List (List ℕ)) → Fits A → 128 ≤ length (A .table) → numbers (writtenSheet A names) ≡ trimmed A
+unfolding numbers writtenSheet
+numbers-written A names fits h = λ i. record { n = A .n; k = A .k; initial = initials i; recurring = recurrings i; table = cells i }
+  where
+    initials : flagSet (λ z. z .initial) 0 (statesOf (A .initial) (A .recurring) 0 (A .n)) ≡ A .initial
+    initials = flags-back (A .initial) (A .recurring) (λ z. z .initial) (A .initial) (λ q. refl) (A .n) (small-of-within (A .initial) (A .n) (fits .states .0))
+
+    recurrings : flagSet (λ z. z .recurring) 0 (statesOf (A .initial) (A .recurring) 0 (A .n)) ≡ A .recurring
+    recurrings = flags-back (A .initial) (A .recurring) (λ z. z .recurring) (A .recurring) (λ q. refl) (A .n) (small-of-within (A .recurring) (A .n) (fits .states .1))
+
+    cells : tableOf (replicate 128 0) (transitionsOf (A .table) 0 2048) ≡ take 128 (A .table)
+    cells =
+        table-back (A .table) h (λ c q m. let l = fits .cells c .within q m in omega (arith, fits .range))
+        (replicate 128 0) refl (λ c l. getD-replicate 128 c 0 0 l)

@@ -1,0 +1,26 @@
+-- The transitions of a table in the order of their places, one after the other.
+use Prim.Native.Nat.{ℕ, _-_, _/_, _%_, _≤_, _<_}
+use mathlib.Core.Path.{_≡_}
+use mathlib.Core.List.{List}
+use lib.ListN.{getD}
+use Rattle.sets.specs.Sets.{Member}
+use Rattle.format.specs.Format.{Transition, transitionsOf}
+
+-- "strictly ascending by these three": there are 2048 places, 16 to a cell of the table
+abbrev pub places : ℕ
+places = 2048
+
+-- the transitions at the places from i on
+abbrev pub transitionsFrom : List ℕ → ℕ → List Transition
+transitionsFrom table i = transitionsOf table i (places - i)
+
+-- a transition stands at place i
+abbrev pub At : List ℕ → ℕ → Type 0
+At table i = Member (getD table (i / 16) 0) (i % 16)
+
+-- i is the first place from `start` on at which a transition stands, and 2048 where there is none
+pub record First (table : List ℕ) (start i : ℕ) : Type 0 where
+  pub from : start ≤ i
+  pub most : i ≤ places
+  pub none-before : transitionsFrom table start ≡ transitionsFrom table i
+  pub there : i < places → At table i

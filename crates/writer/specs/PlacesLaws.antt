@@ -1,0 +1,59 @@
+-- The transitions from a place on: with a transition there, without one, and at the end. Assumes nothing.
+use Prim.Native.Nat.{ℕ, zero, suc, _+_, _-_, _*_, _/_, _%_, _≤_, _<_}
+use mathlib.Core.Path.{_≡_, ap, _∙_}
+use mathlib.Core.List.{List, [], _∷_}
+use native.Mathlib.Omega.{arith}
+use native.Mathlib.Numerals.{add-one}
+use lib.ListN.{getD}
+use lib.Seq.{sets}
+use Rattle.text.specs.SetsLaws.{sets-append}
+use Rattle.sets.specs.Sets.{bit}
+use Rattle.sets.specs.SetLaws.{bit-zero}
+use Rattle.format.specs.Format.{placed, transitionsOf, transitionLine, transitionLines}
+use Rattle.format.specs.FormatLaws.{transition-length}
+use Rattle.writer.specs.Places.{places, transitionsFrom, At, First}
+
+module _ (T : List ℕ) where
+  pub place-here : (i : ℕ) → i < places → At T i → transitionsFrom T i ≡ placed i ∷ transitionsFrom T (i + 1)
+  unfolding transitionsOf
+  place-here i h m =
+      let e : places - i ≡ suc (places - (i + 1)) = omega arith in
+      let f : i + 1 ≡ suc i = add-one i in
+      rw (e, m, f)
+
+  pub place-empty : (i : ℕ) → i < places → bit (getD T (i / 16) 0) (i % 16) ≡ 0 → transitionsFrom T i ≡ transitionsFrom T (i + 1)
+  unfolding transitionsOf
+  place-empty i h z =
+      let e : places - i ≡ suc (places - (i + 1)) = omega arith in
+      let f : i + 1 ≡ suc i = add-one i in
+      rw (e, z, f)
+
+  pub place-last : (i : ℕ) → places ≤ i → transitionsFrom T i ≡ []
+  unfolding transitionsOf
+  place-last i h =
+      let e : places - i ≡ 0 = omega arith in
+      rw e
+
+  -- the places of an empty cell: `left` of them, up to the next cell
+  cell-rest : (left i c : ℕ) → c < 128 → i + left ≡ 16 * c + 16 → 16 * c ≤ i → getD T c 0 ≡ 0 → transitionsFrom T i ≡ transitionsFrom T (16 * c + 16)
+  cell-rest zero i c l h k z = ap (transitionsFrom T) (let e : i ≡ 16 * c + 16 = omega arith in e)
+  cell-rest (suc left) i c l h k z =
+      let e : i / 16 ≡ c = omega arith in
+      place-empty i (omega arith) (ap (λ (x : ℕ). bit (getD T x 0) (i % 16)) e ∙ ap (λ (x : ℕ). bit x (i % 16)) z ∙ bit-zero (i % 16))
+      ∙ cell-rest left (i + 1) c l (omega arith) (omega arith) z
+
+  pub cell-empty : (i : ℕ) → i < places → getD T (i / 16) 0 ≡ 0 → transitionsFrom T i ≡ transitionsFrom T (16 * (i / 16) + 16)
+  cell-empty i h z = cell-rest (16 * (i / 16) + 16 - i) i (i / 16) (omega arith) (omega arith) (omega arith) z
+
+  -- the transition at place i, and then those from the next one's place j on
+  module _ (i j : ℕ) (h : i < places) (m : At T i) (next : First T (i + 1) j) where
+    pub place-next : transitionsFrom T i ≡ placed i ∷ transitionsFrom T j
+    place-next = place-here i h m ∙ ap (placed i ∷_) (next .none-before)
+
+    pub lines-next : (out : List ℕ) (at : ℕ) → sets out at (transitionLines (transitionsFrom T i)) ≡ sets (sets out at (transitionLine (placed i))) (at + 11) (transitionLines (transitionsFrom T j))
+    unfolding transitionLines
+    lines-next out at = rw (place-next, sets-append, transition-length)
+
+  pub lines-last : (i : ℕ) → places ≤ i → (out : List ℕ) (at : ℕ) → sets out at (transitionLines (transitionsFrom T i)) ≡ out
+  unfolding transitionLines
+  lines-last i h out at = rw (place-last i h)

@@ -1,0 +1,128 @@
+-- A name in a row, byte by byte, and the lines of the names, row by row. Assumes nothing.
+use Prim.Native.Nat.{ℕ, zero, suc, _+_, _-_, _*_, _≤_, _<_}
+use mathlib.Core.Path.{_≡_, refl, sym, ap, ap₂, _∙_}
+use mathlib.Core.Bool.{true}
+use mathlib.Core.List.{List, [], _∷_, _++_}
+use native.Mathlib.Omega.{arith}
+use native.Mathlib.Numerals.{add-one}
+use native.Mathlib.Nat.{add-zero, zero-add}
+use lib.ListN.{length, getD, take, drop, replicate, length-append, length-take}
+use lib.Seq.{sets, drop-cons}
+use borrow.Author.Tests.{ne-eqb}
+use Rattle.text.specs.Bytes.{stretch}
+use Rattle.text.specs.Word.{noZero}
+use Rattle.text.specs.SetsLaws.{sets-append}
+use Rattle.names.specs.NameLaws.{name-without}
+use Rattle.sheet.specs.Rows.{Holds}
+use Rattle.format.specs.Format.{nameLine, nameLines}
+use Rattle.format.specs.FormatLaws.{name-length}
+use Rattle.writer.specs.RowNames.{upToZero, rowName, rowNames}
+
+-- The name in a row
+
+up-to-most : (x : List ℕ) → length (upToZero x) ≤ length x
+unfolding upToZero
+up-to-most [] = omega arith
+up-to-most (zero ∷ x) = omega arith
+up-to-most (suc b ∷ x) = omega (arith, up-to-most x)
+
+pub row-most : (rows : List ℕ) (l : ℕ) → length (rowName rows l) ≤ 24
+row-most rows l = omega (arith, up-to-most (take 24 (drop (24 * l) rows)), length-take 24 (drop (24 * l) rows))
+
+-- a name is the row's first bytes
+take-up-to : (x : List ℕ) (n : ℕ) → take (length (upToZero (take n x))) x ≡ upToZero (take n x)
+unfolding upToZero
+take-up-to x zero = refl
+take-up-to [] (suc n) = refl
+take-up-to (zero ∷ x) (suc n) = refl
+take-up-to (suc b ∷ x) (suc n) = ap (suc b ∷_) (take-up-to x n)
+
+pub row-is : (rows : List ℕ) (l n : ℕ) → n ≡ length (rowName rows l) → stretch rows (24 * l) (24 * l + n) ≡ rowName rows l
+row-is rows l n e =
+    let f : 24 * l + n - 24 * l ≡ length (rowName rows l) = omega arith in
+    rw f (take-up-to (drop (24 * l) rows) 24)
+
+up-to-byte : (b : ℕ) (x : List ℕ) → (b ≡ 0 → ⊥) → upToZero (b ∷ x) ≡ b ∷ upToZero x
+unfolding upToZero
+up-to-byte zero x h = absurd (h refl)
+up-to-byte (suc b) x h = refl
+
+-- what is left of a row from its byte i on
+abbrev pub restOf : List ℕ → ℕ → ℕ → List ℕ
+restOf rows l i = upToZero (take (24 - i) (drop (24 * l + i) rows))
+
+module _ (rows : List ℕ) (l i : ℕ) (fits : 24 * l + 24 ≤ length rows) where
+  rest-cons : i < 24 → take (24 - i) (drop (24 * l + i) rows) ≡ getD rows (24 * l + i) 0 ∷ take (24 - (i + 1)) (drop (24 * l + (i + 1)) rows)
+  rest-cons h =
+      let e : 24 - i ≡ suc (24 - (i + 1)) = omega arith in
+      let f : 24 * l + (i + 1) ≡ suc (24 * l + i) = omega arith in
+      let g : 24 * l + i < length rows = omega arith in
+      rw (drop-cons rows (24 * l + i) 0, e, f)
+
+  pub rest-zero : i < 24 → getD rows (24 * l + i) 0 ≡ 0 → length (restOf rows l i) ≡ 0
+  unfolding upToZero
+  rest-zero h z = rw (rest-cons h, z)
+
+  pub rest-byte : i < 24 → (getD rows (24 * l + i) 0 ≡ 0 → ⊥) → length (restOf rows l i) ≡ suc (length (restOf rows l (i + 1)))
+  rest-byte h z = rw (rest-cons h) (ap length (up-to-byte _ _ z))
+
+  pub rest-none : 24 ≤ i → length (restOf rows l i) ≡ 0
+  unfolding upToZero
+  rest-none h =
+      let e : 24 - i ≡ 0 = omega arith in
+      rw e
+
+pub rest-whole : (rows : List ℕ) (l : ℕ) → restOf rows l 0 ≡ rowName rows l
+rest-whole rows l = rw add-zero
+
+-- The lines of the names
+
+module _ (rows : List ℕ) (k l : ℕ) where
+  pub names-next : l < k → nameLines l (rowNames rows l (k - l)) ≡ nameLine l (rowName rows l) ++ nameLines (l + 1) (rowNames rows (l + 1) (k - (l + 1)))
+  unfolding nameLines rowNames
+  names-next h =
+      let e : k - l ≡ suc (k - (l + 1)) = omega arith in
+      let f : l + 1 ≡ suc l = add-one l in
+      rw (e, f)
+
+  pub names-last : k ≤ l → nameLines l (rowNames rows l (k - l)) ≡ []
+  unfolding nameLines rowNames
+  names-last h =
+      let e : k - l ≡ 0 = omega arith in
+      rw e
+
+  pub names-length-next : l < k → length (nameLines l (rowNames rows l (k - l))) ≡ 6 + length (rowName rows l) + length (nameLines (l + 1) (rowNames rows (l + 1) (k - (l + 1))))
+  names-length-next h = ap length (names-next h) ∙ simp (length-append, name-length)
+
+  module _ (out : List ℕ) (at : ℕ) where
+    pub names-stored : l < k → sets out at (nameLines l (rowNames rows l (k - l)))
+        ≡ sets (sets out at (nameLine l (rowName rows l))) (at + (6 + length (rowName rows l))) (nameLines (l + 1) (rowNames rows (l + 1) (k - (l + 1))))
+    names-stored h = rw (names-next h, sets-append, name-length)
+
+    pub names-over : k ≤ l → sets out at (nameLines l (rowNames rows l (k - l))) ≡ out
+    names-over h = rw (names-last h)
+
+-- Rows that hold names
+
+up-to-padding : (x : List ℕ) (n : ℕ) → noZero x ≡ true → upToZero (x ++ replicate n 0) ≡ x
+unfolding upToZero
+up-to-padding [] zero h = refl
+up-to-padding [] (suc n) h = refl
+up-to-padding (zero ∷ x) n h = absurd (let z : _≡_ {A = ℕ} 0 1 = cc in omega arith)
+up-to-padding (suc b ∷ x) n h = ap (suc b ∷_) (up-to-padding x n (simp (ne-eqb (suc b) 0 (λ e. omega arith)) at h))
+
+rows-from : (rows : List ℕ) (left l : ℕ) (names : List (List ℕ)) → length names ≡ left → ((i : ℕ) → i < left → rowName rows (l + i) ≡ getD names i []) → rowNames rows l left ≡ names
+unfolding rowNames
+rows-from rows zero l [] e h = refl
+rows-from rows zero l (x ∷ xs) e h = absurd (omega arith)
+rows-from rows (suc left) l [] e h = absurd (omega arith)
+rows-from rows (suc left) l (x ∷ xs) e h =
+    ap₂ _∷_ (ap (rowName rows) (sym (add-zero l)) ∙ h 0 (omega arith))
+    (rows-from rows left (suc l) xs (omega arith) (λ i b. ap (rowName rows) (let f : suc l + i ≡ l + suc i = omega arith in f) ∙ h (suc i) (omega arith)))
+
+-- the names in rows that hold some are those
+pub rows-hold : (names : List (List ℕ)) (rows : List ℕ) (k : ℕ) → length names ≡ k → Holds names rows → rowNames rows 0 k ≡ names
+rows-hold names rows k e holds = rows-from rows k 0 names e (λ i b. ap (rowName rows) (zero-add i) ∙ name i (omega arith))
+  where
+    name : (i : ℕ) → i < length names → rowName rows i ≡ getD names i []
+    name i b = ap upToZero (holds i b .is) ∙ up-to-padding (getD names i []) (24 - length (getD names i [])) (name-without 0 (getD names i []) (omega arith) (holds i b .is-name))

@@ -1,0 +1,54 @@
+-- The text is its parts, stored one behind the other; in a cleared buffer zeros lie behind it. Assumes nothing.
+use Prim.Native.Nat.{ℕ, zero, suc, _+_, _-_, _*_, _≤_}
+use mathlib.Core.Path.{_≡_, sym, ap, _∙_}
+use mathlib.Core.List.{List, map, append-assoc}
+use native.Mathlib.Omega.{arith}
+use native.Mathlib.Nat.{zero-add, sub-zero, zero-sub}
+use lib.ListN.{length, replicate, drop, length-append, length-replicate}
+use lib.Seq.{sets, sets-eq}
+use Rattle.gate.specs.Gate.{cleared}
+use Rattle.text.specs.SetsLaws.{sets-append}
+use Rattle.names.specs.Name.{compose}
+use Rattle.automaton.specs.Automaton.{Automaton}
+use Rattle.format.specs.Format.{headLine, nameLines, stateLines, transitionLines, endLine, lines, statesOf, transitionsOf, writtenSheet, written}
+use Rattle.format.specs.FormatLaws.{head-length, states-length, transitions-length}
+use Rattle.writer.specs.LengthLaws.{statesOf-length}
+use Rattle.writer.specs.Text.{textOf}
+use Rattle.writer.specs.Write.{lentText}
+
+pub text-written : (A : Automaton) (names : List (List ℕ)) → textOf A (map compose names) ≡ written A names
+unfolding textOf written writtenSheet lines
+text-written A names = simp append-assoc
+
+-- 12 bytes for the first line, 11 for each state and each transition, 4 for END
+pub text-length : (A : Automaton) (names : List (List ℕ))
+    → length (textOf A names) ≡ 12 + (length (nameLines 0 names) + (11 * A .n + (11 * length (transitionsOf (A .table) 0 2048) + 4)))
+unfolding textOf
+text-length A names = simp (length-append, head-length, states-length, transitions-length, statesOf-length)
+
+pub written-length : (A : Automaton) (names : List (List ℕ))
+    → length (written A names) ≡ 12 + (length (nameLines 0 (map compose names)) + (11 * A .n + (11 * length (transitionsOf (A .table) 0 2048) + 4)))
+written-length A names = ap length (sym (text-written A names)) ∙ text-length A (map compose names)
+
+-- the parts of a text, stored one behind the other
+module _ (A : Automaton) (names : List (List ℕ)) where
+  pub text-stored : (out : List ℕ) {o₁ o₂ o₃ o₄ o₅ : List ℕ} {a b c : ℕ} →
+      o₁ ≡ sets out 0 (headLine (A .n) (A .k)) →
+      o₂ ≡ sets o₁ 12 (nameLines 0 names) → a ≡ 12 + length (nameLines 0 names) →
+      o₃ ≡ sets o₂ a (stateLines 0 (statesOf (A .initial) (A .recurring) 0 (A .n))) → b ≡ a + 11 * A .n →
+      o₄ ≡ sets o₃ b (transitionLines (transitionsOf (A .table) 0 2048)) → c ≡ b + 11 * length (transitionsOf (A .table) 0 2048) →
+      o₅ ≡ sets o₄ c endLine → o₅ ≡ sets out 0 (textOf A names)
+  unfolding textOf
+  text-stored out e₁ e₂ f e₃ g e₄ h e₅ =
+      rw (e₅, e₄, h, e₃, g, e₂, f, e₁, sets-append (headLine (A .n) (A .k)), sets-append (nameLines 0 names), sets-append (stateLines 0 (statesOf (A .initial) (A .recurring) 0 (A .n))), sets-append (transitionLines (transitionsOf (A .table) 0 2048)), head-length, states-length, transitions-length, statesOf-length)
+
+zeros-behind : (m n : ℕ) → drop m (replicate {A = ℕ} n 0) ≡ replicate (n - m) 0
+zeros-behind zero n = rw sub-zero
+zeros-behind (suc m) zero = rw (zero-sub (suc m))
+zeros-behind (suc m) (suc n) = zeros-behind m n ∙ ap (λ (k : ℕ). replicate {A = ℕ} k 0) (let e : n - m ≡ suc n - suc m = omega arith in e)
+
+-- a text that fits, in a cleared buffer
+pub text-lent : (text out : List ℕ) → length text ≤ length out → sets (cleared out) 0 text ≡ lentText text out
+text-lent text out h =
+    let e : 0 + length text ≡ length text = zero-add (length text) in
+    sets-eq text (cleared out) 0 (rw (e, length-replicate) h) ∙ rw (e, zeros-behind (length text) (length out))

@@ -1,0 +1,60 @@
+-- Cells behind the 128th are neither written nor walked on. Assumes nothing.
+use Prim.Native.Nat.{ℕ, zero, suc, _+_, _*_, _/_, _%_, _≤_}
+use mathlib.Core.Path.{_≡_, refl, ap, ap₂, subst}
+use mathlib.Core.List.{List, _++_, map}
+use native.Mathlib.Omega.{arith}
+use lib.ListN.{length, take, replicate}
+use lib.Seq.{getD-take, take-all}
+use Rattle.names.specs.Name.{compose}
+use Rattle.sets.specs.Sets.{bit, Member}
+use Rattle.automaton.specs.Automaton.{Automaton, Edge, Fits}
+use Rattle.automaton.specs.Meeting.{Walk, Free, Everywhere}
+use Rattle.format.specs.Format.{Sheet, Transition, lines, endLine, numbers, statesOf, unless, placed, transitionsOf, writtenSheet, written}
+use Rattle.writer.specs.Same.{trimmed}
+use Rattle.writer.specs.NumbersLaws.{table-length}
+
+transitions-trimmed : (T : List ℕ) (left i : ℕ) → i + left ≤ 2048 → transitionsOf (take 128 T) i left ≡ transitionsOf T i left
+unfolding transitionsOf
+transitions-trimmed T zero i h = refl
+transitions-trimmed T (suc left) i h =
+    ap₂ (λ x ts. unless (bit x (i % 16)) (placed i) ts) (getD-take 128 T (i / 16) 0 (omega arith)) (transitions-trimmed T left (suc i) (omega arith))
+
+edge-trimmed : (A : Automaton) → Fits A → (l q r : ℕ) → Edge (trimmed A) l q r → Edge A l q r
+edge-trimmed A fits l q r e = record {
+  letter = e .letter;
+  from = e .from;
+  to = subst (λ (x : ℕ). Member x r) (getD-take 128 (A .table) (8 * q + l) 0 (omega (arith, e .letter, e .from, fits .range))) (e .to);
+}
+
+walk-trimmed : (A : Automaton) → Fits A → (w : ℕ → ℕ) (t : ℕ) (x : ℕ → ℕ) → Walk (trimmed A) w t x → Walk A w t x
+walk-trimmed A fits w t x h = record { starts = h .starts; goes = λ s l. edge-trimmed A fits (w s) (x s) (x (suc s)) (h .goes s l) }
+
+pub free-trimmed : (A : Automaton) → Fits A → Free A Everywhere → Free (trimmed A) Everywhere
+free-trimmed A fits free w t x y m = free w t x y (record {
+  one = walk-trimmed A fits w t x (m .one);
+  other = walk-trimmed A fits w t y (m .other);
+  differ = m .differ;
+  shared = m .shared;
+  counts = m .counts;
+})
+
+pub written-trimmed : (A : Automaton) (names : List (List ℕ)) → written (trimmed A) names ≡ written A names
+unfolding written writtenSheet
+written-trimmed A names = ap (λ ts. lines (sheet ts) ++ endLine) (transitions-trimmed (A .table) 2048 0 (omega arith))
+  where
+    sheet : List Transition → Sheet
+    sheet ts = record { n = A .n; k = A .k; names = map compose names; states = statesOf (A .initial) (A .recurring) 0 (A .n); transitions = ts }
+
+-- a sheet has no such cells
+pub table-whole : (σ : Sheet) → length (numbers σ .table) ≡ 128
+unfolding numbers
+table-whole σ = table-length (σ .transitions) (replicate 128 0)
+
+pub trimmed-numbers : (σ : Sheet) → trimmed (numbers σ) ≡ numbers σ
+trimmed-numbers σ = λ i. record {
+  n = numbers σ .n;
+  k = numbers σ .k;
+  initial = numbers σ .initial;
+  recurring = numbers σ .recurring;
+  table = take-all 128 (numbers σ .table) (omega (arith, table-whole σ)) i;
+}
