@@ -19,7 +19,8 @@ use Rattle.text.specs.declared.Number.{Number}
 use Rattle.text.specs.declared.Number.the-variants as N
 use Rattle.format.specs.Format.{Sheet}
 use Rattle.sheet.specs.Parse.{Phase, refused, passed, withNumber}
-use Rattle.sheet.specs.FieldLaws.{past, byte-is, column-of}
+use Rattle.text.specs.BytesLaws.{stretch-rest}
+use Rattle.sheet.specs.FieldLaws.{byte-is, column-of}
 use Rattle.plan.specs.declared.Lengths.{Lengths}
 use Rattle.plan.specs.Plan.{planWord, planHead, LengthsRight, Faulty}
 use Rattle.plan.specs.Parse.{lengths, lengthsOf, headOf}
@@ -36,7 +37,7 @@ module _ (p : List ℕ) (lead cycle : ℕ) where
   unfolding planHead
   fields-of rest h g e =
       let e0 : drop 0 p ≡ planWord ++ (column 3 lead ++ (column 3 cycle ++ (lf ∷ rest))) = e ∙ simp append-assoc in
-      let e1 = column-of p 4 lead (column 3 cycle ++ (lf ∷ rest)) h (past p planWord _ 0 e0) in
+      let e1 = column-of p 4 lead (column 3 cycle ++ (lf ∷ rest)) h (stretch-rest p 0 planWord _ e0) in
       let e2 = column-of p 7 cycle (lf ∷ rest) g (e1 .1) in
       record { word = starts-word p 0 planWord _ e0; one = e1 .0; two = e2 .0; last = goes-on p 10 lf rest (e2 .1) .0 }
 

@@ -12,7 +12,8 @@ use Rattle.format.specs.Format.{Sheet, Distinct, NamesRight}
 use Rattle.sheet.specs.Letters.{StandsFor}
 use Rattle.sheet.specs.Parse.{same, letterOf}
 use Rattle.sheet.specs.Rows.{FirstName}
-use Rattle.sheet.specs.RowsLaws.{same-refl, same-is, letter-is}
+use Rattle.sheet.specs.LetterLaws.{same-self, same-is}
+use Rattle.sheet.specs.RowsLaws.{letter-is}
 
 -- the search finds the first of some names that is x, or none
 pub letter-first : (names : List (List ℕ)) (x : List ℕ) → FirstName names x (letterOf names x)
@@ -29,7 +30,7 @@ letter-first (y ∷ ys) x = by (same y x) refl (letter-first ys x)
     }
       where
         at : (i : ℕ) → i < suc (letterOf ys x) → getD (y ∷ ys) i [] ≡ x → ⊥
-        at zero h g = true-is-not-false (sym (same-refl x) ∙ (ap (λ (z : List ℕ). same z x) (sym g) ∙ e))
+        at zero h g = true-is-not-false (sym (same-self x) ∙ (ap (λ (z : List ℕ). same z x) (sym g) ∙ e))
         at (suc i) h g = f .first i (omega arith) g
 
 -- a composed name is the composed one of its letter
