@@ -118,7 +118,7 @@ fn fit(a: Numbers, table: &[u16], room: usize, tuples: &mut [u16], nexts: &mut [
 }
 
 // Question 1, by the lengths of the lent tables.
-fn enough(
+pub fn enough(
     room: usize,
     table: usize,
     tuples: usize,

@@ -1,0 +1,112 @@
+-- The sheet whose names the rows hold is the only one of the file, and the letters of its plan are fit to be judged. Assumes nothing.
+use mathlib.Core.Path.{subst}
+use Rattle.format.specs.Format.{Sheet}
+use Rattle.judge.specs.declared.Outcome.the-variants as Outcome
+use Rattle.judge.specs.Parts.{PlanJudged}
+use native.Mathlib.Omega.{arith}
+use denote.Ref.{now}
+use Rattle.sheet.specs.Answers.{LettersOf}
+use Rattle.sheet.specs.UniqueLaws.{file-unique, file-or-fault}
+use lib.ListN.{replicate}
+use Rattle.plan.specs.Read.{Reads}
+use Rattle.plan.specs.declared.Planned.the-variants.{Is}
+use Rattle.judge.specs.PlanLaws.{names-in, few-letters, letters-fit, judged-plan}
+use borrow.Author.Needs.{needs}
+use Rattle.judge.proofs.files.judge_plan.Statement.{statement}
+use Rattle.judge.proofs.files.judge_plan.Tie as tie
+
+-- the sheet whose letters are read
+letters-of : (c : tie.After-known-told2) → LettersOf (now (c .before .before .before .before .before .before .before .before .before .before .args .s)) (c .before .before .before .before .read-letters .last .1 .0) (c .before .a .given .0 .0)
+letters-of c = rw (c .before .a .given .1) at (c .before .before .before .before .read-letters .ensures)
+
+-- the plan over it
+plan-of :
+    (c : tie.After-known-told4) →
+    Reads (letters-of (c .before .before .before .before .before .before .before .before) .sheet) (now (c .before .before .before .before .before .before .before .before .before .before .before .before .before .before .before .before .before .before .args .p)) (replicate 400 0) (c .before .before .before .before .before .read-plan .last .1 .1 .1 .0) (Is (c .before .z .given .0 .0))
+plan-of c =
+    let l = letters-of (c .before .before .before .before .before .before .before .before) in
+    rw (c .before .z .given .1) at (c .before .before .before .before .before .read-plan .ensures .1 (l .sheet) (names-in _ _ _ l))
+
+slice-aggregate-read-letters : tie.Need-slice-aggregate-read-letters
+slice-aggregate-read-letters c = search needs
+
+read-letters-requires : tie.Need-read-letters-requires
+read-letters-requires c κs = search needs
+
+enum-known-r : tie.Need-enum-known-r
+enum-known-r c = search needs
+
+enum-known-a : tie.Need-enum-known-a
+enum-known-a c = search needs
+
+slice-aggregate-read-plan : tie.Need-slice-aggregate-read-plan
+slice-aggregate-read-plan c = search needs
+
+slice-aggregate-read-plan-2 : tie.Need-slice-aggregate-read-plan-2
+slice-aggregate-read-plan-2 c = search needs
+
+read-plan-requires : tie.Need-read-plan-requires
+read-plan-requires c κs =
+    let l = letters-of (c .before .before) in
+    (search needs, l .range .3, omega (arith, c .before .before .before .before .before .before .read-letters .kept .1 .0), omega arith)
+
+enum-known-r-2 : tie.Need-enum-known-r-2
+enum-known-r-2 c = search needs
+
+enum-known-z : tie.Need-enum-known-z
+enum-known-z c = search needs
+
+slice-aggregate-judge-letters : tie.Need-slice-aggregate-judge-letters
+slice-aggregate-judge-letters c = search needs
+
+judge-letters-requires : tie.Need-judge-letters-requires
+judge-letters-requires c κs =
+    let l = letters-of (c .before .before .before .before .before .before .before .before .before) in
+    let (lead, cycle, plan, m, k, is) = plan-of (c .before) in
+    (c .before .before .before .before .before .before .before .before .before .before .before .before .before .before .before .before .before .before .before .pre .1, letters-fit (l .sheet) (few-letters _ _ _ l) _ lead cycle plan 400 _ _ _ m k is)
+
+returns : tie.Need-returns
+returns c =
+    λ σ f.
+    (let s = now (c .before .before .before .before .before .before .before .before .before .before .args .s) in
+    let (number, line, faulty, e) = rw (c .before .r .given .1) at (c .before .before .before .before .read-letters .ensures) in
+    absurd (file-or-fault s σ number line f faulty))
+
+returns-2 : tie.Need-returns-2
+returns-2 c =
+    λ σ f.
+    (let a = c .before .before .before .before .before .before .before .before .before .before .before .before .before .before .before .before .before .before .args in
+    let l = letters-of (c .before .before .before .before .before .before .before .before) in
+    let e = file-unique (now (a .s)) (l .sheet) σ (l .file) f in
+    subst (λ (υ : Sheet). PlanJudged υ (now (a .p)) (now (a .tuples)) (now (a .nexts)) (a .count) (Outcome.Refused (c .before .r2 .given .0 .0))) e
+    (rw (c .before .r2 .given .1) at (c .before .before .before .before .before .read-plan .ensures .1 (l .sheet) (names-in _ _ _ l))))
+
+returns-3 : tie.Need-returns-3
+returns-3 c =
+    λ σ f.
+    (let a = c .before .before .before .before .before .before .before .before .before .before .before .before .before .before .before .before .before .before .before .before .args in
+    let l = letters-of (c .before .before .before .before .before .before .before .before .before .before) in
+    let e = file-unique (now (a .s)) (l .sheet) σ (l .file) f in
+    let (lead, cycle, plan, m, k, is) = plan-of (c .before .before) in
+    let v = c .judge-letters .result in
+    subst (λ (υ : Sheet). PlanJudged υ (now (a .p)) (now (a .tuples)) (now (a .nexts)) (a .count) (Outcome.Judged v)) e
+    (lead, cycle, plan, judged-plan (l .sheet) (few-letters _ _ _ l) _ lead cycle plan 400 _ _ _ m k is _ _ _ v (c .judge-letters .ensures)))
+
+pub judge-plan-spec : {M : Type 1} → statement M
+judge-plan-spec =
+    tie.close
+    (tie.spec
+    slice-aggregate-read-letters
+    read-letters-requires
+    enum-known-r
+    enum-known-a
+    slice-aggregate-read-plan
+    slice-aggregate-read-plan-2
+    read-plan-requires
+    enum-known-r-2
+    enum-known-z
+    slice-aggregate-judge-letters
+    judge-letters-requires
+    returns
+    returns-2
+    returns-3)

@@ -1,0 +1,64 @@
+-- What the verdict on a plan from two files answers, and what the lent tables hold then: demands 1 to 3 in one contract.
+use Prim.Native.Nat.{ℕ, _≤_}
+use mathlib.Core.Path.{_≡_}
+use mathlib.Core.List.{List}
+use mathlib.Core.Logic.{_⊎_}
+use lib.ListN.{length}
+use Rattle.gate.specs.Gate.{refusal, cleared}
+use Rattle.gate.specs.declared.Refusal.{Refusal}
+use Rattle.automaton.specs.Automaton.{Automaton}
+use Rattle.automaton.specs.Reading.{Passes}
+use Rattle.automaton.specs.Lent.{Tables, Long, clearedTables}
+use Rattle.format.specs.Format.{Sheet, numbers, most}
+use Rattle.sheet.specs.Read.{Accepted, Refuses, lentTable}
+use Rattle.plan.specs.Letter.{letterAt}
+use Rattle.plan.specs.Plan.{PlanIs, Faulty, mostPlan}
+use Rattle.tracker.specs.Numbering.{MoreThan}
+use Rattle.tracker.specs.Build.{Store, RoomFits, Fitted, clearedStore}
+use Rattle.judge.specs.declared.Answer.{Answer}
+use Rattle.judge.specs.declared.Answer.the-variants.{Yes, No}
+use Rattle.judge.specs.declared.Outcome.{Outcome}
+use Rattle.judge.specs.declared.Outcome.the-variants.{Refused, Judged}
+use Rattle.judge.specs.declared.Verdict.{Verdict}
+use Rattle.judge.specs.Passes.{Judges}
+
+-- "Is the sheet at most 24,576 bytes, the plan at most 12,288?": one question, asked of both before question 3
+pub record SizesFit (s p : List ℕ) : Type 0 where
+  pub sheet : length s ≤ most
+  pub plan : length p ≤ mostPlan
+
+-- DEMAND 3. The answer is yes exactly if the sheet passes the plan: some endless reading visits must-recur states without end.
+abbrev pub Sound : Automaton → (ℕ → ℕ) → Answer → Type 0
+Sound A w Yes = Passes A w
+Sound A w No = Passes A w → ⊥
+
+-- a judged plan of lead-in and cycle on an accepted sheet σ, whose tracker has `count` tuples
+pub record Verdicts (σ : Sheet) (p lead cycle : List ℕ) (count : ℕ) (z : Verdict) : Type 0 where
+  pub plan : PlanIs σ p lead cycle
+  pub judged : Judges (numbers σ) (letterAt lead cycle) (length lead) (length cycle) z
+  pub passes : z .passes ≤ count
+  pub sound : Sound (numbers σ) (letterAt lead cycle) (z .answer)
+
+-- what is refused behind question 1, and what the witness, which was v, is then
+pub data Refusing (s p : List ℕ) (room : ℕ) (v w : Tables) (f : Store) (r : Refusal) : Type 0 where
+  -- 2
+  by-size : (SizesFit s p → ⊥) → r ≡ refusal 2 0 → w ≡ clearedTables v → Refusing s p room v w f r
+  -- 3 to 10
+  by-sheet : SizesFit s p → Refuses s v w r → Refusing s p room v w f r
+  -- 11
+  by-room : SizesFit s p → (σ : Sheet) → Accepted s σ → MoreThan (numbers σ) room → r ≡ refusal 11 0 → w ≡ clearedTables v → Refusing s p room v w f r
+  -- 12 to 14
+  by-plan : SizesFit s p → (σ : Sheet) → Accepted s σ → (h : Store) (count : ℕ) → Fitted (numbers σ) room f h count
+      → (number line : ℕ) → Faulty σ p number line → r ≡ refusal number line → w ≡ clearedTables v → Refusing s p room v w f r
+
+-- THE VERDICT. s and p are the two files; the successor sets' table was t and is u, the witness v and w, the tuples and nexts f and g.
+abbrev pub Judgement : List ℕ → List ℕ → ℕ → List ℕ → List ℕ → Tables → Tables → Store → Store → Outcome → Type 0
+Judgement s p room t u v w f g (Refused r) =
+    (((128 ≤ length t) × Long v × RoomFits room f → ⊥) × (r ≡ refusal 1 0) × (u ≡ t) × (w ≡ v) × (g ≡ f))
+    ⊎ ((128 ≤ length t) × Long v × RoomFits room f × Refusing s p room v w f r × (u ≡ cleared t) × (g ≡ clearedStore f))
+Judgement s p room t u v w f g (Judged z) =
+    (128 ≤ length t) × Long v × RoomFits room f × SizesFit s p
+    × ((σ : Sheet) × Accepted s σ × (u ≡ lentTable (numbers σ .table) t)
+    × ((count : ℕ) × Fitted (numbers σ) room f g count
+    × ((lead : List ℕ) × (cycle : List ℕ) × Verdicts σ p lead cycle count z)))
+    × (w ≡ clearedTables v)

@@ -1,0 +1,119 @@
+-- The verdict's contract from what its parts ensure. Assumes nothing.
+use Prim.Native.Nat.{ℕ, _+_, _≤_, _<_}
+use mathlib.Core.Path.{_≡_, sym, subst, _∙_}
+use mathlib.Core.List.{List}
+use mathlib.Core.Logic.{inl, inr}
+use lib.ListN.{length, length-append, List·getD-append}
+use lib.Seq.{getD-append-add}
+use native.Mathlib.Omega.{arith}
+use Rattle.gate.specs.Gate.{cleared}
+use Rattle.gate.specs.declared.Refusal.{Refusal}
+use Rattle.automaton.specs.Automaton.{Automaton, Fits}
+use Rattle.automaton.specs.Lent.{Tables, tables, Long, clearedTables}
+use Rattle.format.specs.Format.{Sheet, FileIs, numbers}
+use Rattle.format.specs.NumbersLaws.{sheet-fits}
+use Rattle.sheet.specs.Read.{Accepted}
+use Rattle.plan.specs.Letter.{letterAt}
+use Rattle.plan.specs.LetterLaws.{letter-below}
+use Rattle.plan.specs.Plan.{PlanIs}
+use Rattle.plan.specs.ReadLaws.{known-below}
+use Rattle.tracker.specs.Build.{Store, store, RoomFits, Fitted, clearedStore, Builds}
+use Rattle.tracker.specs.declared.Tracker.{Tracker}
+use Rattle.tracker.specs.declared.Built.the-variants as B
+use Rattle.judge.specs.declared.Outcome.the-variants.{Refused, Judged}
+use Rattle.judge.specs.declared.Verdict.{Verdict}
+use Rattle.judge.specs.Verdict.{SizesFit, Verdicts, Refusing, Judgement}
+use Rattle.judge.specs.TableRun.{NextsFit, TablesFit, TableJudges}
+use Rattle.judge.specs.Parts.{TooLong, PlanJudged}
+use Rattle.judge.specs.FollowLaws.{nexts-fit, judges}
+use Rattle.judge.specs.SoundLaws.{sound}
+
+-- THE LETTERS of a plan are the sheet's
+letters-below : (σ : Sheet) (p lead cycle : List ℕ) → PlanIs σ p lead cycle → (t : ℕ) → letterAt lead cycle t < σ .k
+letters-below σ p lead cycle plan =
+    letter-below lead cycle (σ .k) (plan .range .cycle-some)
+    (λ i l. subst (λ (x : ℕ). x < σ .k) (List·getD-append lead cycle 0 i l) (known-below σ (plan .known) i (rw (length-append lead cycle) (omega arith))))
+    (λ i l. subst (λ (x : ℕ). x < σ .k) (getD-append-add lead cycle i 0) (known-below σ (plan .known) (length lead + i) (rw (length-append lead cycle) (omega arith))))
+
+-- THE TABLES of a tracker are fit to be judged on
+pub tables-fit : {A : Automaton} (room : ℕ) (f g : Store) (count : ℕ) → Fits A → RoomFits room f → Fitted A room f g count
+    → length (g .tuples) ≡ length (f .tuples) → TablesFit (g .tuples) (g .nexts) count
+tables-fit {A} room f g count fits roomy fitted same = record {
+  numbers = subst (NextsFit (g .nexts)) (sym (fitted .count-is))
+      (nexts-fit fits (fitted .list) (fitted .holds .numbering) (g .nexts) (fitted .holds .nexts)
+      (omega (arith, fitted .count-is, fitted .room-is, roomy .most)) (omega (arith, fitted .count-is, fitted .room-is, roomy .nexts, fitted .holds .same)));
+  colours = omega (arith, fitted .room-is, roomy .tuples);
+}
+
+-- THE VERDICT on an accepted sheet's tracker
+pub verdicts : (s : List ℕ) (σ : Sheet) → Accepted s σ → (room : ℕ) (f g : Store) (count : ℕ) → Fitted (numbers σ) room f g count
+    → (p lead cycle : List ℕ) (z : Verdict) → PlanIs σ p lead cycle
+    → TableJudges (g .tuples) (g .nexts) count (letterAt lead cycle) (length lead) (length cycle) z → Verdicts σ p lead cycle count z
+unfolding numbers
+verdicts s σ accepted room f g count fitted p lead cycle z plan table =
+    let fits = sheet-fits s σ (accepted .file) in
+    let letters = letters-below σ p lead cycle plan in
+    let judged =
+    judges fits (fitted .list) (fitted .holds .numbering) (g .nexts) (fitted .holds .nexts) (letterAt lead cycle) letters (g .tuples) _ (fitted .holds .tuples)
+    count (length lead) (length cycle) z table in
+    record {
+      plan = plan;
+      judged = judged;
+      passes = table .passes;
+      sound = sound fits (accepted .free) lead cycle (plan .range .cycle-some) letters z judged;
+    }
+
+-- TABLES that are cleared one by one
+pub tables-cleared : (v : Tables) (word one other : List ℕ) → word ≡ cleared (v .word) → one ≡ cleared (v .one) → other ≡ cleared (v .other)
+    → tables word one other ≡ clearedTables v
+tables-cleared v word one other a b c = rw (a, b, c)
+
+pub store-cleared : (f : Store) (tuples nexts : List ℕ) → tuples ≡ cleared (f .tuples) → nexts ≡ cleared (f .nexts) → store tuples nexts ≡ clearedStore f
+store-cleared f tuples nexts a b = rw (a, b)
+
+-- a table as long as another is cleared to the same
+same-cleared : (t u : List ℕ) → length u ≡ length t → cleared u ≡ cleared t
+same-cleared t u e = rw e
+
+module _ (s p : List ℕ) (room : ℕ) (t u : List ℕ) (v w : Tables) (f g : Store) where
+  -- 1 and 2
+  pub size-refused : (SizesFit s p → ⊥) → (r : Refusal) → TooLong room t u v w f g r → Judgement s p room t u v w f g (Refused r)
+  size-refused not-both r (inl h) = inl h
+  size-refused not-both r (inr (a, l, k, e, x, y, z)) = inr (a, l, k, Refusing.by-size not-both e y, x, z)
+
+  module _ (sizes : SizesFit s p) where
+    -- 1, and 3 to 11
+    pub built-refused : (r : Refusal) → Builds s room t u v w f g (B.Refused r) → Judgement s p room t u v w f g (Refused r)
+    built-refused r (inl h) = inl h
+    built-refused r (inr (a, l, k, x, z, inl h)) = inr (a, l, k, Refusing.by-sheet sizes h, x, z)
+    built-refused r (inr (a, l, k, x, z, inr (σ, h, m, e, y))) = inr (a, l, k, Refusing.by-room sizes σ h m e y, x, z)
+
+    module _ (x : Tracker) (built : Builds s room t u v w f g (B.Is x)) where
+      pub built-tables : length (g .tuples) ≡ length (f .tuples) → TablesFit (g .tuples) (g .nexts) (x .tuples)
+      built-tables same =
+          let (a, l, k, (σ, accepted, are, is, fitted), y) = built in
+          tables-fit room f g (x .tuples) (sheet-fits s σ (accepted .file)) k fitted same
+
+      -- 12 to 14
+      pub plan-refused : (r : Refusal) → ((σ : Sheet) → FileIs s σ → PlanJudged σ p (g .tuples) (g .nexts) (x .tuples) (Refused r))
+          → length u ≡ length t → length (g .tuples) ≡ length (f .tuples) → length (g .nexts) ≡ length (f .nexts)
+          → (u′ : List ℕ) (g′ : Store) → u′ ≡ cleared u → g′ ≡ clearedStore g → Judgement s p room t u′ v w f g′ (Refused r)
+      plan-refused r h lu lt ln u′ g′ cu cg =
+          let (a, l, k, (σ, accepted, are, is, fitted), y) = built in
+          let (number, line, faulty, e) = h σ (accepted .file) in
+          inr (
+            a,
+            l,
+            k,
+            Refusing.by-plan sizes σ accepted g (x .tuples) fitted number line faulty e y,
+            cu ∙ same-cleared t u lu,
+            cg ∙ store-cleared f (cleared (g .tuples)) (cleared (g .nexts)) (same-cleared (f .tuples) (g .tuples) lt) (same-cleared (f .nexts) (g .nexts) ln),
+          )
+
+      -- the answer
+      pub plan-judged : (z : Verdict) → ((σ : Sheet) → FileIs s σ → PlanJudged σ p (g .tuples) (g .nexts) (x .tuples) (Judged z))
+          → Judgement s p room t u v w f g (Judged z)
+      plan-judged z h =
+          let (a, l, k, (σ, accepted, are, is, fitted), y) = built in
+          let (lead, cycle, plan, table) = h σ (accepted .file) in
+          (a, l, k, sizes, (σ, accepted, is, (x .tuples, fitted, (lead, cycle, verdicts s σ accepted room f g (x .tuples) fitted p lead cycle z plan table))), y)

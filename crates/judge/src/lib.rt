@@ -1,0 +1,29 @@
+// The verdict on a plan.
+pub mod files;
+pub mod table;
+
+use gate::Refusal;
+
+pub enum Answer {
+    Yes,
+    No,
+}
+
+// "yes or no with least colour and passes"
+pub struct Verdict {
+    pub answer: Answer,
+    pub least: u16,
+    pub passes: usize,
+}
+
+// "The outcome is either a refusal or yes or no with least colour and passes."
+pub enum Outcome {
+    Refused(Refusal),
+    Judged(Verdict),
+}
+
+// Where a pass of some letters ends, and the least colour that it entered.
+pub struct Pass {
+    pub at: usize,
+    pub least: u16,
+}

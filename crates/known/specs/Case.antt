@@ -1,0 +1,78 @@
+-- Document 01, "Known cases": what a case is, and what it says of every outcome that the contracts of the verdict and of building allow.
+use Prim.Native.Nat.{ℕ, _≤_}
+use mathlib.Core.Path.{_≡_}
+use mathlib.Core.List.{List, map}
+use lib.ListN.{length}
+use Rattle.gate.specs.Gate.{refusal}
+use Rattle.gate.specs.declared.Refusal.{Refusal}
+use Rattle.automaton.specs.Meeting.{Everywhere, Witness}
+use Rattle.automaton.specs.Lent.{Tables, Long}
+use Rattle.format.specs.Format.{Sheet, FileIs, numbers}
+use Rattle.tuple.specs.Step.{Tuple}
+use Rattle.tracker.specs.declared.Tracker.{Tracker}
+use Rattle.tracker.specs.declared.Built.{Built}
+use Rattle.tracker.specs.declared.Built.the-variants as B
+use Rattle.tracker.specs.Build.{Store, RoomFits, Holds, Builds}
+use Rattle.judge.specs.declared.Outcome.{Outcome}
+use Rattle.judge.specs.declared.Outcome.the-variants as O
+use Rattle.judge.specs.declared.Verdict.{Verdict}
+use Rattle.judge.specs.Verdict.{Judgement}
+
+-- what is expected of a case
+pub data Expected : Type 0 where
+  -- yes or no with least colour and passes, and the colours of the tracker's tuples in their order
+  judged : Verdict → List ℕ → Expected
+  -- a refusal with its line
+  refused : ℕ → ℕ → Expected
+  -- 10, with a word and two walks on it
+  meeting : List ℕ → List ℕ → List ℕ → Expected
+
+-- a sheet file, a plan file and a room
+pub record Case : Type 0 where
+  pub sheet : List ℕ
+  pub plan : List ℕ
+  pub room : ℕ
+  pub expected : Expected
+
+-- the tables, which were f and are g, hold the tracker of the sheet file s, and its tuples have these colours
+pub record Tracked (s : List ℕ) (f g : Store) (colours : List ℕ) : Type 0 where
+  pub sheet : Sheet
+  pub file : FileIs s sheet
+  pub tuples : List Tuple
+  pub holds : Holds (numbers sheet) tuples f g
+  pub coloured : map (λ u. u .colour) tuples ≡ colours
+
+-- the walks meet on the word, and on no shorter word do any
+pub record Shortest (s word one other : List ℕ) : Type 0 where
+  pub sheet : Sheet
+  pub file : FileIs s sheet
+  pub witness : Witness (numbers sheet) Everywhere (length word) word one other
+
+-- refusal 10 with a word of so many letters
+abbrev pub met : ℕ → Refusal
+met length = record { number = 10; line = 0; length = length }
+
+-- the outcome of a verdict is the expected one
+abbrev pub VerdictIs : List ℕ → Store → Store → Outcome → Expected → Type 0
+VerdictIs s f g o (judged z colours) = (o ≡ O.Judged z) × Tracked s f g colours
+VerdictIs s f g o (refused number line) = o ≡ O.Refused (refusal number line)
+VerdictIs s f g o (meeting word one other) = (o ≡ O.Refused (met (length word))) × Shortest s word one other
+
+-- and so is that of building, which asks no question behind 11
+abbrev pub BuiltIs : List ℕ → Store → Store → Built → Expected → Type 0
+BuiltIs s f g o (judged z colours) = ((x : Tracker) × (o ≡ B.Is x) × (x .tuples ≡ length colours)) × Tracked s f g colours
+BuiltIs s f g o (refused number line) = number ≤ 11 → o ≡ B.Refused (refusal number line)
+BuiltIs s f g o (meeting word one other) = (o ≡ B.Refused (met (length word))) × Shortest s word one other
+
+-- the lent tables are long enough
+pub record Enough (room : ℕ) (t : List ℕ) (v : Tables) (f : Store) : Type 0 where
+  pub cells : 128 ≤ length t
+  pub witness : Long v
+  pub tuples : RoomFits room f
+
+-- THE DEFINITIONS ALONE give what is expected: it is every outcome that they allow, in tables that are long enough
+pub record Forced (c : Case) : Type 0 where
+  pub verdict : (t u : List ℕ) (v w : Tables) (f g : Store) (o : Outcome) → Enough (c .room) t v f
+      → Judgement (c .sheet) (c .plan) (c .room) t u v w f g o → VerdictIs (c .sheet) f g o (c .expected)
+  pub building : (t u : List ℕ) (v w : Tables) (f g : Store) (o : Built) → Enough (c .room) t v f
+      → Builds (c .sheet) (c .room) t u v w f g o → BuiltIs (c .sheet) f g o (c .expected)

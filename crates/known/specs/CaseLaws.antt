@@ -1,0 +1,154 @@
+-- A case that is computed right is forced: a verdict is the one expected, and so is a tracker. Assumes nothing.
+use Prim.Native.Nat.{ℕ, _≤_}
+use mathlib.Core.Path.{_≡_, sym, ap, subst, _∙_}
+use mathlib.Core.Bool.{true, not}
+use mathlib.Core.List.{List, _++_, map}
+use native.Mathlib.Omega.{arith}
+use borrow.Author.Tests.{ltb-false, eqb-true, not-true}
+use lib.Dec.{eqb, ltb}
+use lib.ListN.{length, take, drop, length-map}
+use lib.Seq.{take-append-seam, drop-append-seam}
+use Rattle.text.specs.ChoiceLaws.{true-is-not-false}
+use Rattle.gate.specs.Gate.{refusal}
+use Rattle.automaton.specs.Automaton.{Automaton}
+use Rattle.format.specs.Format.{Sheet, FileIs, numbers, most}
+use Rattle.sheet.specs.Parse.{Phase, refused, passed, Contents}
+use Rattle.sheet.specs.LetterLaws.{same-is}
+use Rattle.sheet.specs.ParseLaws.{AreContents}
+use Rattle.tuple.specs.Step.{Tuple}
+use Rattle.tracker.specs.declared.Built.{Built}
+use Rattle.tracker.specs.declared.Built.the-variants as B
+use Rattle.tracker.specs.Build.{Store, Holds}
+use Rattle.plan.specs.Letter.{letterAt}
+use Rattle.plan.specs.Plan.{mostPlan}
+use Rattle.plan.specs.Plan as Plan
+use Rattle.plan.specs.Parse.{planOf}
+use Rattle.plan.specs.Parse as P
+use Rattle.plan.specs.ParseLaws.{plan-means}
+use Rattle.plan.specs.ParseLaws as L
+use Rattle.plan.specs.CompleteLaws.{fault-read, plan-read}
+use Rattle.judge.specs.declared.Outcome.{Outcome}
+use Rattle.judge.specs.declared.Outcome.the-variants as O
+use Rattle.judge.specs.declared.Verdict.{Verdict}
+use Rattle.judge.specs.Passes.{Judges}
+use Rattle.judge.specs.Verdict.{SizesFit}
+use Rattle.known.specs.Case.{Expected, judged, meeting, Case, Tracked, VerdictIs, BuiltIs, Forced}
+use Rattle.known.specs.Case as E
+use Rattle.known.specs.BelowLaws.{and-both}
+use Rattle.known.specs.VerdictTest.{isVerdict}
+use Rattle.known.specs.VerdictTestLaws.{verdict-is, one-verdict}
+use Rattle.known.specs.CaseTest.{automatonOf, isRefused, rightPlan, rightColours, right}
+use Rattle.known.specs.CauseLaws.{Planned, Tracks, verdict-cause, build-cause}
+use Rattle.known.specs.SheetLaws.{numbers-are, sheet-asked}
+
+refused-is : (number line : ℕ) (e : Expected) → isRefused number line e ≡ true → E.refused number line ≡ e
+unfolding isRefused
+refused-is number line (E.refused n l) t =
+    let (a, b) = and-both (eqb number n) (eqb line l) t in
+    let p = eqb-true number n a in
+    let q = eqb-true line l b in
+    λ i. E.refused (p i) (q i)
+refused-is number line (judged z colours) t = absurd (true-is-not-false (sym t))
+refused-is number line (meeting word one other) t = absurd (true-is-not-false (sym t))
+
+colours-are : (ts : List Tuple) (z : Verdict) (colours : List ℕ) → rightColours ts (judged z colours) ≡ true → map (λ u. u .colour) ts ≡ colours
+unfolding rightColours
+colours-are ts z colours c = same-is (map (λ u. u .colour) ts) colours c
+
+tracked : (s : List ℕ) (f g : Store) (σ : Sheet) → FileIs s σ → (ts : List Tuple) → Holds (numbers σ) ts f g → (z : Verdict) (colours : List ℕ)
+    → rightColours ts (judged z colours) ≡ true → Tracked s f g colours
+tracked s f g σ file ts h z colours c = record { sheet = σ; file = file; tuples = ts; holds = h; coloured = colours-are ts z colours c }
+
+-- no tracker is expected with a witness
+no-witness : (ts : List Tuple) (word one other : List ℕ) → rightColours ts (meeting word one other) ≡ true → ⊥
+unfolding rightColours
+no-witness ts word one other c = true-is-not-false (sym c)
+
+-- THE PLAN, on a sheet file read as x
+module _ (s p : List ℕ) (f g : Store) (σ : Sheet) (file : FileIs s σ) (x : Contents) (are : AreContents s σ x) (ts : List Tuple) where
+  abbrev A : Automaton
+  A = automatonOf x
+
+  -- QUESTIONS 12 TO 14 answered no
+  fault-asked : (o : Outcome) (number line : ℕ) → Plan.Faulty σ p number line → o ≡ O.Refused (refusal number line)
+      → (e : Expected) → rightPlan A (planOf (x .names) p) e ≡ true → VerdictIs s f g o e
+  unfolding rightPlan
+  fault-asked o number line h is e t =
+      let q : planOf (x .names) p ≡ refused number line = rw (are .names) (fault-read σ (file .all-names) (file .right .names) p number line h) in
+      subst (VerdictIs s f g o) (refused-is number line e (rw q at t)) is
+
+  -- and yes
+  module _ (lead cycle : List ℕ) (plan : Plan.PlanIs σ p lead cycle) (z : Verdict) (j : Judges (numbers σ) (letterAt lead cycle) (length lead) (length cycle) z) where
+    plan-passed : planOf (x .names) p ≡ passed (P.contents (P.lengths (length lead) (length cycle)) (lead ++ cycle))
+    plan-passed = rw (are .names) (plan-read σ (file .all-names) (file .right .names) p lead cycle plan)
+
+    same-verdict : (y : Verdict) → isVerdict A (letterAt (take (length lead) (lead ++ cycle)) (drop (length lead) (lead ++ cycle))) (length lead) (length cycle) y ≡ true
+        → z ≡ y
+    same-verdict y t =
+        one-verdict A (letterAt lead cycle) (length lead) (length cycle) z y
+        (subst (λ (B : Automaton). Judges B (letterAt lead cycle) (length lead) (length cycle) z) (numbers-are s σ x are) j)
+        (verdict-is A (letterAt lead cycle) (length lead) (length cycle) y (rw (take-append-seam lead cycle, drop-append-seam lead cycle) at t))
+
+    verdict-asked : (o : Outcome) → Holds (numbers σ) ts f g → o ≡ O.Judged z
+        → (e : Expected) → rightColours ts e ≡ true → rightPlan A (planOf (x .names) p) e ≡ true → VerdictIs s f g o e
+    unfolding rightPlan
+    verdict-asked o h is (judged y colours) c t = (is ∙ ap O.Judged (same-verdict y (rw plan-passed at t)), tracked s f g σ file ts h y colours c)
+    verdict-asked o h is (E.refused number line) c t = absurd (true-is-not-false (sym (rw plan-passed at t)))
+    verdict-asked o h is (meeting word one other) c t = absurd (no-witness ts word one other c)
+
+  plan-asked : (o : Outcome) → Planned p f g o σ ts → (e : Expected) → rightColours ts e ≡ true → rightPlan A (planOf (x .names) p) e ≡ true → VerdictIs s f g o e
+  plan-asked o (Planned.plan-fault number line h is) e c t = fault-asked o number line h is e t
+  plan-asked o (Planned.verdict h lead cycle plan z j is) e c t = verdict-asked lead cycle plan z j o h is e c t
+
+  -- BUILDING asks none of them
+  plan-number : (number line : ℕ) → Plan.Faulty σ p number line → 12 ≤ number
+  plan-number number line (Plan.Faulty.head h) = omega arith
+  plan-number number line (Plan.Faulty.range lead cycle rest a b e h) = omega arith
+  plan-number number line (Plan.Faulty.name lead cycle names rest a b h) = omega arith
+  plan-number number line (Plan.Faulty.unknown lead cycle names rest a b y after c e h) = omega arith
+  plan-number number line (Plan.Faulty.end lead cycle names rest a b h) = omega arith
+  plan-number number line (Plan.Faulty.behind lead cycle names after a b h) = omega arith
+
+  not-by-plan : length p ≤ mostPlan → (number line : ℕ) → rightPlan A (planOf (x .names) p) (E.refused number line) ≡ true → number ≤ 11 → ⊥
+  unfolding rightPlan isRefused
+  not-by-plan size number line t few =
+      by (planOf (x .names) p) (rw (are .names) (plan-means σ (file .all-names) p size)) t
+    where
+      by : (q : Phase P.Contents) → L.Means σ p q → rightPlan A q (E.refused number line) ≡ true → ⊥
+      by (refused n l) h t =
+          let (a, b) = and-both (eqb n number) (eqb l line) t in
+          omega (arith, plan-number n l h, eqb-true n number a)
+      by (passed y) h t = true-is-not-false (sym t)
+
+  tracker-asked : length p ≤ mostPlan → (o : Built) → Tracks f g o σ ts → (e : Expected) → rightColours ts e ≡ true → rightPlan A (planOf (x .names) p) e ≡ true
+      → BuiltIs s f g o e
+  tracker-asked size o h (judged z colours) c t =
+      let k = h .counted ∙ (sym (length-map ts (λ u. u .colour)) ∙ ap length (colours-are ts z colours c)) in
+      ((h .tracker, h .is, k), tracked s f g σ file ts (h .holds) z colours c)
+  tracker-asked size o h (E.refused number line) c t = λ few. absurd (not-by-plan size number line t few)
+  tracker-asked size o h (meeting word one other) c t = absurd (no-witness ts word one other c)
+
+-- THE LAW
+pub right-forced : (c : Case) → right c ≡ true → Forced c
+unfolding right
+right-forced c e =
+    let (a, i) = and-both (not (ltb most (length (c .sheet)))) _ e in
+    let (b, j) = and-both (not (ltb mostPlan (length (c .plan)))) _ i in
+    let size : SizesFit (c .sheet) (c .plan) = record {
+      sheet = ltb-false most (length (c .sheet)) (not-true (ltb most (length (c .sheet))) a);
+      plan = ltb-false mostPlan (length (c .plan)) (not-true (ltb mostPlan (length (c .plan))) b);
+    } in
+    record {
+      verdict = λ t u v w f g o enough h.
+          sheet-asked (c .sheet) (c .plan) (c .room) Outcome O.Refused (Planned (c .plan) f g o) o (VerdictIs (c .sheet) f g o)
+          (λ number line e t is. subst (VerdictIs (c .sheet) f g o) (refused-is number line e t) is)
+          (λ word one other is k. (is, k))
+          (λ σ file x are ts. plan-asked (c .sheet) (c .plan) f g σ file x are ts o)
+          (c .expected) j (verdict-cause (c .sheet) (c .room) t u v w f g enough (c .plan) size o h);
+      building = λ t u v w f g o enough h.
+          sheet-asked (c .sheet) (c .plan) (c .room) Built B.Refused (Tracks f g o) o (BuiltIs (c .sheet) f g o)
+          (λ number line e t is. subst (BuiltIs (c .sheet) f g o) (refused-is number line e t) (λ few. is))
+          (λ word one other is k. (is, k))
+          (λ σ file x are ts. tracker-asked (c .sheet) (c .plan) f g σ file x are ts (size .plan) o)
+          (c .expected) j (build-cause (c .sheet) (c .room) t u v w f g enough o h);
+    }

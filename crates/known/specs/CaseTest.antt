@@ -1,0 +1,75 @@
+-- The outcome of a case, computed question by question, against what is expected.
+use Prim.Native.Nat.{ℕ, _*_}
+use mathlib.Core.Bool.{Bool, true, false, not, _&&_}
+use mathlib.Core.List.{List, [], _∷_, map}
+use lib.Dec.{eqb, ltb}
+use lib.ListN.{length, take, drop}
+use Rattle.text.specs.Choice.{choose}
+use Rattle.automaton.specs.Automaton.{Automaton}
+use Rattle.format.specs.Format.{most}
+use Rattle.sheet.specs.Parse.{Phase, refused, passed, same, parse}
+use Rattle.sheet.specs.Parse as S
+use Rattle.tuple.specs.Step.{Tuple}
+use Rattle.tracker.specs.Explore.{found}
+use Rattle.plan.specs.Plan.{mostPlan}
+use Rattle.plan.specs.Letter.{letterAt}
+use Rattle.plan.specs.Parse.{planOf}
+use Rattle.plan.specs.Parse as P
+use Rattle.known.specs.Case.{Expected, judged, meeting, Case}
+use Rattle.known.specs.Case as E
+use Rattle.known.specs.MeetingTest.{isFree, isShortest}
+use Rattle.known.specs.VerdictTest.{isVerdict}
+
+-- the numbers that are read of a sheet file
+abbrev pub automatonOf : S.Contents → Automaton
+automatonOf x = record { n = x .n; k = x .k; initial = x .initial; recurring = x .recurring; table = x .table }
+
+-- the tuples that are found by the steps of the first R tuples: all, where there are at most R
+abbrev pub tuplesIn : Automaton → ℕ → List Tuple
+tuplesIn A room = found A (8 * room)
+
+-- a refusal is the expected one
+unfoldable pub isRefused : ℕ → ℕ → Expected → Bool
+isRefused number line (E.refused n l) = eqb number n && eqb line l
+isRefused number line (judged z colours) = false
+isRefused number line (meeting word one other) = false
+
+-- questions 12 to 14, and the verdict
+unfoldable pub rightPlan : Automaton → Phase P.Contents → Expected → Bool
+rightPlan A (refused number line) e = isRefused number line e
+rightPlan A (passed y) (judged z colours) =
+    isVerdict A (letterAt (take (y .lead) (y .letters)) (drop (y .lead) (y .letters))) (y .lead) (y .cycle) z
+rightPlan A (passed y) (E.refused number line) = false
+rightPlan A (passed y) (meeting word one other) = false
+
+-- the tuples of the tracker have the expected colours
+unfoldable pub rightColours : List Tuple → Expected → Bool
+rightColours ts (judged z colours) = same (map (λ u. u .colour) ts) colours
+rightColours ts (E.refused number line) = true
+rightColours ts (meeting word one other) = false
+
+-- question 11 on the tuples that are found
+unfoldable pub rightRoom : Automaton → List Tuple → List (List ℕ) → List ℕ → ℕ → Expected → Bool
+rightRoom A ts names p room e =
+    choose (ltb room (length ts)) (isRefused 11 0 e) (rightColours ts e && rightPlan A (planOf names p) e)
+
+-- question 10
+unfoldable pub rightWalks : Automaton → List (List ℕ) → List ℕ → ℕ → Expected → Bool
+rightWalks A names p room (meeting word one other) = isShortest A word one other
+rightWalks A names p room (judged z colours) = isFree A && rightRoom A (tuplesIn A room) names p room (judged z colours)
+rightWalks A names p room (E.refused number line) = isFree A && rightRoom A (tuplesIn A room) names p room (E.refused number line)
+
+-- questions 3 to 9
+unfoldable pub rightFile : Phase S.Contents → List ℕ → ℕ → Expected → Bool
+rightFile (refused number line) p room e = isRefused number line e
+rightFile (passed x) p room e = rightWalks (automatonOf x) (x .names) p room e
+
+-- question 2, and the others
+unfoldable pub right : Case → Bool
+right c =
+    not (ltb most (length (c .sheet)))
+    && (not (ltb mostPlan (length (c .plan))) && rightFile (parse (c .sheet)) (c .plan) (c .room) (c .expected))
+
+unfoldable pub allRight : List Case → Bool
+allRight [] = true
+allRight (c ∷ cs) = right c && allRight cs

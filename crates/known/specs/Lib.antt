@@ -1,0 +1,13 @@
+pub mod Case
+pub mod Cases
+pub mod Below
+pub mod BelowLaws
+pub mod MeetingTest
+pub mod MeetingTestLaws
+pub mod VerdictTest
+pub mod VerdictTestLaws
+pub mod CaseTest
+pub mod CauseLaws
+pub mod SheetLaws
+pub mod CaseLaws
+pub mod Known

@@ -1,0 +1,118 @@
+-- The tests for meeting walks tell what the definitions say: two walks on one word keep to the pairs of states that are reached. Assumes nothing.
+use Prim.Native.Nat.{ℕ, zero, suc, _+_, _*_, _/_, _-_, _≤_, _<_}
+use mathlib.Core.Path.{_≡_, sym, subst}
+use mathlib.Core.Bool.{true, not, _&&_}
+use mathlib.Core.List.{List}
+use native.Mathlib.Omega.{arith}
+use native.Mathlib.Decide.{decLt}
+use borrow.Author.Tests.{lt-ltb, eq-eqb, ne-eqb, ltb-true, eqb-true, eqb-false, not-true}
+use lib.Dec.{eqb, ltb}
+use lib.ListN.{length, getD, List·getD-eq-default}
+use Rattle.sets.specs.Sets.{bit}
+use Rattle.automaton.specs.Automaton.{Automaton, Edge, Fits, successorSet}
+use Rattle.automaton.specs.Meeting.{Walk, Meet, Everywhere, Free, Witness, cells}
+use Rattle.pairs.specs.Edges.{walk-in}
+use Rattle.pairs.specs.Joining.{Joins, Backwards, meet-joins}
+use Rattle.pairs.specs.Bound.{NoneShorter, shortest-bound}
+use Rattle.known.specs.Below.{any}
+use Rattle.known.specs.BelowLaws.{and-both, both-and, not-both, all-at, any-of, any-is}
+use Rattle.known.specs.MeetingTest.{isMember, isEdge, reached, together, joinAt, noneUpTo, isFree, isWalk, doMeet, isShortest}
+
+everywhere : (A : Automaton) → Backwards A Everywhere
+everywhere A l q r e c = tt
+
+edge-test : (A : Automaton) (l q r : ℕ) → Edge A l q r → isEdge A l q r ≡ true
+unfolding isEdge
+edge-test A l q r e = rw (lt-ltb l (A .k) (e .letter), lt-ltb q (A .n) (e .from)) (eq-eqb (bit (successorSet A q l) r) 1 (e .to))
+
+edge-is : (A : Automaton) (l q r : ℕ) → isEdge A l q r ≡ true → Edge A l q r
+unfolding isEdge
+edge-is A l q r e =
+    let (a, f) = and-both (ltb l (A .k)) (ltb q (A .n) && isMember (successorSet A q l) r) e in
+    let (b, c) = and-both (ltb q (A .n)) (isMember (successorSet A q l) r) f in
+    record { letter = ltb-true l (A .k) a; from = ltb-true q (A .n) b; to = eqb-true (bit (successorSet A q l) r) 1 c }
+
+module _ (A : Automaton) (fits : Fits A) (w : ℕ → ℕ) (t : ℕ) (x y : ℕ → ℕ) (v : Walk A w t x) (v′ : Walk A w t y) where
+  walks-reached : (s : ℕ) → s ≤ t → reached A s (x s) (y s) ≡ true
+  unfolding reached
+  walks-reached zero h = rw (eq-eqb (bit (A .initial) (x 0)) 1 (v .starts)) (eq-eqb (bit (A .initial) (y 0)) 1 (v′ .starts))
+  walks-reached (suc s) h =
+      let e = v .goes s (omega arith) in
+      let f = v′ .goes s (omega arith) in
+      let l = any-of (A .k) (λ l. isEdge A l (x s) (x (suc s)) && isEdge A l (y s) (y (suc s))) (w s) (e .letter)
+      (both-and (isEdge A (w s) (x s) (x (suc s))) (isEdge A (w s) (y s) (y (suc s))) (edge-test A (w s) (x s) (x (suc s)) e) (edge-test A (w s) (y s) (y (suc s)) f)) in
+      any-of (A .n) _ (x s) (e .from) (any-of (A .n) _ (y s) (f .from) (both-and _ (reached A s (x s) (y s)) l (walks-reached s (omega arith))))
+
+  join-at : (s : ℕ) → s < t → Joins Everywhere x y s → joinAt A s ≡ true
+  unfolding joinAt together
+  join-at s h j =
+      let e = v .goes s h in
+      let f = subst (Edge A (w s) (y s)) (sym (j .joined)) (v′ .goes s h) in
+      let z = walk-in A fits w t x v (suc s) h in
+      let g = any-of (A .k) (λ l. any (A .n) (λ z. isEdge A l (x s) z && isEdge A l (y s) z)) (w s) (e .letter)
+      (any-of (A .n) (λ z. isEdge A (w s) (x s) z && isEdge A (w s) (y s) z) (x (suc s)) z
+      (both-and (isEdge A (w s) (x s) (x (suc s))) (isEdge A (w s) (y s) (x (suc s))) (edge-test A (w s) (x s) (x (suc s)) e) (edge-test A (w s) (y s) (x (suc s)) f))) in
+      any-of (A .n) _ (x s) (e .from)
+      (any-of (A .n) _ (y s) (f .from)
+      (rw (ne-eqb (x s) (y s) (j .apart)) (both-and _ (reached A s (x s) (y s)) g (walks-reached s (omega arith)))))
+
+module _ (A : Automaton) (fits : Fits A) where
+  none-up-to : (m : ℕ) → noneUpTo A m ≡ true → (w : ℕ → ℕ) (t : ℕ) (x y : ℕ → ℕ) → t ≤ m → Meet A Everywhere w t x y → ⊥
+  unfolding noneUpTo
+  none-up-to m e w t x y h meet =
+      let (s, l, j) = meet-joins A Everywhere (everywhere A) w t x y meet in
+      not-both (joinAt A s) (all-at m (λ t. not (joinAt A t)) e s (omega arith)) (join-at A fits w t x y (meet .one) (meet .other) s l j)
+
+  -- a word with meeting walks would be no longer than those tested, or there would be a shorter one
+  free-below : isFree A ≡ true → (t : ℕ) → NoneShorter A Everywhere t
+  unfolding isFree
+  free-below e zero w s x y l meet = omega arith
+  free-below e (suc t) w s x y l meet = by (decLt s t) (free-below e t)
+    where
+      by : Dec (s < t) → NoneShorter A Everywhere t → ⊥
+      by (yes h) ih = ih w s x y h meet
+      by (no h) ih =
+          none-up-to (A .n * (A .n + 1) / 2) e w s x y
+          (shortest-bound A fits Everywhere (everywhere A) w s x y meet (λ w u x y k. ih w u x y (omega arith))) meet
+
+  pub free-is : isFree A ≡ true → Free A Everywhere
+  free-is e w t x y = free-below e (suc t) w t x y (omega arith)
+
+  walk-is : (word x : List ℕ) → isWalk A word x ≡ true → (length x ≡ suc (length word)) × Walk A (cells word) (length word) (cells x)
+  unfolding isWalk
+  walk-is word x e =
+      let (a, f) = and-both (eqb (length x) (suc (length word))) _ e in
+      let (b, c) = and-both (isMember (A .initial) (getD x 0 0)) _ f in (
+        eqb-true (length x) (suc (length word)) a,
+        record {
+          starts = eqb-true (bit (A .initial) (getD x 0 0)) 1 b;
+          goes = λ s h. edge-is A (getD word s 0) (getD x s 0) (getD x (suc s) 0) (all-at (length word) _ c s h);
+        },
+      )
+
+  pub shortest-is : (word one other : List ℕ) → isShortest A word one other ≡ true → Witness A Everywhere (length word) word one other
+  unfolding isShortest doMeet
+  shortest-is word one other e =
+      let (a, f) = and-both (ltb (length word) 137) _ e in
+      let (m, none) = and-both (doMeet A word one other) (noneUpTo A (length word - 1)) f in
+      let (b, g) = and-both (isWalk A word one) _ m in
+      let (c, h) = and-both (isWalk A word other) _ g in
+      let (d, k) = and-both (any (suc (length word)) (λ s. not (eqb (getD one s 0) (getD other s 0)))) _ h in
+      let (l, x) = walk-is word one b in
+      let (o, y) = walk-is word other c in
+      let (s, p, q) = any-is (suc (length word)) (λ s. not (eqb (getD one s 0) (getD other s 0))) d in
+      let z = ltb-true (length word) 137 a in
+      record {
+        meets = record {
+          one = x;
+          other = y;
+          differ = (s, omega arith, eqb-false (getD one s 0) (getD other s 0) (not-true (eqb (getD one s 0) (getD other s 0)) q));
+          shared = eqb-true (getD one (length word) 0) (getD other (length word) 0) k;
+          counts = tt;
+        };
+        shortest = λ w t x y i. none-up-to (length word - 1) none w t x y (omega arith);
+        most = omega arith;
+        behind-word = λ i i′. List·getD-eq-default word 0 i′;
+        behind-one = λ i i′. List·getD-eq-default one 0 (omega arith);
+        behind-other = λ i i′. List·getD-eq-default other 0 (omega arith);
+      }
