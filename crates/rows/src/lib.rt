@@ -7,9 +7,9 @@ ghost use lib.Seq.{sets};
 ghost use Rattle.rows.specs.Rows.{rowAt, mix, mixFrom, digestOf, Indexed, Sought, Added, Found};
 
 // The cells of a row that make two rows the same.
-const SAME: usize = 17;
+pub const SAME: usize = 17;
 // All cells of a row.
-const CELLS: usize = 17;
+pub const CELLS: usize = 17;
 
 // A cell mixed into a number below 2^32.
 fn mixed(h: usize, x: u16) -> usize

@@ -10,7 +10,7 @@ use Rattle.gate.specs.declared.Refusal.{Refusal}
 use Rattle.sheet.specs.Parse.{Phase, refused, passed, andThen, Named, Contents, contents, headOf, afterHead, parse}
 use Rattle.format.specs.Format.{most}
 use borrow.Author.Tests.{lt-ltb, le-ltb}
-use Rattle.sheet.specs.Answers.{headAnswer, statesAnswer, Fills, NamesRead, NumbersRead, FileRead}
+use Rattle.sheet.specs.PhaseAnswers.{headAnswer, statesAnswer, Fills, NamesRead, NumbersRead, FileRead}
 use Rattle.sheet.specs.Rows.{Holds}
 use Rattle.automaton.specs.Automaton.{InRange}
 use Rattle.sheet.specs.declared.Place.{Place}

@@ -13,7 +13,8 @@ use Rattle.sheet.specs.Read.{AreNumbers, lentTable}
 use Rattle.sheet.specs.Parse.{Phase, refused, passed, Contents, parse}
 use Rattle.sheet.specs.ParseLaws.{Means, AreContents, parse-means}
 use Rattle.sheet.specs.Rows.{Holds}
-use Rattle.sheet.specs.Answers.{numbersOf, FileRead, LettersOf, LettersRead}
+use Rattle.sheet.specs.PhaseAnswers.{numbersOf, FileRead}
+use Rattle.sheet.specs.Answers.{LettersOf, LettersRead}
 use Rattle.sheet.specs.declared.File.{File}
 use Rattle.sheet.specs.declared.File.the-variants as F
 

@@ -1,4 +1,4 @@
-pub mod Laws
+pub mod Steps
 pub mod FileLaws
 pub mod FileMeans
 pub mod LetterAnswers

@@ -18,7 +18,8 @@ use Rattle.format.specs.Format.{Sheet, Transition, entered, tableOf, numbers}
 use Rattle.format.specs.NumbersLaws.{sheet-fits}
 use Rattle.sheet.specs.Read.{AreNumbers, lentTable}
 use Rattle.sheet.specs.Read as read
-use Rattle.sheet.specs.Answers.{FileRead, Answers}
+use Rattle.sheet.specs.PhaseAnswers.{FileRead}
+use Rattle.sheet.specs.Answers.{Answers}
 use Rattle.sheet.specs.Parse.{parse}
 use Rattle.sheet.specs.declared.File.the-variants as F
 use Rattle.sheet.specs.declared.Read.{Read}

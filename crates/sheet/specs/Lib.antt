@@ -3,6 +3,7 @@ pub mod Letters
 pub mod Parse
 pub mod Rows
 pub mod Spelling
+pub mod PhaseAnswers
 pub mod Answers
 pub mod FieldLaws
 pub mod LetterLaws

@@ -1,7 +1,7 @@
 // The first line of a sheet: questions 3 and 4.
 ghost use mathlib.Core.Path.{_≡_};
 ghost use Rattle.sheet.specs.Parse.{rangesOf, headOf};
-ghost use Rattle.sheet.specs.Answers.{headAnswer, SizesFit};
+ghost use Rattle.sheet.specs.PhaseAnswers.{headAnswer, SizesFit};
 use super::Head;
 use super::Sizes;
 use gate::Refusal;

@@ -7,7 +7,7 @@ ghost use Rattle.format.specs.Format.{most};
 ghost use Rattle.names.specs.Scan.{nameFits};
 ghost use Rattle.sheet.specs.Parse.{nameLineAt, namesAt};
 ghost use Rattle.sheet.specs.Rows.{FirstLike};
-ghost use Rattle.sheet.specs.Answers.{NamesRead};
+ghost use Rattle.sheet.specs.PhaseAnswers.{NamesRead};
 use super::Names;
 use super::Place;
 use gate::Refusal;

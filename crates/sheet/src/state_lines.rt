@@ -2,7 +2,7 @@
 ghost use mathlib.Core.Path.{_≡_};
 ghost use Prim.Native.Nat.{_<_, _≤_, _^_};
 ghost use Rattle.sheet.specs.Parse.{stateLineAt, statesAt};
-ghost use Rattle.sheet.specs.Answers.{FlagsFit, statesAnswer, SetsFit};
+ghost use Rattle.sheet.specs.PhaseAnswers.{FlagsFit, statesAnswer, SetsFit};
 use super::Sets;
 use super::StateLine;
 use super::States;

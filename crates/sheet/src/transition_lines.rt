@@ -5,7 +5,7 @@ ghost use lib.ListN.{length, take, drop};
 ghost use mathlib.Core.List.{[]};
 ghost use Rattle.format.specs.Format.{most};
 ghost use Rattle.sheet.specs.Parse.{transitionOf, transitionLineAt, endAt, transitionsAt};
-ghost use Rattle.sheet.specs.Answers.{CellFits, transitionsAnswer, Fills};
+ghost use Rattle.sheet.specs.PhaseAnswers.{TransitionFits, transitionsAnswer, Fills};
 use super::TransitionLine;
 use super::Transitions;
 use gate::Refusal;
@@ -21,7 +21,7 @@ fn transition_of(
     to: usize,
 ) -> TransitionLine
     requires { ⌜ (n ≤ 16) × (k ≤ 8) ⌝ }
-    ensures { λ r. ⌜ (r ≡ transitionOf n k least from letter to) × CellFits r ⌝ }
+    ensures { λ r. ⌜ (r ≡ transitionOf n k least from letter to) × TransitionFits r ⌝ }
 {
     if from >= n {
         return TransitionLine::Bad;
@@ -41,7 +41,7 @@ fn transition_of(
 // The line at `at`, which begins with T.
 fn transition_line(s: &[u8], at: usize, n: usize, k: usize, least: usize) -> TransitionLine
     requires { ⌜ (at < 2 ^ 30) × (n ≤ 16) × (k ≤ 8) ⌝ }
-    ensures { λ r. ⌜ (r ≡ transitionLineAt (now (s .entry)) at n k least) × CellFits r ⌝ }
+    ensures { λ r. ⌜ (r ≡ transitionLineAt (now (s .entry)) at n k least) × TransitionFits r ⌝ }
 {
     if text::byte_at(s, at + 10) != 10 {
         return TransitionLine::Bad;

@@ -6,7 +6,7 @@ ghost use Rattle.gate.specs.Gate.{cleared};
 ghost use Rattle.automaton.specs.Automaton.{InRange};
 ghost use Rattle.format.specs.Format.{most};
 ghost use Rattle.sheet.specs.Parse.{Named, parse, afterNames};
-ghost use Rattle.sheet.specs.Answers.{NumbersRead, FileRead};
+ghost use Rattle.sheet.specs.PhaseAnswers.{NumbersRead, FileRead};
 use super::File;
 use super::Head;
 use super::Names;

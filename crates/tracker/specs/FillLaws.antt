@@ -31,21 +31,21 @@ drop-zeros zero n = rw sub-zero refl
 drop-zeros (suc i) zero = rw zero-sub refl
 drop-zeros (suc i) (suc n) = rw suc-sub-suc (drop-zeros i n)
 
-getD-zeros : (n i : ℕ) → getD {A = ℕ} (replicate n 0) i 0 ≡ 0
+pub getD-zeros : (n i : ℕ) → getD {A = ℕ} (replicate n 0) i 0 ≡ 0
 getD-zeros zero i = refl
 getD-zeros (suc n) zero = refl
 getD-zeros (suc n) (suc i) = getD-zeros n i
 
 -- each row has 17 cells
-abbrev Whole : List Tuple → Type 0
+abbrev pub Whole : List Tuple → Type 0
 Whole [] = Unit
 Whole (u ∷ ts) = (length (row u) ≡ 17) × Whole ts
 
-whole : (ts : List Tuple) (d : Tuple) → ((i : ℕ) → i < length ts → length (row (getD ts i d)) ≡ 17) → Whole ts
+pub whole : (ts : List Tuple) (d : Tuple) → ((i : ℕ) → i < length ts → length (row (getD ts i d)) ≡ 17) → Whole ts
 whole [] d f = tt
 whole (u ∷ ts) d f = (f 0 (omega arith), whole ts d (λ i h. f (suc i) (omega arith)))
 
-rows-length : (ts : List Tuple) → Whole ts → length (rows ts) ≡ 17 * length ts
+pub rows-length : (ts : List Tuple) → Whole ts → length (rows ts) ≡ 17 * length ts
 unfolding rows
 rows-length [] w = refl
 rows-length (u ∷ ts) w = length-append (row u) (rows ts) ∙ omega (arith, rows-length ts (w .1), w .0)
@@ -56,7 +56,7 @@ rows-more [] u = append-nil (row u)
 rows-more (v ∷ ts) u = ap (λ (l : List ℕ). row v ++ l) (rows-more ts u) ∙ sym (append-assoc (row v) (rows ts) (row u))
 
 -- row t of the table is that of tuple t
-row-is : (ts : List Tuple) (d : Tuple) (behind : List ℕ) (t : ℕ) → Whole ts → t < length ts → rowAt (rows ts ++ behind) t ≡ row (getD ts t d)
+pub row-is : (ts : List Tuple) (d : Tuple) (behind : List ℕ) (t : ℕ) → Whole ts → t < length ts → rowAt (rows ts ++ behind) t ≡ row (getD ts t d)
 unfolding rows
 row-is [] d behind t w h = absurd (omega arith)
 row-is (u ∷ ts) d behind zero w h = rw append-assoc (take-at (row u) (rows ts ++ behind) 17 (w .0))
@@ -396,6 +396,10 @@ cleared-filling A room v f r = record {
   tuples = rw (length-cleared (v .tuples));
   nexts = rw (length-cleared (v .nexts));
 }
+
+-- tables as long are cleared alike
+pub cleared-alike : (v w : Store) → length (v .tuples) ≡ length (w .tuples) → length (v .nexts) ≡ length (w .nexts) → clearedStore v ≡ clearedStore w
+cleared-alike v w p q i = record { tuples = replicate (p i) 0; nexts = replicate (q i) 0 }
 
 -- the tables' former contents do not matter
 pub cleared-fitted : (A : Automaton) (room : ℕ) (v w : Store) (m : ℕ) → Fitted A room (clearedStore v) w m → Fitted A room v w m

@@ -6,4 +6,5 @@ pub mod Build
 pub mod Fill
 pub mod FillLaws
 pub mod BuildLaws
+pub mod FittedLaws
 pub mod Example

@@ -1,7 +1,7 @@
 //! Tries the proved programs against programs that share nothing with them: a reader of its own, walks by counting, verdicts on the
 //! product of sheet and plan, tuples by document 01's text, and Safra's construction.
 //!
-//! outside PROGRAMS [COUNT]: PROGRAMS is the folder of the built programs `track`, `verdict` and `rewrite`; COUNT (600) is how many
+//! outside PROGRAMS [COUNT]: PROGRAMS is the folder of the built programs `track`, `verdict` and `rewrite`; COUNT (4,000) is how many
 //! sheets are made. Its last line is `outside: N passed, M failed`.
 //! outside cases FOLDER INPUTS: writes the case files of crates/cases and their answers; INPUTS is bench/inputs.
 
@@ -181,7 +181,7 @@ fn main() {
         return cases::write(&folders[0], &folders[1]);
     }
     let programs = PathBuf::from(args.next().expect("the folder of the programs"));
-    let count: usize = args.next().map_or(600, |x| x.parse().expect("a count"));
+    let count: usize = args.next().map_or(4000, |x| x.parse().expect("a count"));
     let mut b = Bench { programs, passed: 0, failed: 0, kinds: Default::default() };
     for seed in 0..count {
         let mut r = Random::new(seed as u64);

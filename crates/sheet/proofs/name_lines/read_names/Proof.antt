@@ -17,7 +17,7 @@ use Rattle.sheet.specs.Parse.{span, nameLineAt, letterOf}
 use Rattle.sheet.specs.Rows.{Holds, FirstLike}
 use Rattle.sheet.specs.RowsLaws.{letter-is, holds-more, name-found}
 use Rattle.sheet.specs.NameLaws.{name-line-is}
-use Rattle.sheet.proofs.Laws.{NamesSoFar, names-bad, names-twice, names-good, names-done}
+use Rattle.sheet.proofs.Steps.{NamesSoFar, names-bad, names-twice, names-good, names-done}
 use borrow.Author.Needs.{needs}
 use Rattle.sheet.proofs.name_lines.read_names.Statement.{statement}
 use Rattle.sheet.proofs.name_lines.read_names.Tie as tie

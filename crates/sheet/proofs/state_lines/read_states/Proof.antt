@@ -6,8 +6,8 @@ use native.Mathlib.Omega.{arith}
 use denote.Ref.{now}
 use lib.Pow.{pow-mono}
 use Rattle.sheet.specs.Parse.{statesAt}
-use Rattle.sheet.specs.Answers.{statesAnswer}
-use Rattle.sheet.proofs.Laws.{states-good, states-bad, states-done, flag-part, double}
+use Rattle.sheet.specs.PhaseAnswers.{statesAnswer}
+use Rattle.sheet.proofs.Steps.{states-good, states-bad, states-done, flag-part, double}
 use borrow.Author.Needs.{needs}
 use Rattle.sheet.proofs.state_lines.read_states.Statement.{statement}
 use Rattle.sheet.proofs.state_lines.read_states.Tie as tie

@@ -7,7 +7,7 @@ use lib.ListN.{length, getD, take, drop, length-set, take-append-drop}
 use lib.Seq.{drop-set-lt, take-set-lt, getD-take}
 use Rattle.format.specs.Format.{place, entered}
 use Rattle.sheet.specs.Parse.{transitionsAt}
-use Rattle.sheet.proofs.Laws.{transitions-good, transitions-bad, transitions-end, end-fills}
+use Rattle.sheet.proofs.Steps.{transitions-good, transitions-bad, transitions-end, end-fills}
 use Rattle.text.specs.WordLaws.{within}
 use borrow.Author.Needs.{needs}
 use Rattle.sheet.proofs.transition_lines.read_transitions.Statement.{statement}

@@ -7,7 +7,6 @@ use denote.Ref.{now}
 use lib.ListN.{length, replicate}
 use Rattle.automaton.specs.Automaton.{InRange}
 use Rattle.sheet.specs.Parse.{Phase, headOf, namesAt, statesAt, transitionsAt, afterHead, afterNames, andThen}
-use Rattle.sheet.specs.declared.Names.the-variants as N
 use Rattle.sheet.specs.declared.Sets.{Sets}
 use Rattle.sheet.proofs.FileLaws.{too-large, not-large, head-refuse, head-pass, names-refuse, Passes, names-pass, file-read}
 use borrow.Author.Needs.{needs}

@@ -5,7 +5,7 @@ use native.Mathlib.Omega.{arith}
 use denote.Ref.{now}
 use lib.ListN.{length, take, drop, replicate}
 use Rattle.sheet.specs.Parse.{statesAt, transitionsAt, afterStates}
-use Rattle.sheet.specs.Answers.{Fills}
+use Rattle.sheet.specs.PhaseAnswers.{Fills}
 use Rattle.sheet.specs.declared.Transitions.the-variants as D
 use Rattle.sheet.proofs.FileLaws.{sets-zero, rest-zero, states-refuse, states-pass, transitions-refuse, transitions-pass}
 use borrow.Author.Needs.{needs}

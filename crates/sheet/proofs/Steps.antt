@@ -20,7 +20,7 @@ use Rattle.sheet.specs.Rows.{Holds}
 use Rattle.sheet.specs.Spelling.{lineBelow}
 use Rattle.names.specs.declared.Ending.the-variants as E
 use Rattle.sheet.specs.declared.StateLine.the-variants as S
-use Rattle.sheet.specs.Answers.{transitionsAnswer, Fills}
+use Rattle.sheet.specs.PhaseAnswers.{transitionsAnswer, Fills}
 use Rattle.sheet.specs.declared.TransitionLine.the-variants as T
 use Rattle.sheet.specs.declared.Transitions.{Transitions}
 

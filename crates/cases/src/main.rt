@@ -1,0 +1,197 @@
+// Runs the library on each case: the files 000, 001, .. of data/, up to the first that is not there. Each gets a line: the verdict, the
+// listing's length and sum, and the length and sum of the sheet written out; or refusals in their places.
+ghost use Prim.Native.Nat.{_<_, _≤_};
+ghost use lib.ListN.{length};
+use judge::Answer;
+use judge::Outcome;
+use judge::Verdict;
+use libc::STDOUT_FILENO;
+use listing::Listed;
+use writer::Written;
+
+fn say(text: &[u8]) {
+    io::write_all(STDOUT_FILENO, text);
+}
+
+// A number, right-justified in w columns.
+fn say_column(w: usize, v: usize) {
+    let mut out = [0u8; 6];
+    if w <= 6 {
+        text::put_column(&mut out, 0, w, v);
+        console::show(&out, w);
+    }
+}
+
+// A line of 12 bytes without its LF.
+fn say_line(line: [u8; 12]) {
+    console::show(&line, 11);
+}
+
+fn say_verdict(v: Verdict) {
+    let answer = v.answer;
+    let passed = match answer {
+        Answer::Yes => true,
+        Answer::No => false,
+    };
+    say_line(report::verdict_line(passed, v.least as usize, v.passes));
+}
+
+// One more byte of a sum that tells a text from its neighbours.
+fn add(sum: usize, b: u8) -> usize {
+    (sum % 65521 * 31 + b as usize) % 65521
+}
+
+// The length of the first n bytes of a text, and their sum.
+fn say_text(name: &[u8], out: &[u8], n: usize) {
+    let mut sum = 0;
+    for i in 0..n {
+        if i < out.len() {
+            sum = add(sum, out[i]);
+        }
+    }
+    say(name);
+    say(b" ");
+    say_column(6, n);
+    say_column(6, sum);
+}
+
+fn say_listing(sheet: &[u8], room: usize) {
+    let mut table = [0u16; 128];
+    let mut tuples = [0u16; 17408];
+    let mut nexts = [0u16; 8192];
+    let mut word = [0u16; 136];
+    let mut one = [0u16; 137];
+    let mut other = [0u16; 137];
+    let mut out = [0u8; 149525];
+    match listing::list(
+        sheet,
+        room,
+        &mut table,
+        &mut tuples,
+        &mut nexts,
+        &mut word,
+        &mut one,
+        &mut other,
+        &mut out,
+    ) {
+        Listed::Bytes(n) => say_text(b"LIST", &out, n),
+        Listed::Refused(r) => say_line(report::refusal_line(r)),
+    }
+}
+
+fn say_copy(sheet: &[u8]) {
+    let mut word = [0u16; 136];
+    let mut one = [0u16; 137];
+    let mut other = [0u16; 137];
+    let mut out = [0u8; 24576];
+    match writer::write(sheet, &mut word, &mut one, &mut other, &mut out) {
+        Written::Bytes(n) => say_text(b"COPY", &out, n),
+        Written::Refused(r) => say_line(report::refusal_line(r)),
+    }
+}
+
+fn say_judgement(sheet: &[u8], plan: &[u8], room: usize) {
+    let mut table = [0u16; 128];
+    let mut tuples = [0u16; 17408];
+    let mut nexts = [0u16; 8192];
+    let mut word = [0u16; 136];
+    let mut one = [0u16; 137];
+    let mut other = [0u16; 137];
+    match judge::files::verdict(
+        sheet,
+        plan,
+        room,
+        &mut table,
+        &mut tuples,
+        &mut nexts,
+        &mut word,
+        &mut one,
+        &mut other,
+    ) {
+        Outcome::Judged(v) => say_verdict(v),
+        Outcome::Refused(r) => say_line(report::refusal_line(r)),
+    }
+}
+
+fn digit(b: u8) -> usize
+    ensures { λ r. ⌜ r < 16 ⌝ }
+{
+    (b % 16) as usize
+}
+
+// The room of a case, in five digits from the fifth byte on.
+fn room_of(case: &[u8]) -> usize
+    requires { ⌜ 10 ≤ length (now case) ⌝ }
+{
+    digit(case[4]) * 10000
+        + digit(case[5]) * 1000
+        + digit(case[6]) * 100
+        + digit(case[7]) * 10
+        + digit(case[8])
+}
+
+// The verdict on sheet and plan, of which the sheet ends at e.
+fn judged(input: &[u8], e: usize, room: usize)
+    requires { ⌜ e ≤ length (now input) ⌝ }
+{
+    say_judgement(&input[..e], &input[e..], room);
+    say(b" ");
+}
+
+fn listed(input: &[u8], e: usize, room: usize)
+    requires { ⌜ e ≤ length (now input) ⌝ }
+{
+    say_listing(&input[..e], room);
+    say(b" ");
+}
+
+fn copied(input: &[u8], e: usize)
+    requires { ⌜ e ≤ length (now input) ⌝ }
+{
+    say_copy(&input[..e]);
+    say(b"\n");
+}
+
+// Sheet and plan, in a room.
+fn answer_in(input: &[u8], room: usize) {
+    let e = report::sheet_end(input);
+    judged(input, e, room);
+    listed(input, e, room);
+    copied(input, e);
+}
+
+// A case: ROOM and five digits, then sheet and plan.
+fn answer(case: &[u8]) {
+    if case.len() < 10 {
+        return;
+    }
+    answer_in(&case[10..], room_of(case));
+}
+
+// One case: the file of that number is read and answered. False where there is no such file.
+fn run(number: usize) -> bool {
+    let name = [
+        b'0' + (number / 100 % 10) as u8,
+        b'0' + (number / 10 % 10) as u8,
+        b'0' + (number % 10) as u8,
+    ];
+    let fd = os::open_read(&name);
+    if fd < 0 {
+        return false;
+    }
+    let mut buf = [0u8; 65536];
+    let n = io::read_full(fd, &mut buf);
+    libc::close(fd);
+    say(&name);
+    say(b" ");
+    answer(&buf[..n]);
+    true
+}
+
+fn main() {
+    for number in 0..1000 {
+        if !run(number) {
+            return;
+        }
+    }
+}

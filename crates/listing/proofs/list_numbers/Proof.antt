@@ -1,0 +1,197 @@
+-- Each answer is that of building, or of the last question on the way to it. Assumes nothing.
+use Prim.Native.Nat.{ℕ}
+use mathlib.Core.Path.{_≡_, ap, _∙_}
+use native.Mathlib.Omega.{arith}
+use lib.ListN.{replicate}
+use Rattle.automaton.specs.Automaton.{automaton}
+use Rattle.automaton.specs.Lent.{tables}
+use Rattle.tracker.specs.Build.{store, clearedStore, BuildsNumbers}
+use Rattle.tracker.specs.declared.Built.the-variants.{Refused, Is}
+use Rattle.listing.specs.PutLaws.{listing-length}
+use Rattle.listing.specs.ListLaws.{numbers-first, numbers-refused, numbers-sized, numbers-last, numbers-bytes}
+use borrow.Author.Needs.{needs}
+use Rattle.listing.proofs.list_numbers.Statement.{statement}
+use Rattle.listing.proofs.list_numbers.Tie as tie
+
+build-numbers-requires : tie.Need-build-numbers-requires
+build-numbers-requires c κs = search needs
+
+enum-known-built : tie.Need-enum-known-built
+enum-known-built c = search needs
+
+same-length : tie.Need-same-length
+same-length c = search needs
+
+same-length-2 : tie.Need-same-length-2
+same-length-2 c = search needs
+
+same-length-3 : tie.Need-same-length-3
+same-length-3 c = search needs
+
+same-length-4 : tie.Need-same-length-4
+same-length-4 c = search needs
+
+same-length-5 : tie.Need-same-length-5
+same-length-5 c = search needs
+
+returns : tie.Need-returns
+returns c =
+    let a = c .before .before .before .before .before .before .before .before .before .before .before .before .before .before .before .before .before .before .before .before .before .before .before .before .before .before .before .before .args in
+    let A = automaton (a .a) (a .table .now) in
+    let b : BuildsNumbers A (a .room) (tables (a .word .now) (a .one .now) (a .other .now)) (tables (c .before .before .before .before .before .before .before .before .before .before .before .before .before .before .before .build-numbers .last .1 .1 .1 .1 .1 .0) (c .before .before .before .before .before .before .before .before .before .before .before .before .before .before .before .build-numbers .last .1 .1 .1 .1 .1 .1 .0) (c .before .before .before .before .before .before .before .before .before .before .before .before .before .before .before .build-numbers .last .1 .1 .1 .1 .1 .1 .1 .0)) (store (a .tuples .now) (a .nexts .now)) (store (c .before .before .before .before .before .before .before .before .before .before .before .before .before .before .before .build-numbers .last .1 .1 .1 .0) (c .before .before .before .before .before .before .before .before .before .before .before .before .before .before .before .build-numbers .last .1 .1 .1 .1 .0)) (Refused (c .before .before .before .built .given .0 .0)) = rw (c .before .before .before .built .given .1) at (c .before .before .before .before .before .before .before .before .before .before .before .before .before .before .before .build-numbers .ensures) in
+    numbers-first A (a .room) (tables (a .word .now) (a .one .now) (a .other .now)) (tables (c .before .before .before .before .before .before .before .before .before .before .before .before .before .before .before .build-numbers .last .1 .1 .1 .1 .1 .0) (c .before .before .before .before .before .before .before .before .before .before .before .before .before .before .before .build-numbers .last .1 .1 .1 .1 .1 .1 .0) (c .before .before .before .before .before .before .before .before .before .before .before .before .before .before .before .build-numbers .last .1 .1 .1 .1 .1 .1 .1 .0)) (store (a .tuples .now) (a .nexts .now)) (store (c .before .before .before .before .before .before .before .before .before .before .before .before .before .before .before .build-numbers .last .1 .1 .1 .0) (c .before .before .before .before .before .before .before .before .before .before .before .before .before .before .before .build-numbers .last .1 .1 .1 .1 .0)) (a .out .now) (c .before .before .before .built .given .0 .0) b (c .if1 .taken)
+
+clear-bytes-requires : tie.Need-clear-bytes-requires
+clear-bytes-requires c κs = search needs
+
+enum-known-built-2 : tie.Need-enum-known-built-2
+enum-known-built-2 c = search needs
+
+listing-length-requires : tie.Need-listing-length-requires
+listing-length-requires c κs =
+    let a = c .before .before .before .before .before .before .before .before .before .before .before .before .before .before .before .before .before .before .before .before .before .before .before .before .before .before .args in
+    let A = automaton (a .a) (a .table .now) in
+    let b : BuildsNumbers A (a .room) (tables (a .word .now) (a .one .now) (a .other .now)) (tables (c .before .before .before .before .before .before .before .before .before .before .before .before .before .build-numbers .last .1 .1 .1 .1 .1 .0) (c .before .before .before .before .before .before .before .before .before .before .before .before .before .build-numbers .last .1 .1 .1 .1 .1 .1 .0) (c .before .before .before .before .before .before .before .before .before .before .before .before .before .build-numbers .last .1 .1 .1 .1 .1 .1 .1 .0)) (store (a .tuples .now) (a .nexts .now)) (store (c .before .before .before .before .before .before .before .before .before .before .before .before .before .build-numbers .last .1 .1 .1 .0) (c .before .before .before .before .before .before .before .before .before .before .before .before .before .build-numbers .last .1 .1 .1 .1 .0)) (Is (c .before .built2 .given .0 .0)) = rw (c .before .built2 .given .1) at (c .before .before .before .before .before .before .before .before .before .before .before .before .before .build-numbers .ensures) in
+    let s = numbers-sized A (a .room) (tables (a .word .now) (a .one .now) (a .other .now)) (tables (c .before .before .before .before .before .before .before .before .before .before .before .before .before .build-numbers .last .1 .1 .1 .1 .1 .0) (c .before .before .before .before .before .before .before .before .before .before .before .before .before .build-numbers .last .1 .1 .1 .1 .1 .1 .0) (c .before .before .before .before .before .before .before .before .before .before .before .before .before .build-numbers .last .1 .1 .1 .1 .1 .1 .1 .0)) (store (a .tuples .now) (a .nexts .now)) (store (c .before .before .before .before .before .before .before .before .before .before .before .before .before .build-numbers .last .1 .1 .1 .0) (c .before .before .before .before .before .before .before .before .before .before .before .before .before .build-numbers .last .1 .1 .1 .1 .0)) (a .out .now) (c .before .built2 .given .0 .0) b (c .before .before .before .before .before .before .before .before .before .before .before .before .before .build-numbers .kept .1 .1 .1 .0) (c .before .before .before .before .before .before .before .before .before .before .before .before .before .build-numbers .kept .1 .1 .1 .1 .0) in
+    (s .states, s .letters, s .most)
+
+clear-requires : tie.Need-clear-requires
+clear-requires c κs = search needs
+
+clear-requires-2 : tie.Need-clear-requires-2
+clear-requires-2 c κs = search needs
+
+clear-bytes-requires-2 : tie.Need-clear-bytes-requires-2
+clear-bytes-requires-2 c κs = search needs
+
+same-length-6 : tie.Need-same-length-6
+same-length-6 c = search needs
+
+same-length-7 : tie.Need-same-length-7
+same-length-7 c = search needs
+
+same-length-8 : tie.Need-same-length-8
+same-length-8 c = search needs
+
+same-length-9 : tie.Need-same-length-9
+same-length-9 c = search needs
+
+same-length-10 : tie.Need-same-length-10
+same-length-10 c = search needs
+
+same-length-11 : tie.Need-same-length-11
+same-length-11 c = search needs
+
+returns-2 : tie.Need-returns-2
+returns-2 c =
+    let a = c .before .before .before .before .before .before .before .before .before .before .before .before .before .before .before .before .before .before .before .before .before .before .before .before .before .before .before .before .before .before .before .before .before .before .before .before .before .before .before .before .args in
+    let A = automaton (a .a) (a .table .now) in
+    let b : BuildsNumbers A (a .room) (tables (a .word .now) (a .one .now) (a .other .now)) (tables (c .before .before .before .before .before .before .before .before .before .before .before .before .before .before .before .before .before .before .before .before .before .before .before .before .before .before .before .build-numbers .last .1 .1 .1 .1 .1 .0) (c .before .before .before .before .before .before .before .before .before .before .before .before .before .before .before .before .before .before .before .before .before .before .before .before .before .before .before .build-numbers .last .1 .1 .1 .1 .1 .1 .0) (c .before .before .before .before .before .before .before .before .before .before .before .before .before .before .before .before .before .before .before .before .before .before .before .before .before .before .before .build-numbers .last .1 .1 .1 .1 .1 .1 .1 .0)) (store (a .tuples .now) (a .nexts .now)) (store (c .before .before .before .before .before .before .before .before .before .before .before .before .before .before .before .before .before .before .before .before .before .before .before .before .before .before .before .build-numbers .last .1 .1 .1 .0) (c .before .before .before .before .before .before .before .before .before .before .before .before .before .before .before .before .before .before .before .before .before .before .before .before .before .before .before .build-numbers .last .1 .1 .1 .1 .0)) (Is (c .before .before .before .before .before .before .before .before .before .before .before .before .before .before .before .built2 .given .0 .0)) = rw (c .before .before .before .before .before .before .before .before .before .before .before .before .before .before .before .built2 .given .1) at (c .before .before .before .before .before .before .before .before .before .before .before .before .before .before .before .before .before .before .before .before .before .before .before .before .before .before .before .build-numbers .ensures) in
+    let t = c .before .before .before .before .before .before .before .before .before .before .clear .ensures ∙ ap (λ (n : ℕ). replicate n 0) (c .before .before .before .before .before .before .before .before .before .before .before .before .before .before .before .before .before .before .before .before .before .before .before .before .before .before .before .build-numbers .kept .1 .1 .1 .0) in
+    let n = c .before .before .before .before .before .before .clear2 .ensures ∙ ap (λ (n : ℕ). replicate n 0) (c .before .before .before .before .before .before .before .before .before .before .before .before .before .before .before .before .before .before .before .before .before .before .before .before .before .before .before .build-numbers .kept .1 .1 .1 .1 .0) in
+    let g = store (c .before .before .before .before .before .before .before .before .before .before .clear .last .0) (c .before .before .before .before .before .before .clear2 .last .0) in
+    let q : g ≡ clearedStore (store (a .tuples .now) (a .nexts .now)) = λ i. store (t i) (n i) in
+    let h = c .before .before .before .before .before .before .before .before .before .before .before .before .if2 .taken in
+    numbers-last A (a .room) (tables (a .word .now) (a .one .now) (a .other .now)) (tables (c .before .before .before .before .before .before .before .before .before .before .before .before .before .before .before .before .before .before .before .before .before .before .before .before .before .before .before .build-numbers .last .1 .1 .1 .1 .1 .0) (c .before .before .before .before .before .before .before .before .before .before .before .before .before .before .before .before .before .before .before .before .before .before .before .before .before .before .before .build-numbers .last .1 .1 .1 .1 .1 .1 .0) (c .before .before .before .before .before .before .before .before .before .before .before .before .before .before .before .before .before .before .before .before .before .before .before .before .before .before .before .build-numbers .last .1 .1 .1 .1 .1 .1 .1 .0)) (store (a .tuples .now) (a .nexts .now)) (store (c .before .before .before .before .before .before .before .before .before .before .before .before .before .before .before .before .before .before .before .before .before .before .before .before .before .before .before .build-numbers .last .1 .1 .1 .0) (c .before .before .before .before .before .before .before .before .before .before .before .before .before .before .before .before .before .before .before .before .before .before .before .before .before .before .before .build-numbers .last .1 .1 .1 .1 .0)) (a .out .now) (c .before .before .before .before .before .before .before .before .before .before .before .before .before .before .before .built2 .given .0 .0) g (c .before .before .clear-bytes2 .last .0) b (omega (arith, c .before .before .before .before .before .before .before .before .before .before .before .before .before .listing-length .ensures)) q (c .before .before .clear-bytes2 .ensures)
+
+write-requires : tie.Need-write-requires
+write-requires c κs =
+    let a = c .before .before .before .before .before .before .before .before .before .before .before .before .before .before .before .before .before .before .before .before .before .before .before .before .before .before .before .before .before .before .before .args in
+    let A = automaton (a .a) (a .table .now) in
+    let b : BuildsNumbers A (a .room) (tables (a .word .now) (a .one .now) (a .other .now)) (tables (c .before .before .before .before .before .before .before .before .before .before .before .before .before .before .before .before .before .before .build-numbers .last .1 .1 .1 .1 .1 .0) (c .before .before .before .before .before .before .before .before .before .before .before .before .before .before .before .before .before .before .build-numbers .last .1 .1 .1 .1 .1 .1 .0) (c .before .before .before .before .before .before .before .before .before .before .before .before .before .before .before .before .before .before .build-numbers .last .1 .1 .1 .1 .1 .1 .1 .0)) (store (a .tuples .now) (a .nexts .now)) (store (c .before .before .before .before .before .before .before .before .before .before .before .before .before .before .before .before .before .before .build-numbers .last .1 .1 .1 .0) (c .before .before .before .before .before .before .before .before .before .before .before .before .before .before .before .before .before .before .build-numbers .last .1 .1 .1 .1 .0)) (Is (c .before .before .before .before .before .before .built2 .given .0 .0)) = rw (c .before .before .before .before .before .before .built2 .given .1) at (c .before .before .before .before .before .before .before .before .before .before .before .before .before .before .before .before .before .before .build-numbers .ensures) in
+    let s = numbers-sized A (a .room) (tables (a .word .now) (a .one .now) (a .other .now)) (tables (c .before .before .before .before .before .before .before .before .before .before .before .before .before .before .before .before .before .before .build-numbers .last .1 .1 .1 .1 .1 .0) (c .before .before .before .before .before .before .before .before .before .before .before .before .before .before .before .before .before .before .build-numbers .last .1 .1 .1 .1 .1 .1 .0) (c .before .before .before .before .before .before .before .before .before .before .before .before .before .before .before .before .before .before .build-numbers .last .1 .1 .1 .1 .1 .1 .1 .0)) (store (a .tuples .now) (a .nexts .now)) (store (c .before .before .before .before .before .before .before .before .before .before .before .before .before .before .before .before .before .before .build-numbers .last .1 .1 .1 .0) (c .before .before .before .before .before .before .before .before .before .before .before .before .before .before .before .before .before .before .build-numbers .last .1 .1 .1 .1 .0)) (a .out .now) (c .before .before .before .before .before .before .built2 .given .0 .0) b (c .before .before .before .before .before .before .before .before .before .before .before .before .before .before .before .before .before .before .build-numbers .kept .1 .1 .1 .0) (c .before .before .before .before .before .before .before .before .before .before .before .before .before .before .before .before .before .before .build-numbers .kept .1 .1 .1 .1 .0) in
+    let h = c .before .before .before .if2 .left in
+    (s, omega (arith, c .before .before .before .before .listing-length .ensures))
+
+same-length-12 : tie.Need-same-length-12
+same-length-12 c = search needs
+
+same-length-13 : tie.Need-same-length-13
+same-length-13 c = search needs
+
+same-length-14 : tie.Need-same-length-14
+same-length-14 c = search needs
+
+same-length-15 : tie.Need-same-length-15
+same-length-15 c = search needs
+
+same-length-16 : tie.Need-same-length-16
+same-length-16 c = search needs
+
+same-length-17 : tie.Need-same-length-17
+same-length-17 c = search needs
+
+returns-3 : tie.Need-returns-3
+returns-3 c =
+    let a = c .before .before .before .before .before .before .before .before .before .before .before .before .before .before .before .before .before .before .before .before .before .before .before .before .before .before .before .before .before .before .before .before .args in
+    let A = automaton (a .a) (a .table .now) in
+    let b : BuildsNumbers A (a .room) (tables (a .word .now) (a .one .now) (a .other .now)) (tables (c .before .before .before .before .before .before .before .before .before .before .before .before .before .before .before .before .before .before .before .build-numbers .last .1 .1 .1 .1 .1 .0) (c .before .before .before .before .before .before .before .before .before .before .before .before .before .before .before .before .before .before .before .build-numbers .last .1 .1 .1 .1 .1 .1 .0) (c .before .before .before .before .before .before .before .before .before .before .before .before .before .before .before .before .before .before .before .build-numbers .last .1 .1 .1 .1 .1 .1 .1 .0)) (store (a .tuples .now) (a .nexts .now)) (store (c .before .before .before .before .before .before .before .before .before .before .before .before .before .before .before .before .before .before .before .build-numbers .last .1 .1 .1 .0) (c .before .before .before .before .before .before .before .before .before .before .before .before .before .before .before .before .before .before .before .build-numbers .last .1 .1 .1 .1 .0)) (Refused (c .before .before .before .before .before .before .before .built .given .0 .0)) = rw (c .before .before .before .before .before .before .before .built .given .1) at (c .before .before .before .before .before .before .before .before .before .before .before .before .before .before .before .before .before .before .before .build-numbers .ensures) in
+    numbers-refused A (a .room) (tables (a .word .now) (a .one .now) (a .other .now)) (tables (c .before .before .before .before .before .before .before .before .before .before .before .before .before .before .before .before .before .before .before .build-numbers .last .1 .1 .1 .1 .1 .0) (c .before .before .before .before .before .before .before .before .before .before .before .before .before .before .before .before .before .before .before .build-numbers .last .1 .1 .1 .1 .1 .1 .0) (c .before .before .before .before .before .before .before .before .before .before .before .before .before .before .before .before .before .before .before .build-numbers .last .1 .1 .1 .1 .1 .1 .1 .0)) (store (a .tuples .now) (a .nexts .now)) (store (c .before .before .before .before .before .before .before .before .before .before .before .before .before .before .before .before .before .before .before .build-numbers .last .1 .1 .1 .0) (c .before .before .before .before .before .before .before .before .before .before .before .before .before .before .before .before .before .before .before .build-numbers .last .1 .1 .1 .1 .0)) (a .out .now) (c .before .before .before .before .before .before .before .built .given .0 .0) (c .before .before .clear-bytes .last .0) b (c .before .before .before .before .if1 .left) (c .before .before .clear-bytes .ensures)
+
+same-length-18 : tie.Need-same-length-18
+same-length-18 c = search needs
+
+same-length-19 : tie.Need-same-length-19
+same-length-19 c = search needs
+
+same-length-20 : tie.Need-same-length-20
+same-length-20 c = search needs
+
+same-length-21 : tie.Need-same-length-21
+same-length-21 c = search needs
+
+same-length-22 : tie.Need-same-length-22
+same-length-22 c = search needs
+
+same-length-23 : tie.Need-same-length-23
+same-length-23 c = search needs
+
+returns-4 : tie.Need-returns-4
+returns-4 c =
+    let a = c .before .before .before .before .before .before .before .before .before .before .before .before .before .before .before .before .before .before .before .before .before .before .before .before .before .before .before .before .before .before .before .before .before .before .args in
+    let A = automaton (a .a) (a .table .now) in
+    let b : BuildsNumbers A (a .room) (tables (a .word .now) (a .one .now) (a .other .now)) (tables (c .before .before .before .before .before .before .before .before .before .before .before .before .before .before .before .before .before .before .before .before .before .build-numbers .last .1 .1 .1 .1 .1 .0) (c .before .before .before .before .before .before .before .before .before .before .before .before .before .before .before .before .before .before .before .before .before .build-numbers .last .1 .1 .1 .1 .1 .1 .0) (c .before .before .before .before .before .before .before .before .before .before .before .before .before .before .before .before .before .before .before .before .before .build-numbers .last .1 .1 .1 .1 .1 .1 .1 .0)) (store (a .tuples .now) (a .nexts .now)) (store (c .before .before .before .before .before .before .before .before .before .before .before .before .before .before .before .before .before .before .before .before .before .build-numbers .last .1 .1 .1 .0) (c .before .before .before .before .before .before .before .before .before .before .before .before .before .before .before .before .before .before .before .before .before .build-numbers .last .1 .1 .1 .1 .0)) (Is (c .before .before .before .before .before .before .before .before .before .built2 .given .0 .0)) = rw (c .before .before .before .before .before .before .before .before .before .built2 .given .1) at (c .before .before .before .before .before .before .before .before .before .before .before .before .before .before .before .before .before .before .before .before .before .build-numbers .ensures) in
+    let e = c .before .before .before .before .before .before .before .listing-length .ensures in
+    let h = c .before .before .before .before .before .before .if2 .left in
+    rw e (numbers-bytes A (a .room) (tables (a .word .now) (a .one .now) (a .other .now)) (tables (c .before .before .before .before .before .before .before .before .before .before .before .before .before .before .before .before .before .before .before .before .before .build-numbers .last .1 .1 .1 .1 .1 .0) (c .before .before .before .before .before .before .before .before .before .before .before .before .before .before .before .before .before .before .before .before .before .build-numbers .last .1 .1 .1 .1 .1 .1 .0) (c .before .before .before .before .before .before .before .before .before .before .before .before .before .before .before .before .before .before .before .before .before .build-numbers .last .1 .1 .1 .1 .1 .1 .1 .0)) (store (a .tuples .now) (a .nexts .now)) (store (c .before .before .before .before .before .before .before .before .before .before .before .before .before .before .before .before .before .before .before .before .before .build-numbers .last .1 .1 .1 .0) (c .before .before .before .before .before .before .before .before .before .before .before .before .before .before .before .before .before .before .before .before .before .build-numbers .last .1 .1 .1 .1 .0)) (a .out .now) (c .before .before .before .before .before .before .before .before .before .built2 .given .0 .0) (c .before .before .write .last .0) b (omega arith) (c .before .before .write .ensures))
+
+pub list-numbers-spec : {M : Type 1} → statement M
+list-numbers-spec =
+    tie.close
+    (tie.spec
+    build-numbers-requires
+    enum-known-built
+    same-length
+    same-length-2
+    same-length-3
+    same-length-4
+    same-length-5
+    returns
+    clear-bytes-requires
+    enum-known-built-2
+    listing-length-requires
+    clear-requires
+    clear-requires-2
+    clear-bytes-requires-2
+    same-length-6
+    same-length-7
+    same-length-8
+    same-length-9
+    same-length-10
+    same-length-11
+    returns-2
+    write-requires
+    same-length-12
+    same-length-13
+    same-length-14
+    same-length-15
+    same-length-16
+    same-length-17
+    returns-3
+    same-length-18
+    same-length-19
+    same-length-20
+    same-length-21
+    same-length-22
+    same-length-23
+    returns-4)

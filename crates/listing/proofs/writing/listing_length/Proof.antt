@@ -1,0 +1,40 @@
+-- The product is small. Assumes nothing.
+use Prim.Native.Nat.{_-_}
+use mathlib.Core.Path.{refl}
+use native.Mathlib.Omega.{arith}
+use Rattle.listing.specs.PutLaws.{listing-small}
+use borrow.Author.Needs.{needs}
+use Rattle.listing.proofs.writing.listing_length.Statement.{statement}
+use Rattle.listing.proofs.writing.listing_length.Tie as tie
+
+mul-result : tie.Need-mul-result
+mul-result c = search needs
+
+mul-result-2 : tie.Need-mul-result-2
+mul-result-2 c = search needs
+
+add-result : tie.Need-add-result
+add-result c = search needs
+
+add-result-2 : tie.Need-add-result-2
+add-result-2 c = search needs
+
+mul-result-3 : tie.Need-mul-result-3
+mul-result-3 c =
+    let a = c .args in
+    let p = c .pre in
+    omega (arith, listing-small (a .n) (a .k) (a .count) (p .0) (p .1) (p .2))
+
+add-result-3 : tie.Need-add-result-3
+add-result-3 c =
+    let a = c .args in
+    let p = c .pre in
+    omega (arith, listing-small (a .n) (a .k) (a .count) (p .0) (p .1) (p .2))
+
+returns : tie.Need-returns
+returns c = refl
+
+pub listing-length-spec : {M : Type 1} → statement M
+listing-length-spec =
+    tie.close
+    (tie.spec mul-result mul-result-2 add-result add-result-2 mul-result-3 add-result-3 returns)

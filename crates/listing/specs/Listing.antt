@@ -1,0 +1,31 @@
+-- Document 01, "A whole listing": the text over the tables' cells.
+use Prim.Native.Nat.{ℕ, zero, suc, _+_, _*_}
+use mathlib.Core.List.{List, [], _∷_, _++_}
+use lib.ListN.{getD}
+use Rattle.text.specs.Bytes.{lf, endWord}
+use Rattle.text.specs.Column.{column}
+
+-- the columns, w wide, of a sequence's numbers from i on, of which there are `left`
+unfoldable pub columns : ℕ → (ℕ → ℕ) → ℕ → ℕ → List ℕ
+columns w f i zero = []
+columns w f i (suc left) = column w (f i) ++ columns w f (suc i) left
+
+-- "First line: TRACK, n (3), k (3), tuples (5)."
+unfoldable pub firstLine : ℕ → ℕ → ℕ → List ℕ
+firstLine n k count = (84 ∷ 82 ∷ 65 ∷ 67 ∷ 75 ∷ []) ++ (column 3 n ++ (column 3 k ++ (column 5 count ++ (lf ∷ []))))
+
+-- "Then for each tuple Q, number (5), colour (3), n sets (6 each), k next tuples (5 each)."
+unfoldable pub tupleLine : ℕ → ℕ → List ℕ → List ℕ → ℕ → List ℕ
+tupleLine n k tuples nexts t =
+    81 ∷ (column 5 t
+    ++ (column 3 (getD tuples (17 * t + 16) 0)
+    ++ (columns 6 (λ i. getD tuples (17 * t + i) 0) 0 n
+    ++ (columns 5 (λ l. getD nexts (8 * t + l) 0) 0 k ++ (lf ∷ [])))))
+
+unfoldable pub tupleLines : ℕ → ℕ → List ℕ → List ℕ → ℕ → ℕ → List ℕ
+tupleLines n k tuples nexts t zero = []
+tupleLines n k tuples nexts t (suc left) = tupleLine n k tuples nexts t ++ tupleLines n k tuples nexts (suc t) left
+
+-- "The last line is END."
+unfoldable pub listing : ℕ → ℕ → ℕ → List ℕ → List ℕ → List ℕ
+listing n k count tuples nexts = firstLine n k count ++ (tupleLines n k tuples nexts 0 count ++ (endWord ++ (lf ∷ [])))

@@ -1,0 +1,103 @@
+// The listing of a tracker.
+mod writing;
+
+use automaton::Numbers;
+use gate::Refusal;
+use tracker::Built;
+ghost use Rattle.automaton.specs.Automaton.{automaton};
+ghost use Rattle.automaton.specs.Lent.{tables};
+ghost use Rattle.tracker.specs.Build.{store};
+ghost use Rattle.listing.specs.List.{ListsNumbers, Lists};
+
+// The answer of listing: a refusal, or the count of bytes written.
+pub enum Listed {
+    Refused(Refusal),
+    Bytes(usize),
+}
+
+// The listing of the tracker of a sheet as numbers.
+pub fn list_numbers(
+    a: Numbers,
+    table: &[u16],
+    room: usize,
+    tuples: &mut [u16],
+    nexts: &mut [u16],
+    word: &mut [u16],
+    one: &mut [u16],
+    other: &mut [u16],
+    out: &mut [u8],
+) -> Listed
+    ensures { λ r. ⌜ ListsNumbers (automaton a (now (table .entry))) room (tables (now (word .entry)) (now (one .entry)) (now (other .entry))) (tables (now (word .exit)) (now (one .exit)) (now (other .exit))) (store (now (tuples .entry)) (now (nexts .entry))) (store (now (tuples .exit)) (now (nexts .exit))) (now (out .entry)) (now (out .exit)) r ⌝ }
+{
+    let built = tracker::build_numbers(a, table, room, tuples, nexts, word, one, other);
+    match built {
+        Built::Refused(r) => {
+            if r.number == 1 {
+                return Listed::Refused(r);
+            }
+            gate::clear_bytes(out);
+            Listed::Refused(r)
+        }
+        Built::Is(x) => {
+            let count = x.tuples;
+            let bytes = writing::listing_length(a.n, a.k, count);
+            if out.len() < bytes {
+                gate::clear(tuples);
+                gate::clear(nexts);
+                gate::clear_bytes(out);
+                return Listed::Refused(Refusal {
+                    number: 1,
+                    line: 0,
+                    length: 0,
+                });
+            }
+            writing::write(out, a.n, a.k, count, tuples, nexts);
+            Listed::Bytes(bytes)
+        }
+    }
+}
+
+// The listing of the tracker of a sheet file.
+pub fn list(
+    sheet: &[u8],
+    room: usize,
+    table: &mut [u16],
+    tuples: &mut [u16],
+    nexts: &mut [u16],
+    word: &mut [u16],
+    one: &mut [u16],
+    other: &mut [u16],
+    out: &mut [u8],
+) -> Listed
+    ensures { λ r. ⌜ Lists (now (sheet .entry)) room (now (table .entry)) (now (table .exit)) (tables (now (word .entry)) (now (one .entry)) (now (other .entry))) (tables (now (word .exit)) (now (one .exit)) (now (other .exit))) (store (now (tuples .entry)) (now (nexts .entry))) (store (now (tuples .exit)) (now (nexts .exit))) (now (out .entry)) (now (out .exit)) r ⌝ }
+{
+    let built = tracker::build(sheet, room, table, tuples, nexts, word, one, other);
+    match built {
+        Built::Refused(r) => {
+            if r.number == 1 {
+                return Listed::Refused(r);
+            }
+            gate::clear_bytes(out);
+            Listed::Refused(r)
+        }
+        Built::Is(x) => {
+            let n = x.numbers.n;
+            let k = x.numbers.k;
+            let count = x.tuples;
+            let bytes = writing::listing_length(n, k, count);
+            if out.len() < bytes {
+                gate::clear(table);
+                gate::clear(tuples);
+                gate::clear(nexts);
+                gate::clear_bytes(out);
+                return Listed::Refused(Refusal {
+                    number: 1,
+                    line: 0,
+                    length: 0,
+                });
+            }
+            writing::write(out, n, k, count, tuples, nexts);
+            Listed::Bytes(bytes)
+        }
+    }
+}

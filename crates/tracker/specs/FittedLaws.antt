@@ -1,0 +1,58 @@
+-- The cells of a tracker that is built: the sets and the colour of each tuple, and zero behind the last. Assumes nothing.
+use Prim.Native.Nat.{ℕ, _+_, _-_, _*_, _≤_, _<_}
+use mathlib.Core.Path.{_≡_, sym, ap, _∙_}
+use mathlib.Core.List.{List, _++_}
+use native.Mathlib.Omega.{arith}
+use lib.ListN.{length, getD, replicate}
+use lib.Seq.{getD-append-add}
+use Rattle.rows.specs.Rows.{rowAt}
+use Rattle.rows.specs.RowLaws.{part-at}
+use Rattle.automaton.specs.Automaton.{Automaton, Fits}
+use Rattle.tuple.specs.Step.{Tuple, setAt, first}
+use Rattle.tuple.specs.Row.{row}
+use Rattle.tuple.specs.TupleLaws.{Formed, first-formed, next-formed}
+use Rattle.tuple.specs.RowLaws.{formed-length, row-set, row-colour}
+use Rattle.tracker.specs.Numbering.{tupleAt, rows}
+use Rattle.tracker.specs.NumberingLaws.{reachable-all, numbering-reachable}
+use Rattle.tracker.specs.Build.{Store, Fitted}
+use Rattle.tracker.specs.FillLaws.{Whole, whole, rows-length, row-is, getD-zeros}
+
+module _ (A : Automaton) (fits : Fits A) (room m : ℕ) (v w : Store) (f : Fitted A room v w m) where
+  -- tuple t of the tracker
+  abbrev pub tuple : ℕ → Tuple
+  tuple t = tupleAt A (f .list) t
+
+  pub fitted-formed : (t : ℕ) → t < m → Formed A (tuple t)
+  fitted-formed t h =
+      let e = f .count-is in
+      reachable-all A (Formed A) (first-formed fits) (λ u l g k. next-formed fits l k u) (tuple t) (numbering-reachable A (f .list) (f .holds .numbering) t (omega arith))
+
+  fitted-whole : Whole (f .list)
+  fitted-whole = let e = f .count-is in whole (f .list) (first A) (λ i h. formed-length fits (fitted-formed i (omega arith)))
+
+  fitted-cell : (t j : ℕ) → t < m → j < 17 → getD (w .tuples) (17 * t + j) 0 ≡ getD (row (tuple t)) j 0
+  fitted-cell t j h k =
+      let e = f .count-is in
+      sym (part-at (w .tuples) (17 * t) j k)
+      ∙ ap (λ (l : List ℕ). getD l j 0)
+      (ap (λ (l : List ℕ). rowAt l t) (f .holds .tuples) ∙ row-is (f .list) (first A) (replicate (length (v .tuples) - 17 * length (f .list)) 0) t fitted-whole (omega arith))
+
+  few : (t : ℕ) → t < m → length (tuple t .sets) ≤ 16
+  few t h = let a = fitted-formed t h .few in let b = fits .range .1 in omega arith
+
+  pub fitted-set : (t i : ℕ) → t < m → i < 16 → getD (w .tuples) (17 * t + i) 0 ≡ setAt (tuple t .sets) i
+  fitted-set t i h k = fitted-cell t i h (omega arith) ∙ row-set (tuple t) (few t h) i k
+
+  pub fitted-colour : (t : ℕ) → t < m → getD (w .tuples) (17 * t + 16) 0 ≡ tuple t .colour
+  fitted-colour t h = fitted-cell t 16 h (omega arith) ∙ row-colour (tuple t) (few t h)
+
+  pub fitted-behind : (i : ℕ) → 17 * m ≤ i → getD (w .tuples) i 0 ≡ 0
+  fitted-behind i h =
+      let e = f .count-is in
+      let n = length (v .tuples) - 17 * length (f .list) in
+      let l : length (rows (f .list)) ≡ 17 * length (f .list) = rows-length (f .list) fitted-whole in
+      let j : i ≡ length (rows (f .list)) + (i - 17 * m) = omega arith in
+      ap (λ (l : List ℕ). getD l i 0) (f .holds .tuples)
+      ∙ ap (λ (i : ℕ). getD (rows (f .list) ++ replicate n 0) i 0) j
+      ∙ getD-append-add (rows (f .list)) (replicate n 0) (i - 17 * m) 0
+      ∙ getD-zeros n (i - 17 * m)
