@@ -1,6 +1,6 @@
 -- The verdict's contract from what its parts ensure. Assumes nothing.
-use Prim.Native.Nat.{ℕ, _+_, _≤_, _<_}
-use mathlib.Core.Path.{_≡_, sym, subst, _∙_}
+use Prim.Native.Nat.{ℕ, _+_, _<_}
+use mathlib.Core.Path.{_≡_, subst, _∙_}
 use mathlib.Core.List.{List}
 use mathlib.Core.Logic.{inl, inr}
 use lib.ListN.{length, length-append, List·getD-append}
@@ -8,8 +8,7 @@ use lib.Seq.{getD-append-add}
 use native.Mathlib.Omega.{arith}
 use Rattle.gate.specs.Gate.{cleared}
 use Rattle.gate.specs.declared.Refusal.{Refusal}
-use Rattle.automaton.specs.Automaton.{Automaton, Fits}
-use Rattle.automaton.specs.Lent.{Tables, tables, Long, clearedTables}
+use Rattle.automaton.specs.Lent.{Tables, tables, clearedTables}
 use Rattle.format.specs.Format.{Sheet, FileIs, numbers}
 use Rattle.format.specs.NumbersLaws.{sheet-fits}
 use Rattle.sheet.specs.Read.{Accepted}
@@ -17,15 +16,15 @@ use Rattle.plan.specs.Letter.{letterAt}
 use Rattle.plan.specs.LetterLaws.{letter-below}
 use Rattle.plan.specs.Plan.{PlanIs}
 use Rattle.plan.specs.ReadLaws.{known-below}
-use Rattle.tracker.specs.Build.{Store, store, RoomFits, Fitted, clearedStore, Builds}
+use Rattle.tracker.specs.Build.{Store, store, Fitted, clearedStore, Builds}
 use Rattle.tracker.specs.declared.Tracker.{Tracker}
 use Rattle.tracker.specs.declared.Built.the-variants as B
 use Rattle.judge.specs.declared.Outcome.the-variants.{Refused, Judged}
 use Rattle.judge.specs.declared.Verdict.{Verdict}
 use Rattle.judge.specs.Verdict.{SizesFit, Verdicts, Refusing, Judgement}
-use Rattle.judge.specs.TableRun.{NextsFit, TablesFit, TableJudges}
+use Rattle.judge.specs.TableRun.{TablesFit, TableJudges}
 use Rattle.judge.specs.Parts.{TooLong, PlanJudged}
-use Rattle.judge.specs.FollowLaws.{nexts-fit, judges}
+use Rattle.judge.specs.FollowLaws.{tables-fit, judges}
 use Rattle.judge.specs.SoundLaws.{sound}
 
 -- THE LETTERS of a plan are the sheet's
@@ -35,16 +34,6 @@ letters-below σ p lead cycle plan =
     (λ i l. subst (λ (x : ℕ). x < σ .k) (List·getD-append lead cycle 0 i l) (known-below σ (plan .known) i (rw (length-append lead cycle) (omega arith))))
     (λ i l. subst (λ (x : ℕ). x < σ .k) (getD-append-add lead cycle i 0) (known-below σ (plan .known) (length lead + i) (rw (length-append lead cycle) (omega arith))))
 
--- THE TABLES of a tracker are fit to be judged on
-pub tables-fit : {A : Automaton} (room : ℕ) (f g : Store) (count : ℕ) → Fits A → RoomFits room f → Fitted A room f g count
-    → length (g .tuples) ≡ length (f .tuples) → TablesFit (g .tuples) (g .nexts) count
-tables-fit {A} room f g count fits roomy fitted same = record {
-  numbers = subst (NextsFit (g .nexts)) (sym (fitted .count-is))
-      (nexts-fit fits (fitted .list) (fitted .holds .numbering) (g .nexts) (fitted .holds .nexts)
-      (omega (arith, fitted .count-is, fitted .room-is, roomy .most)) (omega (arith, fitted .count-is, fitted .room-is, roomy .nexts, fitted .holds .same)));
-  colours = omega (arith, fitted .room-is, roomy .tuples);
-}
-
 -- THE VERDICT on an accepted sheet's tracker
 pub verdicts : (s : List ℕ) (σ : Sheet) → Accepted s σ → (room : ℕ) (f g : Store) (count : ℕ) → Fitted (numbers σ) room f g count
     → (p lead cycle : List ℕ) (z : Verdict) → PlanIs σ p lead cycle
@@ -53,9 +42,7 @@ unfolding numbers
 verdicts s σ accepted room f g count fitted p lead cycle z plan table =
     let fits = sheet-fits s σ (accepted .file) in
     let letters = letters-below σ p lead cycle plan in
-    let judged =
-    judges fits (fitted .list) (fitted .holds .numbering) (g .nexts) (fitted .holds .nexts) (letterAt lead cycle) letters (g .tuples) _ (fitted .holds .tuples)
-    count (length lead) (length cycle) z table in
+    let judged = judges fits room count f g fitted (letterAt lead cycle) letters (length lead) (length cycle) z table in
     record {
       plan = plan;
       judged = judged;
@@ -92,7 +79,7 @@ module _ (s p : List ℕ) (room : ℕ) (t u : List ℕ) (v w : Tables) (f g : St
       pub built-tables : length (g .tuples) ≡ length (f .tuples) → TablesFit (g .tuples) (g .nexts) (x .tuples)
       built-tables same =
           let (a, l, k, (σ, accepted, are, is, fitted), y) = built in
-          tables-fit room f g (x .tuples) (sheet-fits s σ (accepted .file)) k fitted same
+          tables-fit (sheet-fits s σ (accepted .file)) room (x .tuples) f g fitted k same
 
       -- 12 to 14
       pub plan-refused : (r : Refusal) → ((σ : Sheet) → FileIs s σ → PlanJudged σ p (g .tuples) (g .nexts) (x .tuples) (Refused r))

@@ -1,5 +1,6 @@
 // Writes the sheet on standard input out again, with composed letters; or prints its refusal, with the two walks of a 10.
-use libc::{STDIN_FILENO, STDOUT_FILENO};
+use libc::STDIN_FILENO;
+use libc::STDOUT_FILENO;
 use writer::Written;
 
 fn wide(x: u16) -> u64 {
@@ -25,13 +26,7 @@ fn main() {
     let mut one = [0u16; 137];
     let mut other = [0u16; 137];
     let mut out = [0u8; 24576];
-    match writer::write(
-        &sheet[..n],
-        &mut word,
-        &mut one,
-        &mut other,
-        &mut out,
-    ) {
+    match writer::write(&sheet[..n], &mut word, &mut one, &mut other, &mut out) {
         Written::Bytes(m) => console::show(&out, m),
         Written::Refused(r) => {
             let line = report::refusal_line(r);

@@ -10,6 +10,10 @@ ghost use Rattle.rows.specs.Rows.{rowAt, mix, mixFrom, digestOf, Indexed
 pub const SAME: usize = 17;
 // All cells of a row.
 pub const CELLS: usize = 17;
+// How many digests there are.
+pub const DIGESTS: usize = 1024;
+// The most rows that an index takes.
+pub const MOST: usize = 1024;
 
 // A cell mixed into a number below 2^32.
 fn mixed(h: usize, x: u16) -> usize
@@ -82,7 +86,7 @@ fn put(table: &mut [u16], at: usize, row: &[u16])
     ensures { λ _. ⌜ now (table .exit) ≡ sets (now (table .entry)) at (now (row .entry)) ⌝ }
 {
     let mut i: usize = 0;
-    while i < SAME {
+    while i < row.len() {
         table[at + i] = row[i];
         i += 1;
     }
@@ -104,7 +108,7 @@ pub fn load(table: &[u16], t: usize, row: &mut [u16])
     ensures { λ _. ⌜ now (row .exit) ≡ rowAt (now (table .entry)) t ⌝ }
 {
     let mut i: usize = 0;
-    while i < SAME {
+    while i < row.len() {
         row[i] = table[CELLS * t + i];
         i += 1;
     }

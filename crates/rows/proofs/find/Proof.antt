@@ -1,5 +1,5 @@
 -- The walk along the chain of the digest passes no row that is looked for. Assumes nothing.
-use Prim.Native.Nat.{_-_, _/_, _<_}
+use Prim.Native.Nat.{_-_, _<_}
 use mathlib.Core.Path.{_≡_}
 use native.Mathlib.Omega.{arith}
 use Rattle.rows.specs.IndexLaws.{Walk, walk-begins, walk-goes, walk-ends, walk-finds}

@@ -8,7 +8,7 @@ use Rattle.gate.specs.Gate.{cleared}
 use Rattle.automaton.specs.Lent.{tables}
 use Rattle.sheet.specs.Read.{Reads}
 use Rattle.sheet.specs.declared.Read.the-variants.{Is}
-use Rattle.tracker.specs.Build.{store, clearedStore}
+use Rattle.tracker.specs.Build.{store}
 use Rattle.tracker.specs.BuildLaws.{enough-lent, file-short, file-refused, file-fits, file-over, file-is}
 use borrow.Author.Needs.{needs}
 use Rattle.tracker.proofs.build.Statement.{statement}
@@ -25,9 +25,6 @@ enum-known-read c = search needs
 
 clear-requires : tie.Need-clear-requires
 clear-requires c κs = search needs
-
-clear-requires-2 : tie.Need-clear-requires-2
-clear-requires-2 c κs = search needs
 
 same-length : tie.Need-same-length
 same-length c = search needs
@@ -49,15 +46,13 @@ same-length-6 c = search needs
 
 returns : tie.Need-returns
 returns c =
-    let a = c .before .before .before .before .before .before .before .before .before .before .before .before .before .before .before .before .before .before .before .before .before .before .before .before .before .before .before .before .before .before .before .before .before .args in
+    let a = c .before .before .before .before .before .before .before .before .before .before .before .before .before .before .before .before .before .before .before .before .before .before .before .before .before .before .before .before .before .before .before .before .args in
     let s = a .sheet .now in
     let t = a .table .now in
     let v = tables (a .word .now) (a .one .now) (a .other .now) in
     let f = store (a .tuples .now) (a .nexts .now) in
-    let e = c .before .before .before .before .before .before .before .before .before .before .before .before .before .before .before .before .before .before .before .before .before .before .before .before .before .enough .ensures .0 (c .before .before .before .before .before .before .before .before .before .before .before .before .before .before .before .before .before .before .before .before .before .before .before .before .if1 .taken) in
-    let g = store (c .before .before .before .before .before .before .clear .last .0) (c .before .before .clear2 .last .0) in
-    let q : g ≡ clearedStore f = cc (c .before .before .before .before .before .before .clear .ensures, c .before .before .clear2 .ensures) in
-    file-refused s (a .room) t v f e (c .before .before .before .before .before .before .before .before .before .before .before .before .before .before .before .before .before .before .before .read-sheet .last .1 .0) (tables (c .before .before .before .before .before .before .before .before .before .before .before .before .before .before .before .before .before .before .before .read-sheet .last .1 .1 .0) (c .before .before .before .before .before .before .before .before .before .before .before .before .before .before .before .before .before .before .before .read-sheet .last .1 .1 .1 .0) (c .before .before .before .before .before .before .before .before .before .before .before .before .before .before .before .before .before .before .before .read-sheet .last .1 .1 .1 .1 .0)) g (c .before .before .before .before .before .before .before .before .before .read .given .0 .0) (rw (c .before .before .before .before .before .before .before .before .before .read .given .1) at (c .before .before .before .before .before .before .before .before .before .before .before .before .before .before .before .before .before .before .before .read-sheet .ensures)) q
+    let e = c .before .before .before .before .before .before .before .before .before .before .before .before .before .before .before .before .before .before .before .before .before .before .before .before .enough .ensures .0 (c .before .before .before .before .before .before .before .before .before .before .before .before .before .before .before .before .before .before .before .before .before .before .before .if1 .taken) in
+    file-refused s (a .room) t v f e (c .before .before .before .before .before .before .before .before .before .before .before .before .before .before .before .before .before .before .read-sheet .last .1 .0) (tables (c .before .before .before .before .before .before .before .before .before .before .before .before .before .before .before .before .before .before .read-sheet .last .1 .1 .0) (c .before .before .before .before .before .before .before .before .before .before .before .before .before .before .before .before .before .before .read-sheet .last .1 .1 .1 .0) (c .before .before .before .before .before .before .before .before .before .before .before .before .before .before .before .before .before .before .read-sheet .last .1 .1 .1 .1 .0)) (store (c .before .before .before .before .clear .last .0) (c .before .before .before .before .clear .last .1 .0)) (c .before .before .before .before .before .before .before .before .read .given .0 .0) (rw (c .before .before .before .before .before .before .before .before .read .given .1) at (c .before .before .before .before .before .before .before .before .before .before .before .before .before .before .before .before .before .before .read-sheet .ensures)) (c .before .before .before .before .clear .ensures)
 
 enum-known-read-2 : tie.Need-enum-known-read-2
 enum-known-read-2 c = search needs
@@ -85,8 +80,8 @@ fit-requires c κs =
     let k : Reads s t (c .before .before .before .before .before .before .before .before .before .before .before .before .before .before .read-sheet .last .1 .0) v (tables (c .before .before .before .before .before .before .before .before .before .before .before .before .before .before .read-sheet .last .1 .1 .0) (c .before .before .before .before .before .before .before .before .before .before .before .before .before .before .read-sheet .last .1 .1 .1 .0) (c .before .before .before .before .before .before .before .before .before .before .before .before .before .before .read-sheet .last .1 .1 .1 .1 .0)) (Is (c .before .before .before .before .read2 .given .0 .0)) = rw (c .before .before .before .before .read2 .given .1) at (c .before .before .before .before .before .before .before .before .before .before .before .before .before .before .read-sheet .ensures) in
     (file-fits s (a .room) t v f e (c .before .before .before .before .before .before .before .before .before .before .before .before .before .before .read-sheet .last .1 .0) (tables (c .before .before .before .before .before .before .before .before .before .before .before .before .before .before .read-sheet .last .1 .1 .0) (c .before .before .before .before .before .before .before .before .before .before .before .before .before .before .read-sheet .last .1 .1 .1 .0) (c .before .before .before .before .before .before .before .before .before .before .before .before .before .before .read-sheet .last .1 .1 .1 .1 .0)) (c .before .before .before .before .read2 .given .0 .0) k, enough-lent (a .room) t v f e .2)
 
-clear-requires-3 : tie.Need-clear-requires-3
-clear-requires-3 c κs = search needs
+clear-requires-2 : tie.Need-clear-requires-2
+clear-requires-2 c κs = search needs
 
 same-length-7 : tie.Need-same-length-7
 same-length-7 c = search needs
@@ -115,9 +110,9 @@ returns-2 c =
     let f = store (a .tuples .now) (a .nexts .now) in
     let e = c .before .before .before .before .before .before .before .before .before .before .before .before .before .before .before .before .before .before .before .before .before .before .before .before .before .before .before .before .before .before .enough .ensures .0 (c .before .before .before .before .before .before .before .before .before .before .before .before .before .before .before .before .before .before .before .before .before .before .before .before .before .before .before .before .before .if1 .taken) in
     let k : Reads s t (c .before .before .before .before .before .before .before .before .before .before .before .before .before .before .before .before .before .before .before .before .before .before .before .before .read-sheet .last .1 .0) v (tables (c .before .before .before .before .before .before .before .before .before .before .before .before .before .before .before .before .before .before .before .before .before .before .before .before .read-sheet .last .1 .1 .0) (c .before .before .before .before .before .before .before .before .before .before .before .before .before .before .before .before .before .before .before .before .before .before .before .before .read-sheet .last .1 .1 .1 .0) (c .before .before .before .before .before .before .before .before .before .before .before .before .before .before .before .before .before .before .before .before .before .before .before .before .read-sheet .last .1 .1 .1 .1 .0)) (Is (c .before .before .before .before .before .before .before .before .before .before .before .before .before .before .read2 .given .0 .0)) = rw (c .before .before .before .before .before .before .before .before .before .before .before .before .before .before .read2 .given .1) at (c .before .before .before .before .before .before .before .before .before .before .before .before .before .before .before .before .before .before .before .before .before .before .before .before .read-sheet .ensures) in
-    let y : c .before .before .clear3 .last .0 ≡ cleared t = c .before .before .clear3 .ensures ∙ ap (λ (n : ℕ). replicate n 0) (c .before .before .before .before .before .before .before .before .before .before .before .before .before .before .before .before .before .before .before .before .before .before .before .before .read-sheet .kept .1 .0) in
+    let y : c .before .before .clear2 .last .0 ≡ cleared t = c .before .before .clear2 .ensures ∙ ap (λ (n : ℕ). replicate n 0) (c .before .before .before .before .before .before .before .before .before .before .before .before .before .before .before .before .before .before .before .before .before .before .before .before .read-sheet .kept .1 .0) in
     file-over s (a .room) t v f e (c .before .before .before .before .before .before .before .before .before .before .before .before .before .before .before .before .before .before .before .before .before .before .before .before .read-sheet .last .1 .0) (tables (c .before .before .before .before .before .before .before .before .before .before .before .before .before .before .before .before .before .before .before .before .before .before .before .before .read-sheet .last .1 .1 .0) (c .before .before .before .before .before .before .before .before .before .before .before .before .before .before .before .before .before .before .before .before .before .before .before .before .read-sheet .last .1 .1 .1 .0) (c .before .before .before .before .before .before .before .before .before .before .before .before .before .before .before .before .before .before .before .before .before .before .before .before .read-sheet .last .1 .1 .1 .1 .0)) (store (c .before .before .before .before .before .before .before .before .before .fit .last .1 .1 .1 .0) (c .before .before .before .before .before .before .before .before .before .fit .last .1 .1 .1 .1 .0)) (c .before .before .before .before .before .before .before .before .before .fit .result) (c .before .before .before .before .before .before .before .before .before .before .before .before .before .before .read2 .given .0 .0) k (c .before .before .before .before .before .before .before .before .before .fit .ensures) (c .before .before .before .before .if2 .taken)
-    (c .before .before .clear3 .last .0) y
+    (c .before .before .clear2 .last .0) y
 
 same-length-13 : tie.Need-same-length-13
 same-length-13 c = search needs
@@ -165,7 +160,6 @@ build-spec =
     read-sheet-requires
     enum-known-read
     clear-requires
-    clear-requires-2
     same-length
     same-length-2
     same-length-3
@@ -177,7 +171,7 @@ build-spec =
     slice-reshare-prefix-fit
     slice-aggregate-fit
     fit-requires
-    clear-requires-3
+    clear-requires-2
     same-length-7
     same-length-8
     same-length-9

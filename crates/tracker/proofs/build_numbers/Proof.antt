@@ -1,10 +1,10 @@
 -- Each answer is that of the questions on the way to it. Assumes nothing.
-use mathlib.Core.Path.{_≡_, refl}
+use mathlib.Core.Path.{refl}
 use Rattle.automaton.specs.Automaton.{automaton}
 use Rattle.automaton.specs.Lent.{tables}
 use Rattle.walks.specs.Check.{Checks}
 use Rattle.walks.specs.declared.Checked.the-variants.{Free}
-use Rattle.tracker.specs.Build.{store, clearedStore}
+use Rattle.tracker.specs.Build.{store}
 use Rattle.tracker.specs.BuildLaws.{enough-lent, numbers-short, numbers-refused, numbers-over, numbers-is}
 use borrow.Author.Needs.{needs}
 use Rattle.tracker.proofs.build_numbers.Statement.{statement}
@@ -21,9 +21,6 @@ enum-known-checked c = search needs
 
 clear-requires : tie.Need-clear-requires
 clear-requires c κs = search needs
-
-clear-requires-2 : tie.Need-clear-requires-2
-clear-requires-2 c κs = search needs
 
 same-length : tie.Need-same-length
 same-length c = search needs
@@ -42,14 +39,12 @@ same-length-5 c = search needs
 
 returns : tie.Need-returns
 returns c =
-    let a = c .before .before .before .before .before .before .before .before .before .before .before .before .before .before .before .before .before .before .before .before .before .before .before .before .before .before .before .before .before .args in
+    let a = c .before .before .before .before .before .before .before .before .before .before .before .before .before .before .before .before .before .before .before .before .before .before .before .before .before .before .before .before .args in
     let A = automaton (a .a) (a .table .now) in
     let v = tables (a .word .now) (a .one .now) (a .other .now) in
     let f = store (a .tuples .now) (a .nexts .now) in
-    let e = c .before .before .before .before .before .before .before .before .before .before .before .before .before .before .before .before .before .before .before .before .before .before .enough .ensures .0 (c .before .before .before .before .before .before .before .before .before .before .before .before .before .before .before .before .before .before .before .before .before .if1 .taken) in
-    let g = store (c .before .before .before .before .before .before .clear .last .0) (c .before .before .clear2 .last .0) in
-    let s : g ≡ clearedStore f = cc (c .before .before .before .before .before .before .clear .ensures, c .before .before .clear2 .ensures) in
-    numbers-refused A (a .room) v f e (tables (c .before .before .before .before .before .before .before .before .before .before .before .before .before .before .before .before .before .check .last .1 .1 .0) (c .before .before .before .before .before .before .before .before .before .before .before .before .before .before .before .before .before .check .last .1 .1 .1 .0) (c .before .before .before .before .before .before .before .before .before .before .before .before .before .before .before .before .before .check .last .1 .1 .1 .1 .0)) g (c .before .before .before .before .before .before .before .before .before .checked .given .0 .0) (rw (c .before .before .before .before .before .before .before .before .before .checked .given .1) at (c .before .before .before .before .before .before .before .before .before .before .before .before .before .before .before .before .before .check .ensures)) s
+    let e = c .before .before .before .before .before .before .before .before .before .before .before .before .before .before .before .before .before .before .before .before .before .enough .ensures .0 (c .before .before .before .before .before .before .before .before .before .before .before .before .before .before .before .before .before .before .before .before .if1 .taken) in
+    numbers-refused A (a .room) v f e (tables (c .before .before .before .before .before .before .before .before .before .before .before .before .before .before .before .before .check .last .1 .1 .0) (c .before .before .before .before .before .before .before .before .before .before .before .before .before .before .before .before .check .last .1 .1 .1 .0) (c .before .before .before .before .before .before .before .before .before .before .before .before .before .before .before .before .check .last .1 .1 .1 .1 .0)) (store (c .before .before .before .before .clear .last .0) (c .before .before .before .before .clear .last .1 .0)) (c .before .before .before .before .before .before .before .before .checked .given .0 .0) (rw (c .before .before .before .before .before .before .before .before .checked .given .1) at (c .before .before .before .before .before .before .before .before .before .before .before .before .before .before .before .before .check .ensures)) (c .before .before .before .before .clear .ensures)
 
 enum-told : tie.Need-enum-told
 enum-told c = search needs
@@ -131,7 +126,6 @@ build-numbers-spec =
     check-requires
     enum-known-checked
     clear-requires
-    clear-requires-2
     same-length
     same-length-2
     same-length-3

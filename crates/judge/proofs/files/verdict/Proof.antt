@@ -155,10 +155,10 @@ returns-3 c =
     built-refused s p (a .room) t u v w f g sizes r (rw (c .before .r .given .1) at (c .before .before .before .before .before .before .before .before .before .before .before .before .before .before .before .build .ensures))
 
 same-length-19 : tie.Need-same-length-19
-same-length-19 c = c .before .before .before .before .before .before .before .before .before .before .clear .kept .0 ∙ c .before .before .before .before .before .before .before .before .before .before .before .before .before .before .before .before .before .before .before .before .before .before .before .before .before .before .before .before .before .before .before .before .before .build .kept .1 .1 .0
+same-length-19 c = omega (arith, c .before .before .before .before .before .before .before .before .before .before .clear .kept .0, c .before .before .before .before .before .before .clear2 .kept .0, c .before .before .before .before .before .before .before .before .before .before .before .before .before .before .before .before .before .before .before .before .before .before .before .before .before .before .before .before .before .before .before .before .before .build .kept .1 .1 .0)
 
 same-length-20 : tie.Need-same-length-20
-same-length-20 c = c .before .before .before .before .before .before .clear2 .kept .0 ∙ c .before .before .before .before .before .before .before .before .before .before .before .before .before .before .before .before .before .before .before .before .before .before .before .before .before .before .before .before .before .before .before .before .before .build .kept .1 .1 .1 .0
+same-length-20 c = omega (arith, c .before .before .before .before .before .before .before .before .before .before .clear .kept .0, c .before .before .before .before .before .before .clear2 .kept .0, c .before .before .before .before .before .before .before .before .before .before .before .before .before .before .before .before .before .before .before .before .before .before .before .before .before .before .before .before .before .before .before .before .before .build .kept .1 .1 .1 .0)
 
 same-length-21 : tie.Need-same-length-21
 same-length-21 c = search needs

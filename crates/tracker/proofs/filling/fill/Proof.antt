@@ -1,5 +1,5 @@
 -- The tables hold what is found before each step, and behind the last step it is all. Assumes nothing.
-use Prim.Native.Nat.{_+_, _-_, _*_, _/_}
+use Prim.Native.Nat.{_+_, _-_, _*_}
 use mathlib.Core.Path.{_≡_, refl, sym, _∙_}
 use native.Mathlib.Omega.{arith}
 use lib.ListN.{length}
@@ -8,8 +8,8 @@ use Rattle.tracker.specs.Build.{store}
 use Rattle.tracker.specs.Fill.{Filled}
 use Rattle.tracker.specs.FillLaws.{filled-begins, fills-over, fills-all}
 use borrow.Author.Needs.{needs}
-use Rattle.tracker.proofs.fill.Statement.{statement}
-use Rattle.tracker.proofs.fill.Tie as tie
+use Rattle.tracker.proofs.filling.fill.Statement.{statement}
+use Rattle.tracker.proofs.filling.fill.Tie as tie
 
 abbrev Inv-loop : tie.InvT-loop
 Inv-loop a table room tuples₀ nexts₀ head₀ link₀ m₀ c₀ tuples nexts head link m c = Filled (automaton a table) room c m tuples nexts head link × (length tuples ≡ length tuples₀) × (length nexts ≡ length nexts₀)

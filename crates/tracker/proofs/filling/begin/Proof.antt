@@ -8,8 +8,8 @@ use Rattle.rows.specs.IndexLaws.{indexed-none}
 use Rattle.tuple.specs.Row.{row}
 use Rattle.tracker.specs.Fill.{firstCells}
 use borrow.Author.Needs.{needs}
-use Rattle.tracker.proofs.begin.Statement.{statement}
-use Rattle.tracker.proofs.begin.Tie as tie
+use Rattle.tracker.proofs.filling.begin.Statement.{statement}
+use Rattle.tracker.proofs.filling.begin.Tie as tie
 
 array-write-w : tie.Need-array-write-w
 array-write-w c = search needs

@@ -1,13 +1,13 @@
 -- Each way through the step answers as the laws of the tables say. Assumes nothing.
-use Prim.Native.Nat.{_-_, _/_}
+use Prim.Native.Nat.{_-_}
 use mathlib.Core.Path.{refl}
 use native.Mathlib.Omega.{arith}
 use Rattle.automaton.specs.Automaton.{automaton}
 use Rattle.tracker.specs.Fill.{Taken}
 use Rattle.tracker.specs.FillLaws.{fill-steps, goes-skip, goes-old, goes-new, goes-over}
 use borrow.Author.Needs.{needs}
-use Rattle.tracker.proofs.expand.Statement.{statement}
-use Rattle.tracker.proofs.expand.Tie as tie
+use Rattle.tracker.proofs.filling.expand.Statement.{statement}
+use Rattle.tracker.proofs.filling.expand.Tie as tie
 
 returns : tie.Need-returns
 returns c =

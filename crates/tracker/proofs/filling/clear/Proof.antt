@@ -1,0 +1,26 @@
+-- Each table is cleared. Assumes nothing.
+use Rattle.tracker.specs.Build.{store}
+use borrow.Author.Needs.{needs}
+use Rattle.tracker.proofs.filling.clear.Statement.{statement}
+use Rattle.tracker.proofs.filling.clear.Tie as tie
+
+clear-requires : tie.Need-clear-requires
+clear-requires c κs = search needs
+
+clear-requires-2 : tie.Need-clear-requires-2
+clear-requires-2 c κs = search needs
+
+same-length : tie.Need-same-length
+same-length c = search needs
+
+same-length-2 : tie.Need-same-length-2
+same-length-2 c = search needs
+
+returns : tie.Need-returns
+returns c =
+    let t = c .before .before .before .before .before .before .clear .ensures in
+    let n = c .before .before .clear2 .ensures in
+    λ i. store (t i) (n i)
+
+pub clear-spec : {M : Type 1} → statement M
+clear-spec = tie.close (tie.spec clear-requires clear-requires-2 same-length same-length-2 returns)
