@@ -34,7 +34,10 @@ fn judges_agree() {
         if walks::shortest_meeting(&s).is_some() {
             continue;
         }
-        let Some(t) = tuples::build(&s, ROOM) else { continue };
+        let t = match tuples::build(&s, ROOM) {
+            Some(t) => t,
+            None => continue,
+        };
         for _ in 0..5 {
             let p = families::plan(&mut r, s.k);
             assert_eq!(tuples::verdict(&t, &p).0, product::passes(&s, &p));

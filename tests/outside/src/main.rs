@@ -176,7 +176,7 @@ impl Bench {
 
 fn main() {
     let mut args = std::env::args().skip(1).peekable();
-    if args.peek().is_some_and(|x| x == "cases") {
+    if args.peek().map_or(false, |x| x == "cases") {
         let folders: Vec<PathBuf> = args.skip(1).map(PathBuf::from).collect();
         return cases::write(&folders[0], &folders[1]);
     }

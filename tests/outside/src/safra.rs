@@ -64,7 +64,10 @@ fn successor(s: &Sheet, tree: &Tree, l: usize) -> Tree {
     }
     // 6. Mark
     for name in t.keys().copied().collect::<Vec<_>>() {
-        let Some(node) = t.get(&name) else { continue };
+        if !t.contains_key(&name) {
+            continue;
+        }
+        let node = &t[&name];
         let children = node.children.clone();
         let union: BTreeSet<usize> = children.iter().flat_map(|c| t[c].label.iter().copied()).collect();
         if union == node.label {
@@ -106,7 +109,7 @@ pub fn rabin(s: &Sheet, room: usize) -> Option<Rabin> {
     }
     let pairs = (0..2 * s.n)
         .map(|x| {
-            let marked = trees.iter().map(|t| t.get(&x).is_some_and(|n| n.marked)).collect();
+            let marked = trees.iter().map(|t| t.get(&x).map_or(false, |n| n.marked)).collect();
             let absent = trees.iter().map(|t| !t.contains_key(&x)).collect();
             (marked, absent)
         })

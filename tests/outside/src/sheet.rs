@@ -130,7 +130,7 @@ pub fn read_sheet(bytes: &[u8]) -> Result<Sheet, No> {
         let text = line(at).filter(|t| t.len() == 10).ok_or((8, at))?;
         let part = |a: usize| number(&text[a..a + 3]).ok_or((8, at));
         let t = (part(1)?, part(4)?, part(7)?);
-        if t.0 >= n || t.1 >= k || t.2 >= n || last.is_some_and(|u| t <= u) {
+        if t.0 >= n || t.1 >= k || t.2 >= n || last.map_or(false, |u| t <= u) {
             return Err((8, at));
         }
         next[t.0][t.1].push(t.2);
