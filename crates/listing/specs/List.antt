@@ -1,10 +1,10 @@
 -- What listing a tracker answers, and what the lent tables hold then. The length of the buffer is asked last of all.
 use Prim.Native.Nat.{ℕ, _-_, _≤_, _<_}
 use mathlib.Core.Path.{_≡_}
-use mathlib.Core.List.{List, _++_}
+use mathlib.Core.List.{List}
 use mathlib.Core.Logic.{_⊎_}
-use lib.ListN.{length, replicate}
-use Rattle.gate.specs.Gate.{refusal, cleared}
+use lib.ListN.{length}
+use Rattle.gate.specs.Gate.{refusal, cleared, lentText}
 use Rattle.automaton.specs.Automaton.{Automaton, Fits}
 use Rattle.automaton.specs.Meeting.{Free, Everywhere}
 use Rattle.automaton.specs.Lent.{Tables, Long, clearedTables, NumbersRefuse}
@@ -15,10 +15,6 @@ use Rattle.tracker.specs.Build.{Store, RoomFits, Fitted, clearedStore}
 use Rattle.listing.specs.declared.Listed.{Listed}
 use Rattle.listing.specs.declared.Listed.the-variants.{Refused, Bytes}
 use Rattle.listing.specs.Listing.{listing}
-
--- a text in a lent buffer: zero behind it
-abbrev pub lentText : List ℕ → List ℕ → List ℕ
-lentText text out = text ++ replicate (length out - length text) 0
 
 -- the listing of a tracker that is built in g
 abbrev pub listingOf : Automaton → ℕ → Store → List ℕ

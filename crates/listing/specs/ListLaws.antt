@@ -1,33 +1,24 @@
 -- The answers of listing, one by one. Assumes nothing.
-use Prim.Native.Nat.{ℕ, _+_, _-_, _≤_, _<_}
+use Prim.Native.Nat.{ℕ, _-_, _≤_, _<_}
 use mathlib.Core.Path.{_≡_, refl, sym, ap, _∙_}
-use mathlib.Core.List.{List, _++_}
+use mathlib.Core.List.{List}
 use mathlib.Core.Logic.{inl, inr}
 use native.Mathlib.Omega.{arith}
-use lib.ListN.{length, drop, length-replicate}
-use lib.Seq.{sets, sets-eq}
-use Rattle.gate.specs.Gate.{refusal, cleared}
+use lib.ListN.{length}
+use Rattle.gate.specs.Gate.{refusal, cleared, lentText}
 use Rattle.gate.specs.declared.Refusal.{Refusal}
 use Rattle.automaton.specs.Automaton.{Automaton, InRange, FirstNo}
 use Rattle.automaton.specs.Lent.{Tables, NumbersRefuse}
 use Rattle.format.specs.Format.{Faulty, numbers}
 use Rattle.sheet.specs.Read.{Refuses}
 use Rattle.tracker.specs.Build.{Store, clearedStore, RoomFits, Fitted, BuildsNumbers, Builds}
-use Rattle.tracker.specs.FillLaws.{drop-zeros}
 use Rattle.tracker.specs.declared.Tracker.{Tracker}
 use Rattle.tracker.specs.declared.Built.the-variants.{Refused as BuildRefused, Is}
 use Rattle.listing.specs.declared.Listed.the-variants.{Refused, Bytes}
 use Rattle.listing.specs.Listing.{listing}
-use Rattle.listing.specs.List.{lentText, listingOf, ListsNumbers, Lists}
+use Rattle.listing.specs.List.{listingOf, ListsNumbers, Lists}
 use Rattle.listing.specs.Put.{listingBytes, Sized}
 use Rattle.listing.specs.PutLaws.{listing-length}
-
--- a text written into a cleared buffer
-pub lent-text : (text out : List ℕ) → length text ≤ length out → sets (cleared out) 0 text ≡ lentText text out
-lent-text text out h =
-    let e : length (cleared out) ≡ length out = length-replicate {A = ℕ} (length out) 0 in
-    let z : 0 + length text ≡ length text = omega arith in
-    sets-eq text (cleared out) 0 (omega arith) ∙ ap (λ (n : ℕ). text ++ drop n (cleared out)) z ∙ ap (λ (l : List ℕ). text ++ l) (drop-zeros (length text) (length out))
 
 -- what writing asks of a tracker that was built
 pub sized : (A : Automaton) (room count : ℕ) (f g : Store) → InRange (A .n) (A .k) → RoomFits room f → Fitted A room f g count

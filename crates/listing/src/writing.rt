@@ -4,7 +4,7 @@ ghost use Prim.Native.Nat.{_+_, _*_, _≤_};
 ghost use lib.ListN.{length};
 ghost use lib.Seq.{sets};
 ghost use Rattle.listing.specs.Listing.{columns, firstLine, tupleLine, tupleLines, listing};
-ghost use Rattle.listing.specs.List.{lentText};
+ghost use Rattle.gate.specs.Gate.{lentText};
 ghost use Rattle.listing.specs.Put.{cellsFrom, CellsFit, lineBytes, listingBytes, Sized};
 
 // How many bytes a listing has.

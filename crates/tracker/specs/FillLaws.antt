@@ -3,12 +3,12 @@ use Prim.Native.Nat.{ℕ, zero, suc, _+_, _-_, _*_, _/_, _%_, _≤_, _<_}
 use mathlib.Core.Path.{_≡_, refl, sym, ap, subst, _∙_}
 use mathlib.Core.List.{List, [], _∷_, _++_, append-assoc, append-nil}
 use native.Mathlib.Decide.{ℕ-discrete}
-use native.Mathlib.Nat.{sub-zero, zero-sub, suc-sub-suc}
 use native.Mathlib.Numerals.{add-one}
 use native.Mathlib.Omega.{arith}
 use borrow.Author.Tests.{eq-eqb, ne-eqb}
-use lib.ListN.{length, getD, drop, set, replicate, length-append, length-set, length-replicate}
+use lib.ListN.{length, getD, set, replicate, length-append, length-set, length-replicate}
 use lib.Seq.{take-at, drop-at, drop-drop, sets, sets-eq, length-sets, getD-set-same, getD-set-other}
+use Rattle.gate.specs.GateLaws.{drop-zeros}
 use Rattle.rows.specs.Rows.{rowAt, Found, Added}
 use Rattle.automaton.specs.Automaton.{Automaton, Fits}
 use Rattle.gate.specs.Gate.{cleared}
@@ -25,11 +25,6 @@ use Rattle.tracker.specs.Build.{Store, store, clearedStore, RoomFits, Fi
 use Rattle.tracker.specs.Fill.{NextsBefore, Filled, Taken, Goes, firstCells, Filling, Fills}
 
 -- ROWS
-
-pub drop-zeros : (i n : ℕ) → drop {A = ℕ} i (replicate n 0) ≡ replicate (n - i) 0
-drop-zeros zero n = rw sub-zero refl
-drop-zeros (suc i) zero = rw zero-sub refl
-drop-zeros (suc i) (suc n) = rw suc-sub-suc (drop-zeros i n)
 
 pub getD-zeros : (n i : ℕ) → getD {A = ℕ} (replicate n 0) i 0 ≡ 0
 getD-zeros zero i = refl

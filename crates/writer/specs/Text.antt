@@ -4,7 +4,7 @@ use mathlib.Core.Path.{_≡_}
 use mathlib.Core.List.{List, _++_}
 use mathlib.Core.Logic.{_⊎_}
 use lib.ListN.{length}
-use Rattle.gate.specs.Gate.{refusal, cleared}
+use Rattle.gate.specs.Gate.{refusal, cleared, lentText}
 use Rattle.gate.specs.declared.Refusal.{Refusal}
 use Rattle.automaton.specs.Automaton.{Automaton}
 use Rattle.automaton.specs.Lent.{Tables}
@@ -14,7 +14,6 @@ use Rattle.format.specs.Format.{Sheet, FileIs, written, headLine, nameLines, st
 use Rattle.writer.specs.declared.Written.{Written}
 use Rattle.writer.specs.declared.Written.the-variants.{Refused, Bytes}
 use Rattle.writer.specs.RowNames.{rowNames}
-use Rattle.writer.specs.Write.{lentText}
 
 -- the text of an automaton with names that are composed
 unfoldable pub textOf : Automaton → List (List ℕ) → List ℕ

@@ -1,12 +1,9 @@
--- The text is its parts, stored one behind the other; in a cleared buffer zeros lie behind it. Assumes nothing.
-use Prim.Native.Nat.{ℕ, zero, suc, _+_, _-_, _*_, _≤_}
+-- The text is its parts, stored one behind the other. Assumes nothing.
+use Prim.Native.Nat.{ℕ, _+_, _-_, _*_}
 use mathlib.Core.Path.{_≡_, sym, ap, _∙_}
 use mathlib.Core.List.{List, map, append-assoc}
-use native.Mathlib.Omega.{arith}
-use native.Mathlib.Nat.{zero-add, sub-zero, zero-sub}
-use lib.ListN.{length, replicate, drop, length-append, length-replicate}
-use lib.Seq.{sets, sets-eq}
-use Rattle.gate.specs.Gate.{cleared}
+use lib.ListN.{length, length-append}
+use lib.Seq.{sets}
 use Rattle.text.specs.SetsLaws.{sets-append}
 use Rattle.names.specs.Name.{compose}
 use Rattle.automaton.specs.Automaton.{Automaton}
@@ -14,7 +11,6 @@ use Rattle.format.specs.Format.{headLine, nameLines, stateLines, transitionLine
 use Rattle.format.specs.FormatLaws.{head-length, states-length, transitions-length}
 use Rattle.writer.specs.LengthLaws.{statesOf-length}
 use Rattle.writer.specs.Text.{textOf}
-use Rattle.writer.specs.Write.{lentText}
 
 pub text-written : (A : Automaton) (names : List (List ℕ)) → textOf A (map compose names) ≡ written A names
 unfolding textOf written writtenSheet lines
@@ -41,14 +37,3 @@ module _ (A : Automaton) (names : List (List ℕ)) where
   unfolding textOf
   text-stored out e₁ e₂ f e₃ g e₄ h e₅ =
       rw (e₅, e₄, h, e₃, g, e₂, f, e₁, sets-append (headLine (A .n) (A .k)), sets-append (nameLines 0 names), sets-append (stateLines 0 (statesOf (A .initial) (A .recurring) 0 (A .n))), sets-append (transitionLines (transitionsOf (A .table) 0 2048)), head-length, states-length, transitions-length, statesOf-length)
-
-zeros-behind : (m n : ℕ) → drop m (replicate {A = ℕ} n 0) ≡ replicate (n - m) 0
-zeros-behind zero n = rw sub-zero
-zeros-behind (suc m) zero = rw (zero-sub (suc m))
-zeros-behind (suc m) (suc n) = zeros-behind m n ∙ ap (λ (k : ℕ). replicate {A = ℕ} k 0) (let e : n - m ≡ suc n - suc m = omega arith in e)
-
--- a text that fits, in a cleared buffer
-pub text-lent : (text out : List ℕ) → length text ≤ length out → sets (cleared out) 0 text ≡ lentText text out
-text-lent text out h =
-    let e : 0 + length text ≡ length text = zero-add (length text) in
-    sets-eq text (cleared out) 0 (rw (e, length-replicate) h) ∙ rw (e, zeros-behind (length text) (length out))

@@ -1,10 +1,10 @@
 -- What writing a sheet answers, and what the lent tables hold then.
 use Prim.Native.Nat.{ℕ, _-_, _≤_, _<_}
 use mathlib.Core.Path.{_≡_}
-use mathlib.Core.List.{List, _++_}
+use mathlib.Core.List.{List}
 use mathlib.Core.Logic.{_⊎_}
-use lib.ListN.{length, replicate}
-use Rattle.gate.specs.Gate.{refusal, cleared}
+use lib.ListN.{length}
+use Rattle.gate.specs.Gate.{refusal, cleared, lentText}
 use Rattle.automaton.specs.Automaton.{Automaton, Fits}
 use Rattle.automaton.specs.Meeting.{Free, Everywhere}
 use Rattle.writer.specs.declared.Written.{Written}
@@ -12,10 +12,6 @@ use Rattle.writer.specs.declared.Written.the-variants.{Refused, Bytes}
 use Rattle.format.specs.Format.{Sheet, numbers, written}
 use Rattle.automaton.specs.Lent.{Tables, Long, clearedTables, NumbersRefuse}
 use Rattle.sheet.specs.Read.{Accepted, Refuses}
-
--- a text in a lent buffer: zero behind it
-abbrev pub lentText : List ℕ → List ℕ → List ℕ
-lentText text out = text ++ replicate (length out - length text) 0
 
 -- WRITING FROM A FILE: "The writer writes composed letters". The buffer was b and is c then; its length is asked last of all.
 abbrev pub Writes : List ℕ → Tables → Tables → List ℕ → List ℕ → Written → Type 0

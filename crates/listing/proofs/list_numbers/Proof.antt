@@ -36,10 +36,19 @@ same-length-5 c = search needs
 
 returns : tie.Need-returns
 returns c =
-    let a = c .before .before .before .before .before .before .before .before .before .before .before .before .before .before .before .before .before .before .before .before .before .before .before .before .before .before .before .before .args in
+    let told = c .before .before .before in
+    let built = told .before .before .before .before .before .before .before .before .before .before .before .before in
+    let start = built .before .before .before .before .before .before .before .before .before .before .before .before .before in
+    let a = start .args in
     let A = automaton (a .a) (a .table .now) in
-    let b : BuildsNumbers A (a .room) (tables (a .word .now) (a .one .now) (a .other .now)) (tables (c .before .before .before .before .before .before .before .before .before .before .before .before .before .before .before .build-numbers .last .1 .1 .1 .1 .1 .0) (c .before .before .before .before .before .before .before .before .before .before .before .before .before .before .before .build-numbers .last .1 .1 .1 .1 .1 .1 .0) (c .before .before .before .before .before .before .before .before .before .before .before .before .before .before .before .build-numbers .last .1 .1 .1 .1 .1 .1 .1 .0)) (store (a .tuples .now) (a .nexts .now)) (store (c .before .before .before .before .before .before .before .before .before .before .before .before .before .before .before .build-numbers .last .1 .1 .1 .0) (c .before .before .before .before .before .before .before .before .before .before .before .before .before .before .before .build-numbers .last .1 .1 .1 .1 .0)) (Refused (c .before .before .before .built .given .0 .0)) = rw (c .before .before .before .built .given .1) at (c .before .before .before .before .before .before .before .before .before .before .before .before .before .before .before .build-numbers .ensures) in
-    numbers-first A (a .room) (tables (a .word .now) (a .one .now) (a .other .now)) (tables (c .before .before .before .before .before .before .before .before .before .before .before .before .before .before .before .build-numbers .last .1 .1 .1 .1 .1 .0) (c .before .before .before .before .before .before .before .before .before .before .before .before .before .before .before .build-numbers .last .1 .1 .1 .1 .1 .1 .0) (c .before .before .before .before .before .before .before .before .before .before .before .before .before .before .before .build-numbers .last .1 .1 .1 .1 .1 .1 .1 .0)) (store (a .tuples .now) (a .nexts .now)) (store (c .before .before .before .before .before .before .before .before .before .before .before .before .before .before .before .build-numbers .last .1 .1 .1 .0) (c .before .before .before .before .before .before .before .before .before .before .before .before .before .before .before .build-numbers .last .1 .1 .1 .1 .0)) (a .out .now) (c .before .before .before .built .given .0 .0) b (c .if1 .taken)
+    let v = tables (a .word .now) (a .one .now) (a .other .now) in
+    let f = store (a .tuples .now) (a .nexts .now) in
+    let m = built .build-numbers in
+    let w = tables (m .last .1 .1 .1 .1 .1 .0) (m .last .1 .1 .1 .1 .1 .1 .0) (m .last .1 .1 .1 .1 .1 .1 .1 .0) in
+    let g = store (m .last .1 .1 .1 .0) (m .last .1 .1 .1 .1 .0) in
+    let r = told .built .given in
+    let b : BuildsNumbers A (a .room) v w f g (Refused (r .0 .0)) = rw (r .1) at (m .ensures) in
+    numbers-first A (a .room) v w f g (a .out .now) (r .0 .0) b (c .if1 .taken)
 
 clear-bytes-requires : tie.Need-clear-bytes-requires
 clear-bytes-requires c κs = search needs
@@ -49,10 +58,19 @@ enum-known-built-2 c = search needs
 
 listing-length-requires : tie.Need-listing-length-requires
 listing-length-requires c κs =
-    let a = c .before .before .before .before .before .before .before .before .before .before .before .before .before .before .before .before .before .before .before .before .before .before .before .before .before .before .args in
+    let told = c .before in
+    let built = told .before .before .before .before .before .before .before .before .before .before .before .before in
+    let start = built .before .before .before .before .before .before .before .before .before .before .before .before .before in
+    let a = start .args in
     let A = automaton (a .a) (a .table .now) in
-    let b : BuildsNumbers A (a .room) (tables (a .word .now) (a .one .now) (a .other .now)) (tables (c .before .before .before .before .before .before .before .before .before .before .before .before .before .build-numbers .last .1 .1 .1 .1 .1 .0) (c .before .before .before .before .before .before .before .before .before .before .before .before .before .build-numbers .last .1 .1 .1 .1 .1 .1 .0) (c .before .before .before .before .before .before .before .before .before .before .before .before .before .build-numbers .last .1 .1 .1 .1 .1 .1 .1 .0)) (store (a .tuples .now) (a .nexts .now)) (store (c .before .before .before .before .before .before .before .before .before .before .before .before .before .build-numbers .last .1 .1 .1 .0) (c .before .before .before .before .before .before .before .before .before .before .before .before .before .build-numbers .last .1 .1 .1 .1 .0)) (Is (c .before .built2 .given .0 .0)) = rw (c .before .built2 .given .1) at (c .before .before .before .before .before .before .before .before .before .before .before .before .before .build-numbers .ensures) in
-    let s = numbers-sized A (a .room) (tables (a .word .now) (a .one .now) (a .other .now)) (tables (c .before .before .before .before .before .before .before .before .before .before .before .before .before .build-numbers .last .1 .1 .1 .1 .1 .0) (c .before .before .before .before .before .before .before .before .before .before .before .before .before .build-numbers .last .1 .1 .1 .1 .1 .1 .0) (c .before .before .before .before .before .before .before .before .before .before .before .before .before .build-numbers .last .1 .1 .1 .1 .1 .1 .1 .0)) (store (a .tuples .now) (a .nexts .now)) (store (c .before .before .before .before .before .before .before .before .before .before .before .before .before .build-numbers .last .1 .1 .1 .0) (c .before .before .before .before .before .before .before .before .before .before .before .before .before .build-numbers .last .1 .1 .1 .1 .0)) (a .out .now) (c .before .built2 .given .0 .0) b (c .before .before .before .before .before .before .before .before .before .before .before .before .before .build-numbers .kept .1 .1 .1 .0) (c .before .before .before .before .before .before .before .before .before .before .before .before .before .build-numbers .kept .1 .1 .1 .1 .0) in
+    let v = tables (a .word .now) (a .one .now) (a .other .now) in
+    let f = store (a .tuples .now) (a .nexts .now) in
+    let m = built .build-numbers in
+    let w = tables (m .last .1 .1 .1 .1 .1 .0) (m .last .1 .1 .1 .1 .1 .1 .0) (m .last .1 .1 .1 .1 .1 .1 .1 .0) in
+    let g = store (m .last .1 .1 .1 .0) (m .last .1 .1 .1 .1 .0) in
+    let r = told .built2 .given in
+    let b : BuildsNumbers A (a .room) v w f g (Is (r .0 .0)) = rw (r .1) at (m .ensures) in
+    let s = numbers-sized A (a .room) v w f g (a .out .now) (r .0 .0) b (m .kept .1 .1 .1 .0) (m .kept .1 .1 .1 .1 .0) in
     (s .states, s .letters, s .most)
 
 clear-requires : tie.Need-clear-requires
@@ -84,24 +102,51 @@ same-length-11 c = search needs
 
 returns-2 : tie.Need-returns-2
 returns-2 c =
-    let a = c .before .before .before .before .before .before .before .before .before .before .before .before .before .before .before .before .before .before .before .before .before .before .before .before .before .before .before .before .before .before .before .before .before .before .before .before .before .before .before .before .args in
+    let emptied = c .before .before in
+    let second = emptied .before .before .before .before in
+    let first = second .before .before .before .before in
+    let short = first .before .before in
+    let measured = short .before in
+    let told = measured .before .before in
+    let built = told .before .before .before .before .before .before .before .before .before .before .before .before in
+    let start = built .before .before .before .before .before .before .before .before .before .before .before .before .before in
+    let a = start .args in
     let A = automaton (a .a) (a .table .now) in
-    let b : BuildsNumbers A (a .room) (tables (a .word .now) (a .one .now) (a .other .now)) (tables (c .before .before .before .before .before .before .before .before .before .before .before .before .before .before .before .before .before .before .before .before .before .before .before .before .before .before .before .build-numbers .last .1 .1 .1 .1 .1 .0) (c .before .before .before .before .before .before .before .before .before .before .before .before .before .before .before .before .before .before .before .before .before .before .before .before .before .before .before .build-numbers .last .1 .1 .1 .1 .1 .1 .0) (c .before .before .before .before .before .before .before .before .before .before .before .before .before .before .before .before .before .before .before .before .before .before .before .before .before .before .before .build-numbers .last .1 .1 .1 .1 .1 .1 .1 .0)) (store (a .tuples .now) (a .nexts .now)) (store (c .before .before .before .before .before .before .before .before .before .before .before .before .before .before .before .before .before .before .before .before .before .before .before .before .before .before .before .build-numbers .last .1 .1 .1 .0) (c .before .before .before .before .before .before .before .before .before .before .before .before .before .before .before .before .before .before .before .before .before .before .before .before .before .before .before .build-numbers .last .1 .1 .1 .1 .0)) (Is (c .before .before .before .before .before .before .before .before .before .before .before .before .before .before .before .built2 .given .0 .0)) = rw (c .before .before .before .before .before .before .before .before .before .before .before .before .before .before .before .built2 .given .1) at (c .before .before .before .before .before .before .before .before .before .before .before .before .before .before .before .before .before .before .before .before .before .before .before .before .before .before .before .build-numbers .ensures) in
-    let t = c .before .before .before .before .before .before .before .before .before .before .clear .ensures ∙ ap (λ (n : ℕ). replicate n 0) (c .before .before .before .before .before .before .before .before .before .before .before .before .before .before .before .before .before .before .before .before .before .before .before .before .before .before .before .build-numbers .kept .1 .1 .1 .0) in
-    let n = c .before .before .before .before .before .before .clear2 .ensures ∙ ap (λ (n : ℕ). replicate n 0) (c .before .before .before .before .before .before .before .before .before .before .before .before .before .before .before .before .before .before .before .before .before .before .before .before .before .before .before .build-numbers .kept .1 .1 .1 .1 .0) in
-    let g = store (c .before .before .before .before .before .before .before .before .before .before .clear .last .0) (c .before .before .before .before .before .before .clear2 .last .0) in
-    let q : g ≡ clearedStore (store (a .tuples .now) (a .nexts .now)) = λ i. store (t i) (n i) in
-    let h = c .before .before .before .before .before .before .before .before .before .before .before .before .if2 .taken in
-    numbers-last A (a .room) (tables (a .word .now) (a .one .now) (a .other .now)) (tables (c .before .before .before .before .before .before .before .before .before .before .before .before .before .before .before .before .before .before .before .before .before .before .before .before .before .before .before .build-numbers .last .1 .1 .1 .1 .1 .0) (c .before .before .before .before .before .before .before .before .before .before .before .before .before .before .before .before .before .before .before .before .before .before .before .before .before .before .before .build-numbers .last .1 .1 .1 .1 .1 .1 .0) (c .before .before .before .before .before .before .before .before .before .before .before .before .before .before .before .before .before .before .before .before .before .before .before .before .before .before .before .build-numbers .last .1 .1 .1 .1 .1 .1 .1 .0)) (store (a .tuples .now) (a .nexts .now)) (store (c .before .before .before .before .before .before .before .before .before .before .before .before .before .before .before .before .before .before .before .before .before .before .before .before .before .before .before .build-numbers .last .1 .1 .1 .0) (c .before .before .before .before .before .before .before .before .before .before .before .before .before .before .before .before .before .before .before .before .before .before .before .before .before .before .before .build-numbers .last .1 .1 .1 .1 .0)) (a .out .now) (c .before .before .before .before .before .before .before .before .before .before .before .before .before .before .before .built2 .given .0 .0) g (c .before .before .clear-bytes2 .last .0) b (omega (arith, c .before .before .before .before .before .before .before .before .before .before .before .before .before .listing-length .ensures)) q (c .before .before .clear-bytes2 .ensures)
+    let v = tables (a .word .now) (a .one .now) (a .other .now) in
+    let f = store (a .tuples .now) (a .nexts .now) in
+    let m = built .build-numbers in
+    let w = tables (m .last .1 .1 .1 .1 .1 .0) (m .last .1 .1 .1 .1 .1 .1 .0) (m .last .1 .1 .1 .1 .1 .1 .1 .0) in
+    let g = store (m .last .1 .1 .1 .0) (m .last .1 .1 .1 .1 .0) in
+    let r = told .built2 .given in
+    let b : BuildsNumbers A (a .room) v w f g (Is (r .0 .0)) = rw (r .1) at (m .ensures) in
+    let x = first .clear in
+    let y = second .clear2 in
+    let p = x .ensures ∙ ap (λ (n : ℕ). replicate n 0) (m .kept .1 .1 .1 .0) in
+    let q = y .ensures ∙ ap (λ (n : ℕ). replicate n 0) (m .kept .1 .1 .1 .1 .0) in
+    let o : store (x .last .0) (y .last .0) ≡ clearedStore f = λ i. store (p i) (q i) in
+    let h = short .if2 .taken in
+    numbers-last A (a .room) v w f g (a .out .now) (r .0 .0) (store (x .last .0) (y .last .0)) (emptied .clear-bytes2 .last .0) b
+    (omega (arith, measured .listing-length .ensures)) o (emptied .clear-bytes2 .ensures)
 
 write-requires : tie.Need-write-requires
 write-requires c κs =
-    let a = c .before .before .before .before .before .before .before .before .before .before .before .before .before .before .before .before .before .before .before .before .before .before .before .before .before .before .before .before .before .before .before .args in
+    let long = c .before .before .before in
+    let measured = long .before in
+    let told = measured .before .before in
+    let built = told .before .before .before .before .before .before .before .before .before .before .before .before in
+    let start = built .before .before .before .before .before .before .before .before .before .before .before .before .before in
+    let a = start .args in
     let A = automaton (a .a) (a .table .now) in
-    let b : BuildsNumbers A (a .room) (tables (a .word .now) (a .one .now) (a .other .now)) (tables (c .before .before .before .before .before .before .before .before .before .before .before .before .before .before .before .before .before .before .build-numbers .last .1 .1 .1 .1 .1 .0) (c .before .before .before .before .before .before .before .before .before .before .before .before .before .before .before .before .before .before .build-numbers .last .1 .1 .1 .1 .1 .1 .0) (c .before .before .before .before .before .before .before .before .before .before .before .before .before .before .before .before .before .before .build-numbers .last .1 .1 .1 .1 .1 .1 .1 .0)) (store (a .tuples .now) (a .nexts .now)) (store (c .before .before .before .before .before .before .before .before .before .before .before .before .before .before .before .before .before .before .build-numbers .last .1 .1 .1 .0) (c .before .before .before .before .before .before .before .before .before .before .before .before .before .before .before .before .before .before .build-numbers .last .1 .1 .1 .1 .0)) (Is (c .before .before .before .before .before .before .built2 .given .0 .0)) = rw (c .before .before .before .before .before .before .built2 .given .1) at (c .before .before .before .before .before .before .before .before .before .before .before .before .before .before .before .before .before .before .build-numbers .ensures) in
-    let s = numbers-sized A (a .room) (tables (a .word .now) (a .one .now) (a .other .now)) (tables (c .before .before .before .before .before .before .before .before .before .before .before .before .before .before .before .before .before .before .build-numbers .last .1 .1 .1 .1 .1 .0) (c .before .before .before .before .before .before .before .before .before .before .before .before .before .before .before .before .before .before .build-numbers .last .1 .1 .1 .1 .1 .1 .0) (c .before .before .before .before .before .before .before .before .before .before .before .before .before .before .before .before .before .before .build-numbers .last .1 .1 .1 .1 .1 .1 .1 .0)) (store (a .tuples .now) (a .nexts .now)) (store (c .before .before .before .before .before .before .before .before .before .before .before .before .before .before .before .before .before .before .build-numbers .last .1 .1 .1 .0) (c .before .before .before .before .before .before .before .before .before .before .before .before .before .before .before .before .before .before .build-numbers .last .1 .1 .1 .1 .0)) (a .out .now) (c .before .before .before .before .before .before .built2 .given .0 .0) b (c .before .before .before .before .before .before .before .before .before .before .before .before .before .before .before .before .before .before .build-numbers .kept .1 .1 .1 .0) (c .before .before .before .before .before .before .before .before .before .before .before .before .before .before .before .before .before .before .build-numbers .kept .1 .1 .1 .1 .0) in
-    let h = c .before .before .before .if2 .left in
-    (s, omega (arith, c .before .before .before .before .listing-length .ensures))
+    let v = tables (a .word .now) (a .one .now) (a .other .now) in
+    let f = store (a .tuples .now) (a .nexts .now) in
+    let m = built .build-numbers in
+    let w = tables (m .last .1 .1 .1 .1 .1 .0) (m .last .1 .1 .1 .1 .1 .1 .0) (m .last .1 .1 .1 .1 .1 .1 .1 .0) in
+    let g = store (m .last .1 .1 .1 .0) (m .last .1 .1 .1 .1 .0) in
+    let r = told .built2 .given in
+    let b : BuildsNumbers A (a .room) v w f g (Is (r .0 .0)) = rw (r .1) at (m .ensures) in
+    let s = numbers-sized A (a .room) v w f g (a .out .now) (r .0 .0) b (m .kept .1 .1 .1 .0) (m .kept .1 .1 .1 .1 .0) in
+    let h = long .if2 .left in
+    (s, omega (arith, measured .listing-length .ensures))
 
 same-length-12 : tie.Need-same-length-12
 same-length-12 c = search needs
@@ -123,10 +168,21 @@ same-length-17 c = search needs
 
 returns-3 : tie.Need-returns-3
 returns-3 c =
-    let a = c .before .before .before .before .before .before .before .before .before .before .before .before .before .before .before .before .before .before .before .before .before .before .before .before .before .before .before .before .before .before .before .before .args in
+    let emptied = c .before .before in
+    let other = emptied .before .before in
+    let told = other .before .before .before in
+    let built = told .before .before .before .before .before .before .before .before .before .before .before .before in
+    let start = built .before .before .before .before .before .before .before .before .before .before .before .before .before in
+    let a = start .args in
     let A = automaton (a .a) (a .table .now) in
-    let b : BuildsNumbers A (a .room) (tables (a .word .now) (a .one .now) (a .other .now)) (tables (c .before .before .before .before .before .before .before .before .before .before .before .before .before .before .before .before .before .before .before .build-numbers .last .1 .1 .1 .1 .1 .0) (c .before .before .before .before .before .before .before .before .before .before .before .before .before .before .before .before .before .before .before .build-numbers .last .1 .1 .1 .1 .1 .1 .0) (c .before .before .before .before .before .before .before .before .before .before .before .before .before .before .before .before .before .before .before .build-numbers .last .1 .1 .1 .1 .1 .1 .1 .0)) (store (a .tuples .now) (a .nexts .now)) (store (c .before .before .before .before .before .before .before .before .before .before .before .before .before .before .before .before .before .before .before .build-numbers .last .1 .1 .1 .0) (c .before .before .before .before .before .before .before .before .before .before .before .before .before .before .before .before .before .before .before .build-numbers .last .1 .1 .1 .1 .0)) (Refused (c .before .before .before .before .before .before .before .built .given .0 .0)) = rw (c .before .before .before .before .before .before .before .built .given .1) at (c .before .before .before .before .before .before .before .before .before .before .before .before .before .before .before .before .before .before .before .build-numbers .ensures) in
-    numbers-refused A (a .room) (tables (a .word .now) (a .one .now) (a .other .now)) (tables (c .before .before .before .before .before .before .before .before .before .before .before .before .before .before .before .before .before .before .before .build-numbers .last .1 .1 .1 .1 .1 .0) (c .before .before .before .before .before .before .before .before .before .before .before .before .before .before .before .before .before .before .before .build-numbers .last .1 .1 .1 .1 .1 .1 .0) (c .before .before .before .before .before .before .before .before .before .before .before .before .before .before .before .before .before .before .before .build-numbers .last .1 .1 .1 .1 .1 .1 .1 .0)) (store (a .tuples .now) (a .nexts .now)) (store (c .before .before .before .before .before .before .before .before .before .before .before .before .before .before .before .before .before .before .before .build-numbers .last .1 .1 .1 .0) (c .before .before .before .before .before .before .before .before .before .before .before .before .before .before .before .before .before .before .before .build-numbers .last .1 .1 .1 .1 .0)) (a .out .now) (c .before .before .before .before .before .before .before .built .given .0 .0) (c .before .before .clear-bytes .last .0) b (c .before .before .before .before .if1 .left) (c .before .before .clear-bytes .ensures)
+    let v = tables (a .word .now) (a .one .now) (a .other .now) in
+    let f = store (a .tuples .now) (a .nexts .now) in
+    let m = built .build-numbers in
+    let w = tables (m .last .1 .1 .1 .1 .1 .0) (m .last .1 .1 .1 .1 .1 .1 .0) (m .last .1 .1 .1 .1 .1 .1 .1 .0) in
+    let g = store (m .last .1 .1 .1 .0) (m .last .1 .1 .1 .1 .0) in
+    let r = told .built .given in
+    let b : BuildsNumbers A (a .room) v w f g (Refused (r .0 .0)) = rw (r .1) at (m .ensures) in
+    numbers-refused A (a .room) v w f g (a .out .now) (r .0 .0) (emptied .clear-bytes .last .0) b (other .if1 .left) (emptied .clear-bytes .ensures)
 
 same-length-18 : tie.Need-same-length-18
 same-length-18 c = search needs
@@ -148,12 +204,24 @@ same-length-23 c = search needs
 
 returns-4 : tie.Need-returns-4
 returns-4 c =
-    let a = c .before .before .before .before .before .before .before .before .before .before .before .before .before .before .before .before .before .before .before .before .before .before .before .before .before .before .before .before .before .before .before .before .before .before .args in
+    let written = c .before .before in
+    let long = written .before .before .before .before in
+    let measured = long .before in
+    let told = measured .before .before in
+    let built = told .before .before .before .before .before .before .before .before .before .before .before .before in
+    let start = built .before .before .before .before .before .before .before .before .before .before .before .before .before in
+    let a = start .args in
     let A = automaton (a .a) (a .table .now) in
-    let b : BuildsNumbers A (a .room) (tables (a .word .now) (a .one .now) (a .other .now)) (tables (c .before .before .before .before .before .before .before .before .before .before .before .before .before .before .before .before .before .before .before .before .before .build-numbers .last .1 .1 .1 .1 .1 .0) (c .before .before .before .before .before .before .before .before .before .before .before .before .before .before .before .before .before .before .before .before .before .build-numbers .last .1 .1 .1 .1 .1 .1 .0) (c .before .before .before .before .before .before .before .before .before .before .before .before .before .before .before .before .before .before .before .before .before .build-numbers .last .1 .1 .1 .1 .1 .1 .1 .0)) (store (a .tuples .now) (a .nexts .now)) (store (c .before .before .before .before .before .before .before .before .before .before .before .before .before .before .before .before .before .before .before .before .before .build-numbers .last .1 .1 .1 .0) (c .before .before .before .before .before .before .before .before .before .before .before .before .before .before .before .before .before .before .before .before .before .build-numbers .last .1 .1 .1 .1 .0)) (Is (c .before .before .before .before .before .before .before .before .before .built2 .given .0 .0)) = rw (c .before .before .before .before .before .before .before .before .before .built2 .given .1) at (c .before .before .before .before .before .before .before .before .before .before .before .before .before .before .before .before .before .before .before .before .before .build-numbers .ensures) in
-    let e = c .before .before .before .before .before .before .before .listing-length .ensures in
-    let h = c .before .before .before .before .before .before .if2 .left in
-    rw e (numbers-bytes A (a .room) (tables (a .word .now) (a .one .now) (a .other .now)) (tables (c .before .before .before .before .before .before .before .before .before .before .before .before .before .before .before .before .before .before .before .before .before .build-numbers .last .1 .1 .1 .1 .1 .0) (c .before .before .before .before .before .before .before .before .before .before .before .before .before .before .before .before .before .before .before .before .before .build-numbers .last .1 .1 .1 .1 .1 .1 .0) (c .before .before .before .before .before .before .before .before .before .before .before .before .before .before .before .before .before .before .before .before .before .build-numbers .last .1 .1 .1 .1 .1 .1 .1 .0)) (store (a .tuples .now) (a .nexts .now)) (store (c .before .before .before .before .before .before .before .before .before .before .before .before .before .before .before .before .before .before .before .before .before .build-numbers .last .1 .1 .1 .0) (c .before .before .before .before .before .before .before .before .before .before .before .before .before .before .before .before .before .before .before .before .before .build-numbers .last .1 .1 .1 .1 .0)) (a .out .now) (c .before .before .before .before .before .before .before .before .before .built2 .given .0 .0) (c .before .before .write .last .0) b (omega arith) (c .before .before .write .ensures))
+    let v = tables (a .word .now) (a .one .now) (a .other .now) in
+    let f = store (a .tuples .now) (a .nexts .now) in
+    let m = built .build-numbers in
+    let w = tables (m .last .1 .1 .1 .1 .1 .0) (m .last .1 .1 .1 .1 .1 .1 .0) (m .last .1 .1 .1 .1 .1 .1 .1 .0) in
+    let g = store (m .last .1 .1 .1 .0) (m .last .1 .1 .1 .1 .0) in
+    let r = told .built2 .given in
+    let b : BuildsNumbers A (a .room) v w f g (Is (r .0 .0)) = rw (r .1) at (m .ensures) in
+    let e = measured .listing-length .ensures in
+    let h = long .if2 .left in
+    rw e (numbers-bytes A (a .room) v w f g (a .out .now) (r .0 .0) (written .write .last .0) b (omega arith) (written .write .ensures))
 
 pub list-numbers-spec : {M : Type 1} → statement M
 list-numbers-spec =

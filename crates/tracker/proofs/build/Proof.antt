@@ -2,7 +2,7 @@
 use Prim.Native.Nat.{ℕ}
 use mathlib.Core.Path.{_≡_, sym, ap, _∙_}
 use native.Mathlib.Omega.{arith}
-use lib.ListN.{replicate}
+use lib.ListN.{length, replicate}
 use lib.Seq.{length-take-le}
 use Rattle.gate.specs.Gate.{cleared}
 use Rattle.automaton.specs.Lent.{tables}
@@ -46,39 +46,63 @@ same-length-6 c = search needs
 
 returns : tie.Need-returns
 returns c =
-    let a = c .before .before .before .before .before .before .before .before .before .before .before .before .before .before .before .before .before .before .before .before .before .before .before .before .before .before .before .before .before .before .before .before .args in
+    let cleared = c .before .before .before .before in
+    let told = cleared .before .before .before .before in
+    let read = told .before .before .before .before .before .before .before .before .before .before in
+    let granted = read .before .before .before .before .before in
+    let asked = granted .before in
+    let start = asked .before .before .before .before .before .before .before .before in
+    let a = start .args in
     let s = a .sheet .now in
     let t = a .table .now in
     let v = tables (a .word .now) (a .one .now) (a .other .now) in
     let f = store (a .tuples .now) (a .nexts .now) in
-    let e = c .before .before .before .before .before .before .before .before .before .before .before .before .before .before .before .before .before .before .before .before .before .before .before .before .enough .ensures .0 (c .before .before .before .before .before .before .before .before .before .before .before .before .before .before .before .before .before .before .before .before .before .before .before .if1 .taken) in
-    file-refused s (a .room) t v f e (c .before .before .before .before .before .before .before .before .before .before .before .before .before .before .before .before .before .before .read-sheet .last .1 .0) (tables (c .before .before .before .before .before .before .before .before .before .before .before .before .before .before .before .before .before .before .read-sheet .last .1 .1 .0) (c .before .before .before .before .before .before .before .before .before .before .before .before .before .before .before .before .before .before .read-sheet .last .1 .1 .1 .0) (c .before .before .before .before .before .before .before .before .before .before .before .before .before .before .before .before .before .before .read-sheet .last .1 .1 .1 .1 .0)) (store (c .before .before .before .before .clear .last .0) (c .before .before .before .before .clear .last .1 .0)) (c .before .before .before .before .before .before .before .before .read .given .0 .0) (rw (c .before .before .before .before .before .before .before .before .read .given .1) at (c .before .before .before .before .before .before .before .before .before .before .before .before .before .before .before .before .before .before .read-sheet .ensures)) (c .before .before .before .before .clear .ensures)
+    let e = asked .enough .ensures .0 (granted .if1 .taken) in
+    let k = read .read-sheet in
+    let u = k .last .1 .0 in
+    let w = tables (k .last .1 .1 .0) (k .last .1 .1 .1 .0) (k .last .1 .1 .1 .1 .0) in
+    let x = cleared .clear in
+    let r = told .read .given in
+    file-refused s (a .room) t v f e u w (store (x .last .0) (x .last .1 .0)) (r .0 .0) (rw (r .1) at (k .ensures)) (x .ensures)
 
 enum-known-read-2 : tie.Need-enum-known-read-2
 enum-known-read-2 c = search needs
 
 slice-reshare-prefix-fit : tie.Need-slice-reshare-prefix-fit
 slice-reshare-prefix-fit c =
-    let e = c .before .before .before .before .before .before .before .before .before .before .before .before .before .before .before .before .before .enough .ensures .0 (c .before .before .before .before .before .before .before .before .before .before .before .before .before .before .before .before .if1 .taken) in
-    let h = e .for-table in
-    omega (arith, c .before .before .before .before .before .before .before .before .before .before .before .read-sheet .kept .1 .0)
+    let read = c .before .before .before .before .before .before .before .before .before .before .before in
+    let granted = read .before .before .before .before .before in
+    let asked = granted .before in
+    let h = asked .enough .ensures .0 (granted .if1 .taken) .for-table in
+    omega (arith, read .read-sheet .kept .1 .0)
 
 slice-aggregate-fit : tie.Need-slice-aggregate-fit
 slice-aggregate-fit c =
-    let e = c .before .before .before .before .before .before .before .before .before .before .before .before .before .before .before .before .before .before .enough .ensures .0 (c .before .before .before .before .before .before .before .before .before .before .before .before .before .before .before .before .before .if1 .taken) in
-    let h = e .for-table in
-    sym (length-take-le 128 (c .before .before .before .before .before .before .before .before .before .before .before .before .read-sheet .last .1 .0) (omega (arith, c .before .before .before .before .before .before .before .before .before .before .before .before .read-sheet .kept .1 .0)))
+    let read = c .before .before .before .before .before .before .before .before .before .before .before .before in
+    let granted = read .before .before .before .before .before in
+    let asked = granted .before in
+    let h = asked .enough .ensures .0 (granted .if1 .taken) .for-table in
+    sym (length-take-le 128 (read .read-sheet .last .1 .0) (omega (arith, read .read-sheet .kept .1 .0)))
 
 fit-requires : tie.Need-fit-requires
 fit-requires c κs =
-    let a = c .before .before .before .before .before .before .before .before .before .before .before .before .before .before .before .before .before .before .before .before .before .before .before .before .before .before .before .before .args in
+    let told = c .before .before .before .before in
+    let read = told .before .before .before .before .before .before .before .before .before .before in
+    let granted = read .before .before .before .before .before in
+    let asked = granted .before in
+    let start = asked .before .before .before .before .before .before .before .before in
+    let a = start .args in
     let s = a .sheet .now in
     let t = a .table .now in
     let v = tables (a .word .now) (a .one .now) (a .other .now) in
     let f = store (a .tuples .now) (a .nexts .now) in
-    let e = c .before .before .before .before .before .before .before .before .before .before .before .before .before .before .before .before .before .before .before .before .enough .ensures .0 (c .before .before .before .before .before .before .before .before .before .before .before .before .before .before .before .before .before .before .before .if1 .taken) in
-    let k : Reads s t (c .before .before .before .before .before .before .before .before .before .before .before .before .before .before .read-sheet .last .1 .0) v (tables (c .before .before .before .before .before .before .before .before .before .before .before .before .before .before .read-sheet .last .1 .1 .0) (c .before .before .before .before .before .before .before .before .before .before .before .before .before .before .read-sheet .last .1 .1 .1 .0) (c .before .before .before .before .before .before .before .before .before .before .before .before .before .before .read-sheet .last .1 .1 .1 .1 .0)) (Is (c .before .before .before .before .read2 .given .0 .0)) = rw (c .before .before .before .before .read2 .given .1) at (c .before .before .before .before .before .before .before .before .before .before .before .before .before .before .read-sheet .ensures) in
-    (file-fits s (a .room) t v f e (c .before .before .before .before .before .before .before .before .before .before .before .before .before .before .read-sheet .last .1 .0) (tables (c .before .before .before .before .before .before .before .before .before .before .before .before .before .before .read-sheet .last .1 .1 .0) (c .before .before .before .before .before .before .before .before .before .before .before .before .before .before .read-sheet .last .1 .1 .1 .0) (c .before .before .before .before .before .before .before .before .before .before .before .before .before .before .read-sheet .last .1 .1 .1 .1 .0)) (c .before .before .before .before .read2 .given .0 .0) k, enough-lent (a .room) t v f e .2)
+    let e = asked .enough .ensures .0 (granted .if1 .taken) in
+    let k = read .read-sheet in
+    let u = k .last .1 .0 in
+    let w = tables (k .last .1 .1 .0) (k .last .1 .1 .1 .0) (k .last .1 .1 .1 .1 .0) in
+    let r = told .read2 .given in
+    let z : Reads s t u v w (Is (r .0 .0)) = rw (r .1) at (k .ensures) in
+    (file-fits s (a .room) t v f e u w (r .0 .0) z, enough-lent (a .room) t v f e .2)
 
 clear-requires-2 : tie.Need-clear-requires-2
 clear-requires-2 c κs = search needs
@@ -103,16 +127,30 @@ same-length-12 c = search needs
 
 returns-2 : tie.Need-returns-2
 returns-2 c =
-    let a = c .before .before .before .before .before .before .before .before .before .before .before .before .before .before .before .before .before .before .before .before .before .before .before .before .before .before .before .before .before .before .before .before .before .before .before .before .before .before .args in
+    let cleared = c .before .before in
+    let over = cleared .before .before in
+    let fitted = over .before .before .before .before .before in
+    let told = fitted .before .before .before .before .before in
+    let read = told .before .before .before .before .before .before .before .before .before .before in
+    let granted = read .before .before .before .before .before in
+    let asked = granted .before in
+    let start = asked .before .before .before .before .before .before .before .before in
+    let a = start .args in
     let s = a .sheet .now in
     let t = a .table .now in
     let v = tables (a .word .now) (a .one .now) (a .other .now) in
     let f = store (a .tuples .now) (a .nexts .now) in
-    let e = c .before .before .before .before .before .before .before .before .before .before .before .before .before .before .before .before .before .before .before .before .before .before .before .before .before .before .before .before .before .before .enough .ensures .0 (c .before .before .before .before .before .before .before .before .before .before .before .before .before .before .before .before .before .before .before .before .before .before .before .before .before .before .before .before .before .if1 .taken) in
-    let k : Reads s t (c .before .before .before .before .before .before .before .before .before .before .before .before .before .before .before .before .before .before .before .before .before .before .before .before .read-sheet .last .1 .0) v (tables (c .before .before .before .before .before .before .before .before .before .before .before .before .before .before .before .before .before .before .before .before .before .before .before .before .read-sheet .last .1 .1 .0) (c .before .before .before .before .before .before .before .before .before .before .before .before .before .before .before .before .before .before .before .before .before .before .before .before .read-sheet .last .1 .1 .1 .0) (c .before .before .before .before .before .before .before .before .before .before .before .before .before .before .before .before .before .before .before .before .before .before .before .before .read-sheet .last .1 .1 .1 .1 .0)) (Is (c .before .before .before .before .before .before .before .before .before .before .before .before .before .before .read2 .given .0 .0)) = rw (c .before .before .before .before .before .before .before .before .before .before .before .before .before .before .read2 .given .1) at (c .before .before .before .before .before .before .before .before .before .before .before .before .before .before .before .before .before .before .before .before .before .before .before .before .read-sheet .ensures) in
-    let y : c .before .before .clear2 .last .0 ≡ cleared t = c .before .before .clear2 .ensures ∙ ap (λ (n : ℕ). replicate n 0) (c .before .before .before .before .before .before .before .before .before .before .before .before .before .before .before .before .before .before .before .before .before .before .before .before .read-sheet .kept .1 .0) in
-    file-over s (a .room) t v f e (c .before .before .before .before .before .before .before .before .before .before .before .before .before .before .before .before .before .before .before .before .before .before .before .before .read-sheet .last .1 .0) (tables (c .before .before .before .before .before .before .before .before .before .before .before .before .before .before .before .before .before .before .before .before .before .before .before .before .read-sheet .last .1 .1 .0) (c .before .before .before .before .before .before .before .before .before .before .before .before .before .before .before .before .before .before .before .before .before .before .before .before .read-sheet .last .1 .1 .1 .0) (c .before .before .before .before .before .before .before .before .before .before .before .before .before .before .before .before .before .before .before .before .before .before .before .before .read-sheet .last .1 .1 .1 .1 .0)) (store (c .before .before .before .before .before .before .before .before .before .fit .last .1 .1 .1 .0) (c .before .before .before .before .before .before .before .before .before .fit .last .1 .1 .1 .1 .0)) (c .before .before .before .before .before .before .before .before .before .fit .result) (c .before .before .before .before .before .before .before .before .before .before .before .before .before .before .read2 .given .0 .0) k (c .before .before .before .before .before .before .before .before .before .fit .ensures) (c .before .before .before .before .if2 .taken)
-    (c .before .before .clear2 .last .0) y
+    let e = asked .enough .ensures .0 (granted .if1 .taken) in
+    let k = read .read-sheet in
+    let u = k .last .1 .0 in
+    let w = tables (k .last .1 .1 .0) (k .last .1 .1 .1 .0) (k .last .1 .1 .1 .1 .0) in
+    let r = told .read2 .given in
+    let z : Reads s t u v w (Is (r .0 .0)) = rw (r .1) at (k .ensures) in
+    let m = fitted .fit in
+    let g = store (m .last .1 .1 .1 .0) (m .last .1 .1 .1 .1 .0) in
+    let x = cleared .clear2 in
+    let y : x .last .0 ≡ replicate (length t) 0 = x .ensures ∙ ap (λ (n : ℕ). replicate n 0) (k .kept .1 .0) in
+    file-over s (a .room) t v f e u w g (m .result) (r .0 .0) z (m .ensures) (over .if2 .taken) (x .last .0) y
 
 same-length-13 : tie.Need-same-length-13
 same-length-13 c = search needs
@@ -134,23 +172,37 @@ same-length-18 c = search needs
 
 returns-3 : tie.Need-returns-3
 returns-3 c =
-    let a = c .before .before .before .before .before .before .before .before .before .before .before .before .before .before .before .before .before .before .before .before .before .before .before .before .before .before .before .before .before .before .before .before .before .before .args in
+    let fitted = c .before .before .before .before .before in
+    let told = fitted .before .before .before .before .before in
+    let read = told .before .before .before .before .before .before .before .before .before .before in
+    let granted = read .before .before .before .before .before in
+    let asked = granted .before in
+    let start = asked .before .before .before .before .before .before .before .before in
+    let a = start .args in
     let s = a .sheet .now in
     let t = a .table .now in
     let v = tables (a .word .now) (a .one .now) (a .other .now) in
     let f = store (a .tuples .now) (a .nexts .now) in
-    let e = c .before .before .before .before .before .before .before .before .before .before .before .before .before .before .before .before .before .before .before .before .before .before .before .before .before .before .enough .ensures .0 (c .before .before .before .before .before .before .before .before .before .before .before .before .before .before .before .before .before .before .before .before .before .before .before .before .before .if1 .taken) in
-    let k : Reads s t (c .before .before .before .before .before .before .before .before .before .before .before .before .before .before .before .before .before .before .before .before .read-sheet .last .1 .0) v (tables (c .before .before .before .before .before .before .before .before .before .before .before .before .before .before .before .before .before .before .before .before .read-sheet .last .1 .1 .0) (c .before .before .before .before .before .before .before .before .before .before .before .before .before .before .before .before .before .before .before .before .read-sheet .last .1 .1 .1 .0) (c .before .before .before .before .before .before .before .before .before .before .before .before .before .before .before .before .before .before .before .before .read-sheet .last .1 .1 .1 .1 .0)) (Is (c .before .before .before .before .before .before .before .before .before .before .read2 .given .0 .0)) = rw (c .before .before .before .before .before .before .before .before .before .before .read2 .given .1) at (c .before .before .before .before .before .before .before .before .before .before .before .before .before .before .before .before .before .before .before .before .read-sheet .ensures) in
-    file-is s (a .room) t v f e (c .before .before .before .before .before .before .before .before .before .before .before .before .before .before .before .before .before .before .before .before .read-sheet .last .1 .0) (tables (c .before .before .before .before .before .before .before .before .before .before .before .before .before .before .before .before .before .before .before .before .read-sheet .last .1 .1 .0) (c .before .before .before .before .before .before .before .before .before .before .before .before .before .before .before .before .before .before .before .before .read-sheet .last .1 .1 .1 .0) (c .before .before .before .before .before .before .before .before .before .before .before .before .before .before .before .before .before .before .before .before .read-sheet .last .1 .1 .1 .1 .0)) (store (c .before .before .before .before .before .fit .last .1 .1 .1 .0) (c .before .before .before .before .before .fit .last .1 .1 .1 .1 .0)) (c .before .before .before .before .before .fit .result) (c .before .before .before .before .before .before .before .before .before .before .read2 .given .0 .0) k (c .before .before .before .before .before .fit .ensures) (c .if2 .left)
+    let e = asked .enough .ensures .0 (granted .if1 .taken) in
+    let k = read .read-sheet in
+    let u = k .last .1 .0 in
+    let w = tables (k .last .1 .1 .0) (k .last .1 .1 .1 .0) (k .last .1 .1 .1 .1 .0) in
+    let r = told .read2 .given in
+    let z : Reads s t u v w (Is (r .0 .0)) = rw (r .1) at (k .ensures) in
+    let m = fitted .fit in
+    let g = store (m .last .1 .1 .1 .0) (m .last .1 .1 .1 .1 .0) in
+    file-is s (a .room) t v f e u w g (m .result) (r .0 .0) z (m .ensures) (c .if2 .left)
 
 returns-4 : tie.Need-returns-4
 returns-4 c =
-    let a = c .before .before .before .before .before .before .before .before .before .args in
+    let asked = c .before in
+    let start = asked .before .before .before .before .before .before .before .before in
+    let a = start .args in
     let s = a .sheet .now in
     let t = a .table .now in
     let v = tables (a .word .now) (a .one .now) (a .other .now) in
     let f = store (a .tuples .now) (a .nexts .now) in
-    file-short s (a .room) t v f (c .before .enough .ensures .1 (c .if1 .left))
+    file-short s (a .room) t v f (asked .enough .ensures .1 (c .if1 .left))
 
 pub build-spec : {M : Type 1} → statement M
 build-spec =

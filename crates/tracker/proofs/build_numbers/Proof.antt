@@ -39,25 +39,42 @@ same-length-5 c = search needs
 
 returns : tie.Need-returns
 returns c =
-    let a = c .before .before .before .before .before .before .before .before .before .before .before .before .before .before .before .before .before .before .before .before .before .before .before .before .before .before .before .before .args in
+    let cleared = c .before .before .before .before in
+    let told = cleared .before .before .before .before in
+    let checked = told .before .before .before .before .before .before .before .before in
+    let granted = checked .before .before .before .before in
+    let asked = granted .before in
+    let start = asked .before .before .before .before .before .before .before in
+    let a = start .args in
     let A = automaton (a .a) (a .table .now) in
     let v = tables (a .word .now) (a .one .now) (a .other .now) in
     let f = store (a .tuples .now) (a .nexts .now) in
-    let e = c .before .before .before .before .before .before .before .before .before .before .before .before .before .before .before .before .before .before .before .before .before .enough .ensures .0 (c .before .before .before .before .before .before .before .before .before .before .before .before .before .before .before .before .before .before .before .before .if1 .taken) in
-    numbers-refused A (a .room) v f e (tables (c .before .before .before .before .before .before .before .before .before .before .before .before .before .before .before .before .check .last .1 .1 .0) (c .before .before .before .before .before .before .before .before .before .before .before .before .before .before .before .before .check .last .1 .1 .1 .0) (c .before .before .before .before .before .before .before .before .before .before .before .before .before .before .before .before .check .last .1 .1 .1 .1 .0)) (store (c .before .before .before .before .clear .last .0) (c .before .before .before .before .clear .last .1 .0)) (c .before .before .before .before .before .before .before .before .checked .given .0 .0) (rw (c .before .before .before .before .before .before .before .before .checked .given .1) at (c .before .before .before .before .before .before .before .before .before .before .before .before .before .before .before .before .check .ensures)) (c .before .before .before .before .clear .ensures)
+    let e = asked .enough .ensures .0 (granted .if1 .taken) in
+    let k = checked .check in
+    let w = tables (k .last .1 .1 .0) (k .last .1 .1 .1 .0) (k .last .1 .1 .1 .1 .0) in
+    let x = cleared .clear in
+    let r = told .checked .given in
+    numbers-refused A (a .room) v f e w (store (x .last .0) (x .last .1 .0)) (r .0 .0) (rw (r .1) at (k .ensures)) (x .ensures)
 
 enum-told : tie.Need-enum-told
 enum-told c = search needs
 
 fit-requires : tie.Need-fit-requires
 fit-requires c κs =
-    let a = c .before .before .before .before .before .before .before .before .before .before .before .before .before .before .before .before .before .before .before .before .before .before .args in
+    let told = c .before .before in
+    let checked = told .before .before .before .before .before .before .before .before in
+    let granted = checked .before .before .before .before in
+    let asked = granted .before in
+    let start = asked .before .before .before .before .before .before .before in
+    let a = start .args in
     let A = automaton (a .a) (a .table .now) in
     let v = tables (a .word .now) (a .one .now) (a .other .now) in
     let f = store (a .tuples .now) (a .nexts .now) in
-    let e = c .before .before .before .before .before .before .before .before .before .before .before .before .before .before .before .enough .ensures .0 (c .before .before .before .before .before .before .before .before .before .before .before .before .before .before .if1 .taken) in
-    let k : Checks A v (tables (c .before .before .before .before .before .before .before .before .before .before .check .last .1 .1 .0) (c .before .before .before .before .before .before .before .before .before .before .check .last .1 .1 .1 .0) (c .before .before .before .before .before .before .before .before .before .before .check .last .1 .1 .1 .1 .0)) Free = rw (c .before .before .enum-told .given .1) at (c .before .before .before .before .before .before .before .before .before .before .check .ensures) in
-    (k .1, enough-lent (a .room) (a .table .now) v f e .2)
+    let e = asked .enough .ensures .0 (granted .if1 .taken) in
+    let k = checked .check in
+    let w = tables (k .last .1 .1 .0) (k .last .1 .1 .1 .0) (k .last .1 .1 .1 .1 .0) in
+    let z : Checks A v w Free = rw (told .enum-told .given .1) at (k .ensures) in
+    (z .1, enough-lent (a .room) (a .table .now) v f e .2)
 
 same-length-6 : tie.Need-same-length-6
 same-length-6 c = search needs
@@ -76,13 +93,23 @@ same-length-10 c = search needs
 
 returns-2 : tie.Need-returns-2
 returns-2 c =
-    let a = c .before .before .before .before .before .before .before .before .before .before .before .before .before .before .before .before .before .before .before .before .before .before .before .before .before .before .before .before .args in
+    let fitted = c .before .before .before .before .before in
+    let told = fitted .before .before .before in
+    let checked = told .before .before .before .before .before .before .before .before in
+    let granted = checked .before .before .before .before in
+    let asked = granted .before in
+    let start = asked .before .before .before .before .before .before .before in
+    let a = start .args in
     let A = automaton (a .a) (a .table .now) in
     let v = tables (a .word .now) (a .one .now) (a .other .now) in
     let f = store (a .tuples .now) (a .nexts .now) in
-    let e = c .before .before .before .before .before .before .before .before .before .before .before .before .before .before .before .before .before .before .before .before .before .enough .ensures .0 (c .before .before .before .before .before .before .before .before .before .before .before .before .before .before .before .before .before .before .before .before .if1 .taken) in
-    let k : Checks A v (tables (c .before .before .before .before .before .before .before .before .before .before .before .before .before .before .before .before .check .last .1 .1 .0) (c .before .before .before .before .before .before .before .before .before .before .before .before .before .before .before .before .check .last .1 .1 .1 .0) (c .before .before .before .before .before .before .before .before .before .before .before .before .before .before .before .before .check .last .1 .1 .1 .1 .0)) Free = rw (c .before .before .before .before .before .before .before .before .enum-told .given .1) at (c .before .before .before .before .before .before .before .before .before .before .before .before .before .before .before .before .check .ensures) in
-    numbers-over A (a .room) v f e (tables (c .before .before .before .before .before .before .before .before .before .before .before .before .before .before .before .before .check .last .1 .1 .0) (c .before .before .before .before .before .before .before .before .before .before .before .before .before .before .before .before .check .last .1 .1 .1 .0) (c .before .before .before .before .before .before .before .before .before .before .before .before .before .before .before .before .check .last .1 .1 .1 .1 .0)) (store (c .before .before .before .before .before .fit .last .1 .1 .1 .0) (c .before .before .before .before .before .fit .last .1 .1 .1 .1 .0)) (c .before .before .before .before .before .fit .result) k (c .before .before .before .before .before .fit .ensures) (c .if2 .taken)
+    let e = asked .enough .ensures .0 (granted .if1 .taken) in
+    let k = checked .check in
+    let w = tables (k .last .1 .1 .0) (k .last .1 .1 .1 .0) (k .last .1 .1 .1 .1 .0) in
+    let z : Checks A v w Free = rw (told .enum-told .given .1) at (k .ensures) in
+    let m = fitted .fit in
+    let g = store (m .last .1 .1 .1 .0) (m .last .1 .1 .1 .1 .0) in
+    numbers-over A (a .room) v f e w g (m .result) z (m .ensures) (c .if2 .taken)
 
 same-length-11 : tie.Need-same-length-11
 same-length-11 c = search needs
@@ -101,22 +128,33 @@ same-length-15 c = search needs
 
 returns-3 : tie.Need-returns-3
 returns-3 c =
-    let a = c .before .before .before .before .before .before .before .before .before .before .before .before .before .before .before .before .before .before .before .before .before .before .before .before .before .before .before .before .args in
+    let fitted = c .before .before .before .before .before in
+    let told = fitted .before .before .before in
+    let checked = told .before .before .before .before .before .before .before .before in
+    let granted = checked .before .before .before .before in
+    let asked = granted .before in
+    let start = asked .before .before .before .before .before .before .before in
+    let a = start .args in
     let A = automaton (a .a) (a .table .now) in
     let v = tables (a .word .now) (a .one .now) (a .other .now) in
     let f = store (a .tuples .now) (a .nexts .now) in
-    let e = c .before .before .before .before .before .before .before .before .before .before .before .before .before .before .before .before .before .before .before .before .before .enough .ensures .0 (c .before .before .before .before .before .before .before .before .before .before .before .before .before .before .before .before .before .before .before .before .if1 .taken) in
-    let k : Checks A v (tables (c .before .before .before .before .before .before .before .before .before .before .before .before .before .before .before .before .check .last .1 .1 .0) (c .before .before .before .before .before .before .before .before .before .before .before .before .before .before .before .before .check .last .1 .1 .1 .0) (c .before .before .before .before .before .before .before .before .before .before .before .before .before .before .before .before .check .last .1 .1 .1 .1 .0)) Free = rw (c .before .before .before .before .before .before .before .before .enum-told .given .1) at (c .before .before .before .before .before .before .before .before .before .before .before .before .before .before .before .before .check .ensures) in
-    numbers-is A (a .room) v f e (tables (c .before .before .before .before .before .before .before .before .before .before .before .before .before .before .before .before .check .last .1 .1 .0) (c .before .before .before .before .before .before .before .before .before .before .before .before .before .before .before .before .check .last .1 .1 .1 .0) (c .before .before .before .before .before .before .before .before .before .before .before .before .before .before .before .before .check .last .1 .1 .1 .1 .0)) (store (c .before .before .before .before .before .fit .last .1 .1 .1 .0) (c .before .before .before .before .before .fit .last .1 .1 .1 .1 .0)) (c .before .before .before .before .before .fit .result) (a .a)
-    (record { n = refl; k = refl; initial = refl; recurring = refl }) k (c .before .before .before .before .before .fit .ensures) (c .if2 .left)
+    let e = asked .enough .ensures .0 (granted .if1 .taken) in
+    let k = checked .check in
+    let w = tables (k .last .1 .1 .0) (k .last .1 .1 .1 .0) (k .last .1 .1 .1 .1 .0) in
+    let z : Checks A v w Free = rw (told .enum-told .given .1) at (k .ensures) in
+    let m = fitted .fit in
+    let g = store (m .last .1 .1 .1 .0) (m .last .1 .1 .1 .1 .0) in
+    numbers-is A (a .room) v f e w g (m .result) (a .a) (record { n = refl; k = refl; initial = refl; recurring = refl }) z (m .ensures) (c .if2 .left)
 
 returns-4 : tie.Need-returns-4
 returns-4 c =
-    let a = c .before .before .before .before .before .before .before .before .args in
+    let asked = c .before in
+    let start = asked .before .before .before .before .before .before .before in
+    let a = start .args in
     let A = automaton (a .a) (a .table .now) in
     let v = tables (a .word .now) (a .one .now) (a .other .now) in
     let f = store (a .tuples .now) (a .nexts .now) in
-    numbers-short A (a .room) v f (c .before .enough .ensures .1 (c .if1 .left))
+    numbers-short A (a .room) v f (asked .enough .ensures .1 (c .if1 .left))
 
 pub build-numbers-spec : {M : Type 1} → statement M
 build-numbers-spec =

@@ -8,7 +8,7 @@ use lib.ListN.{length}
 use lib.Seq.{sets}
 use Rattle.automaton.specs.Automaton.{automaton}
 use Rattle.writer.specs.Text.{rowsText}
-use Rattle.writer.specs.TextLaws.{text-lent}
+use Rattle.gate.specs.GateLaws.{lent-text}
 use borrow.Author.Needs.{needs}
 use Rattle.writer.proofs.finish.Statement.{statement}
 use Rattle.writer.proofs.finish.Tie as tie
@@ -39,7 +39,7 @@ returns-2 c =
     let fits : length text ≤ length (now (a .out)) = omega (arith, clear .kept .0) in (
       c .before .before .before .before .before .text-length .ensures,
       omega (arith, clear .kept .0),
-      c .before .before .put-text .ensures ∙ ap (λ (out : List ℕ). sets out 0 text) (clear .ensures) ∙ text-lent text (now (a .out)) fits,
+      c .before .before .put-text .ensures ∙ ap (λ (out : List ℕ). sets out 0 text) (clear .ensures) ∙ lent-text text (now (a .out)) fits,
     )
 
 pub finish-spec : {M : Type 1} → statement M

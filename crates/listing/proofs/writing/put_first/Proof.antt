@@ -32,8 +32,14 @@ same-length c = search needs
 
 returns : tie.Need-returns
 returns c =
-    let a = c .before .before .before .before .before .before .before .before .before .before .before .before .before .before .before .before .before .before .before .before .before .before .before .args in
-    rw (c .before .before .put-bytes2 .ensures, c .before .before .before .before .before .before .before .put-column3 .ensures, c .before .before .before .before .before .before .before .before .before .before .before .put-column2 .ensures, c .before .before .before .before .before .before .before .before .before .before .before .before .before .before .before .put-column .ensures, c .before .before .before .before .before .before .before .before .before .before .before .before .before .before .before .before .before .before .before .put-bytes .ensures)
+    let five = c .before .before in
+    let four = five .before .before .before .before .before in
+    let three = four .before .before .before .before in
+    let two = three .before .before .before .before in
+    let one = two .before .before .before .before in
+    let start = one .before .before .before .before in
+    let a = start .args in
+    rw (five .put-bytes2 .ensures, four .put-column3 .ensures, three .put-column2 .ensures, two .put-column .ensures, one .put-bytes .ensures)
     (sym (first-put (a .out .now) (a .n) (a .k) (a .count)))
 
 pub put-first-spec : {M : Type 1} → statement M

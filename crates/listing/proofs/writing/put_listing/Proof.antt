@@ -31,9 +31,15 @@ same-length c = search needs
 
 returns : tie.Need-returns
 returns c =
-    let a = c .before .before .before .before .before .before .before .before .before .before .before .before .before .before .before .before .before .args in
-    let e : c .before .before .before .before .before .listing-length .result - 4 ≡ 17 + a .count * lineBytes (a .n) (a .k) = omega (arith, c .before .before .before .before .before .listing-length .ensures) in
-    rw (c .before .before .put-bytes .ensures, e, c .before .before .before .before .before .before .before .before .put-tuples .ensures, c .before .before .before .before .before .before .before .before .before .before .before .before .put-first .ensures) (sym (listing-put (a .out .now) (a .n) (a .k) (a .count) (a .tuples .now) (a .nexts .now)))
+    let three = c .before .before in
+    let measured = three .before .before .before in
+    let two = measured .before .before .before in
+    let one = two .before .before .before .before in
+    let start = one .before .before .before .before .before in
+    let a = start .args in
+    let e : measured .listing-length .result - 4 ≡ 17 + a .count * lineBytes (a .n) (a .k) = omega (arith, measured .listing-length .ensures) in
+    rw (three .put-bytes .ensures, e, two .put-tuples .ensures, one .put-first .ensures)
+    (sym (listing-put (a .out .now) (a .n) (a .k) (a .count) (a .tuples .now) (a .nexts .now)))
 
 pub put-listing-spec : {M : Type 1} → statement M
 put-listing-spec =

@@ -81,8 +81,15 @@ same-length c = search needs
 
 returns : tie.Need-returns
 returns c =
-    let a = c .before .before .before .before .before .before .before .before .before .before .before .before .before .before .before .before .before .before .before .before .before .before .before .before .before .before .before .before .before .before .args in
-    rw (c .before .before .put-bytes2 .ensures, c .before .before .before .before .before .before .before .put-cells2 .ensures, c .before .before .before .before .before .before .before .before .before .before .before .put-cells .ensures, c .before .before .before .before .before .before .before .before .before .before .before .before .before .before .before .put-column2 .ensures, c .before .before .before .before .before .before .before .before .before .before .before .before .before .before .before .before .before .before .before .before .put-column .ensures, c .before .before .before .before .before .before .before .before .before .before .before .before .before .before .before .before .before .before .before .before .before .before .before .before .put-bytes .ensures)
+    let six = c .before .before in
+    let five = six .before .before .before .before .before in
+    let four = five .before .before .before .before in
+    let three = four .before .before .before .before in
+    let two = three .before .before .before .before .before in
+    let one = two .before .before .before .before in
+    let start = one .before .before .before .before .before .before in
+    let a = start .args in
+    rw (six .put-bytes2 .ensures, five .put-cells2 .ensures, four .put-cells .ensures, three .put-column2 .ensures, two .put-column .ensures, one .put-bytes .ensures)
     (sym (tuple-put (a .out .now) (a .at) (a .n) (a .k) (a .tuples .now) (a .nexts .now) (a .t)))
 
 pub put-tuple-spec : {M : Type 1} → statement M

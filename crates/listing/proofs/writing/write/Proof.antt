@@ -7,7 +7,7 @@ use lib.Seq.{sets}
 use Rattle.gate.specs.Gate.{cleared}
 use Rattle.listing.specs.Listing.{listing}
 use Rattle.listing.specs.PutLaws.{listing-length}
-use Rattle.listing.specs.ListLaws.{lent-text}
+use Rattle.gate.specs.GateLaws.{lent-text}
 use borrow.Author.Needs.{needs}
 use Rattle.listing.proofs.writing.write.Statement.{statement}
 use Rattle.listing.proofs.writing.write.Tie as tie

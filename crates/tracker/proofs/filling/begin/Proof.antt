@@ -48,9 +48,14 @@ same-length-3 c = search needs
 returns : tie.Need-returns
 unfolding firstCells
 returns c =
-    let a = c .before .before .before .before .before .before .before .before .before .before .before .before .before .before .before .before .before .args in
-    let d = c .before .before .before .before .before .before .add in
-    subst (λ (x : ℕ). Added (a .tuples .now) (d .last .0) 0 (set (set (replicate 17 0) 0 (a .a .initial)) 16 x) (d .last .1 .1 .1 .1 .0) (d .last .1 .1 .1 .1 .1 .0)) (c .before .before .before .before .before .before .before .before .before .before .before .before .before .neutral .ensures) (d .ensures)
+    let added = c .before .before .before .before .before .before in
+    let coloured = added .before .before .before .before .before .before .before in
+    let start = coloured .before .before .before .before in
+    let a = start .args in
+    let d = added .add in
+    subst
+    (λ (x : ℕ). Added (a .tuples .now) (d .last .0) 0 (set (set (replicate 17 0) 0 (a .a .initial)) 16 x) (d .last .1 .1 .1 .1 .0) (d .last .1 .1 .1 .1 .1 .0))
+    (coloured .neutral .ensures) (d .ensures)
 
 pub begin-spec : {M : Type 1} → statement M
 begin-spec =

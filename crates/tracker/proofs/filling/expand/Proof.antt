@@ -11,9 +11,10 @@ use Rattle.tracker.proofs.filling.expand.Tie as tie
 
 returns : tie.Need-returns
 returns c =
-    let a = c .before .before .before .before .before .before .before .args in
+    let start = c .before .before .before .before .before .before .before in
+    let a = start .args in
+    let f = start .pre .0 in
     let A = automaton (a .a) (a .table .now) in
-    let f = c .before .before .before .before .before .before .before .pre .0 in
     goes-skip A (a .room) (a .c) (a .m) (a .tuples .now) (a .nexts .now) (a .head .now) (a .link .now) f (c .if1 .taken)
 
 slice-aggregate-enter : tie.Need-slice-aggregate-enter
@@ -21,11 +22,13 @@ slice-aggregate-enter c = search needs
 
 enter-requires : tie.Need-enter-requires
 enter-requires c κs =
-    let a = c .before .before .before .before .before .before .before .before .before .args in
+    let tested = c .before .before in
+    let start = tested .before .before .before .before .before .before .before in
+    let a = start .args in
+    let f = start .pre .0 in
     let A = automaton (a .a) (a .table .now) in
-    let f = c .before .before .before .before .before .before .before .before .before .pre .0 in
-    let s : Taken (automaton (c .before .before .before .before .before .before .before .before .before .args .a) (c .before .before .before .before .before .before .before .before .before .args .table .now)) (c .before .before .before .before .before .before .before .before .before .args .c) (c .before .before .before .before .before .before .before .before .before .args .m) = record { from = c .before .before .before .before .before .before .before .before .before .pre .1; letter = c .before .before .if1 .left } in
-    let p = c .before .before .before .before .before .before .before .before .before .pre in
+    let s : Taken A (a .c) (a .m) = record { from = start .pre .1; letter = tested .if1 .left } in
+    let p = start .pre .1 in
     let q = f .room-is in
     let r = f .most in
     let t = f .tuple-cells in
@@ -66,19 +69,25 @@ same-length-4 c = search needs
 
 returns-2 : tie.Need-returns-2
 returns-2 c =
-    let a = c .before .before .before .before .before .before .before .before .before .before .before .before .before .before .before .before .before .before .before .args in
+    let found = c .before in
+    let entered = found .before .before .before .before .before .before .before .before in
+    let tested = entered .before .before .before in
+    let start = tested .before .before .before .before .before .before .before in
+    let a = start .args in
+    let f = start .pre .0 in
     let A = automaton (a .a) (a .table .now) in
-    let f = c .before .before .before .before .before .before .before .before .before .before .before .before .before .before .before .before .before .before .before .pre .0 in
-    let s : Taken (automaton (c .before .before .before .before .before .before .before .before .before .before .before .before .before .before .before .before .before .before .before .args .a) (c .before .before .before .before .before .before .before .before .before .before .before .before .before .before .before .before .before .before .before .args .table .now)) (c .before .before .before .before .before .before .before .before .before .before .before .before .before .before .before .before .before .before .before .args .c) (c .before .before .before .before .before .before .before .before .before .before .before .before .before .before .before .before .before .before .before .args .m) = record { from = c .before .before .before .before .before .before .before .before .before .before .before .before .before .before .before .before .before .before .before .pre .1; letter = c .before .before .before .before .before .before .before .before .before .before .before .before .if1 .left } in
-    goes-old A (a .room) (a .c) (a .m) (a .tuples .now) (a .nexts .now) (a .head .now) (a .link .now) f s (c .before .before .before .before .before .before .before .before .before .enter .last .1 .1 .1 .1 .0) (c .before .before .before .before .before .before .before .before .before .enter .ensures) (c .before .find .result) (c .before .find .ensures) (c .if2 .taken)
+    let s : Taken A (a .c) (a .m) = record { from = start .pre .1; letter = tested .if1 .left } in
+    let e = entered .enter in
+    goes-old A (a .room) (a .c) (a .m) (a .tuples .now) (a .nexts .now) (a .head .now) (a .link .now) f s (e .last .1 .1 .1 .1 .0) (e .ensures) (found .find .result) (found .find .ensures) (c .if2 .taken)
 
 cast-nexts-2 : tie.Need-cast-nexts-2
 cast-nexts-2 c = search needs
 
 mul-nexts-2 : tie.Need-mul-nexts-2
 mul-nexts-2 c =
-    let p = c .before .before .before .before .before .before .before .before .before .before .before .before .before .before .before .before .before .before .before .before .pre .1 in
-    let f = c .before .before .before .before .before .before .before .before .before .before .before .before .before .before .before .before .before .before .before .before .pre .0 in
+    let start = c .before .before .before .before .before .before .before .before .before .before .before .before .before .before .before .before .before .before .before .before in
+    let p = start .pre .1 in
+    let f = start .pre .0 in
     let q = f .room-is in
     let r = f .most in
     let t = f .next-cells in
@@ -86,8 +95,9 @@ mul-nexts-2 c =
 
 slice-write-nexts-2 : tie.Need-slice-write-nexts-2
 slice-write-nexts-2 c =
-    let p = c .before .before .before .before .before .before .before .before .before .before .before .before .before .before .before .before .before .before .before .before .pre .1 in
-    let f = c .before .before .before .before .before .before .before .before .before .before .before .before .before .before .before .before .before .before .before .before .pre .0 in
+    let start = c .before .before .before .before .before .before .before .before .before .before .before .before .before .before .before .before .before .before .before .before in
+    let p = start .pre .1 in
+    let f = start .pre .0 in
     let q = f .room-is in
     let r = f .most in
     let t = f .next-cells in
@@ -98,11 +108,16 @@ slice-aggregate-add c = search needs
 
 add-requires : tie.Need-add-requires
 add-requires c κs =
-    let f = c .before .before .before .before .before .before .before .before .before .before .before .before .before .before .before .before .before .before .before .before .before .before .before .before .pre .0 in
+    let fits = c .before .before .before .before in
+    let mixed = fits .before .before .before .before .before .before .before in
+    let entered = mixed .before .before .before in
+    let start = entered .before .before .before .before .before .before .before .before .before .before in
+    let f = start .pre .0 in
     let q = f .most in
     let r = f .tuple-cells in
-    let h = c .before .before .before .before .if3 .taken in
-    (f .index, record { cells = c .before .before .before .before .before .before .before .before .before .before .before .before .before .before .enter .kept .1 .1 .1 .1 .0; digest = c .before .before .before .before .before .before .before .before .before .before .before .digest .ensures .0; small = c .before .before .before .before .before .before .before .before .before .before .before .digest .ensures .1 }, omega arith, omega arith)
+    let h = fits .if3 .taken in
+    let e = mixed .digest .ensures in
+    (f .index, record { cells = entered .enter .kept .1 .1 .1 .1 .0; digest = e .0; small = e .1 }, omega arith, omega arith)
 
 add-result : tie.Need-add-result
 add-result c = search needs
@@ -121,12 +136,20 @@ same-length-8 c = search needs
 
 returns-3 : tie.Need-returns-3
 returns-3 c =
-    let a = c .before .before .before .before .before .before .before .before .before .before .before .before .before .before .before .before .before .before .before .before .before .before .before .before .before .before .before .before .before .before .before .args in
+    let added = c .before .before .before .before .before .before in
+    let fits = added .before .before .before .before .before in
+    let new = fits .before in
+    let found = new .before in
+    let entered = found .before .before .before .before .before .before .before .before in
+    let tested = entered .before .before .before in
+    let start = tested .before .before .before .before .before .before .before in
+    let a = start .args in
+    let f = start .pre .0 in
     let A = automaton (a .a) (a .table .now) in
-    let f = c .before .before .before .before .before .before .before .before .before .before .before .before .before .before .before .before .before .before .before .before .before .before .before .before .before .before .before .before .before .before .before .pre .0 in
-    let s : Taken (automaton (c .before .before .before .before .before .before .before .before .before .before .before .before .before .before .before .before .before .before .before .before .before .before .before .before .before .before .before .before .before .before .before .args .a) (c .before .before .before .before .before .before .before .before .before .before .before .before .before .before .before .before .before .before .before .before .before .before .before .before .before .before .before .before .before .before .before .args .table .now)) (c .before .before .before .before .before .before .before .before .before .before .before .before .before .before .before .before .before .before .before .before .before .before .before .before .before .before .before .before .before .before .before .args .c) (c .before .before .before .before .before .before .before .before .before .before .before .before .before .before .before .before .before .before .before .before .before .before .before .before .before .before .before .before .before .before .before .args .m) = record { from = c .before .before .before .before .before .before .before .before .before .before .before .before .before .before .before .before .before .before .before .before .before .before .before .before .before .before .before .before .before .before .before .pre .1; letter = c .before .before .before .before .before .before .before .before .before .before .before .before .before .before .before .before .before .before .before .before .before .before .before .before .if1 .left } in
-    let d = c .before .before .before .before .before .before .add in
-    goes-new A (a .room) (a .c) (a .m) (a .tuples .now) (a .nexts .now) (a .head .now) (a .link .now) f s (c .before .before .before .before .before .before .before .before .before .before .before .before .before .before .before .before .before .before .before .before .before .enter .last .1 .1 .1 .1 .0) (c .before .before .before .before .before .before .before .before .before .before .before .before .before .before .before .before .before .before .before .before .before .enter .ensures) (c .before .before .before .before .before .before .before .before .before .before .before .before .before .find .result) (c .before .before .before .before .before .before .before .before .before .before .before .before .before .find .ensures) (c .before .before .before .before .before .before .before .before .before .before .before .before .if2 .left) (c .before .before .before .before .before .before .before .before .before .before .before .if3 .taken)
+    let s : Taken A (a .c) (a .m) = record { from = start .pre .1; letter = tested .if1 .left } in
+    let d = added .add in
+    let e = entered .enter in
+    goes-new A (a .room) (a .c) (a .m) (a .tuples .now) (a .nexts .now) (a .head .now) (a .link .now) f s (e .last .1 .1 .1 .1 .0) (e .ensures) (found .find .result) (found .find .ensures) (new .if2 .left) (fits .if3 .taken)
     (d .last .0) (d .last .1 .1 .1 .1 .0) (d .last .1 .1 .1 .1 .1 .0) (d .ensures)
 
 add-result-2 : tie.Need-add-result-2
@@ -143,11 +166,17 @@ same-length-11 c = search needs
 
 returns-4 : tie.Need-returns-4
 returns-4 c =
-    let a = c .before .before .before .before .before .before .before .before .before .before .before .before .before .before .before .before .before .before .before .before .args in
+    let new = c .before in
+    let found = new .before in
+    let entered = found .before .before .before .before .before .before .before .before in
+    let tested = entered .before .before .before in
+    let start = tested .before .before .before .before .before .before .before in
+    let a = start .args in
+    let f = start .pre .0 in
     let A = automaton (a .a) (a .table .now) in
-    let f = c .before .before .before .before .before .before .before .before .before .before .before .before .before .before .before .before .before .before .before .before .pre .0 in
-    let s : Taken (automaton (c .before .before .before .before .before .before .before .before .before .before .before .before .before .before .before .before .before .before .before .before .args .a) (c .before .before .before .before .before .before .before .before .before .before .before .before .before .before .before .before .before .before .before .before .args .table .now)) (c .before .before .before .before .before .before .before .before .before .before .before .before .before .before .before .before .before .before .before .before .args .c) (c .before .before .before .before .before .before .before .before .before .before .before .before .before .before .before .before .before .before .before .before .args .m) = record { from = c .before .before .before .before .before .before .before .before .before .before .before .before .before .before .before .before .before .before .before .before .pre .1; letter = c .before .before .before .before .before .before .before .before .before .before .before .before .before .if1 .left } in
-    goes-over A (a .room) (a .c) (a .m) (a .tuples .now) (a .nexts .now) (a .head .now) (a .link .now) f s (c .before .before .before .before .before .before .before .before .before .before .enter .last .1 .1 .1 .1 .0) (c .before .before .before .before .before .before .before .before .before .before .enter .ensures) (c .before .before .find .result) (c .before .before .find .ensures) (c .before .if2 .left) (c .if3 .left)
+    let s : Taken A (a .c) (a .m) = record { from = start .pre .1; letter = tested .if1 .left } in
+    let e = entered .enter in
+    goes-over A (a .room) (a .c) (a .m) (a .tuples .now) (a .nexts .now) (a .head .now) (a .link .now) f s (e .last .1 .1 .1 .1 .0) (e .ensures) (found .find .result) (found .find .ensures) (new .if2 .left) (c .if3 .left)
 
 pub expand-spec : {M : Type 1} → statement M
 expand-spec =

@@ -33,9 +33,13 @@ begin-requires c κs =
 
 loop-holds : tie.Need-loop-holds Inv-loop μ-loop
 loop-holds c =
-    let a = c .before .before .before .before .before .before .before .before .before .before .before .args in
-    let b = c .before .before .before .before .begin in
-    (filled-begins (automaton (a .a) (a .table .now)) (a .room) (store (a .tuples .now) (a .nexts .now)) (c .before .before .before .before .before .before .before .before .before .before .before .pre) (b .last .1 .0) (b .last .1 .1 .0) (b .last .1 .1 .1 .0) (b .ensures), refl, refl)
+    let begun = c .before .before .before .before in
+    let start = begun .before .before .before .before .before .before .before in
+    let a = start .args in
+    let b = begun .begin in
+    let A = automaton (a .a) (a .table .now) in
+    let v = store (a .tuples .now) (a .nexts .now) in
+    (filled-begins A (a .room) v (start .pre) (b .last .1 .0) (b .last .1 .1 .0) (b .last .1 .1 .1 .0) (b .ensures), refl, refl)
 
 mul-loop : tie.Need-mul-loop Inv-loop μ-loop
 mul-loop c =
@@ -64,10 +68,15 @@ same-length-2 c = search needs
 
 returns : tie.Need-returns Inv-loop μ-loop
 returns c =
-    let a = c .before .before .before .before .before .before .before .before .before .before .before .before .before .before .before .before .before .before .before .before .before .before .before .before .before .args in
-    let l = c .before .before .before .before .before .before .before .before .before .before .before .before .before .loop in
-    let e = c .before .before .before .before .before .before .before .expand in
-    fills-over (automaton (a .a) (a .table .now)) (a .room) (l .c + 1) (e .result) (store (a .tuples .now) (a .nexts .now)) (store (e .last .1 .1 .1 .1 .1 .0) (e .last .1 .1 .1 .1 .1 .1 .0)) (c .if1 .taken) (e .ensures .over (c .if1 .taken))
+    let expanded = c .before .before .before .before .before .before .before in
+    let looped = expanded .before .before .before .before .before .before in
+    let start = looped .before .before .before .before .before .before .before .before .before .before .before .before in
+    let a = start .args in
+    let e = expanded .expand in
+    let A = automaton (a .a) (a .table .now) in
+    let v = store (a .tuples .now) (a .nexts .now) in
+    let w = store (e .last .1 .1 .1 .1 .1 .0) (e .last .1 .1 .1 .1 .1 .1 .0) in
+    fills-over A (a .room) (looped .loop .c + 1) (e .result) v w (c .if1 .taken) (e .ensures .over (c .if1 .taken))
 
 add-c : tie.Need-add-c Inv-loop μ-loop
 add-c c =

@@ -45,12 +45,16 @@ same-length-4 c = search needs
 
 returns-2 : tie.Need-returns-2
 returns-2 c =
-    let a = c .before .before .before .before .before .before .before .before .before .before .before .before .before .before .before .before .before .before .args in
-    let f = c .before .before .before .before .before .fill in
+    let filled = c .before .before .before .before .before in
+    let cleared = filled .before .before .before .before .before .before .before in
+    let start = cleared .before .before .before .before .before .before in
+    let a = start .args in
+    let f = filled .fill in
     let A = automaton (a .a) (a .table .now) in
+    let v = store (a .tuples .now) (a .nexts .now) in
     let w = store (f .last .1 .1 .1 .0) (f .last .1 .1 .1 .1 .0) in
     record {
-      fitting = λ l. cleared-fitted A (a .room) (store (a .tuples .now) (a .nexts .now)) w (f .result) (subst (λ (v : Store). Fitted A (a .room) v w (f .result)) (c .before .before .before .before .before .before .before .before .before .before .before .before .clear .ensures) (f .ensures .fitting l));
+      fitting = λ l. cleared-fitted A (a .room) v w (f .result) (subst (λ (x : Store). Fitted A (a .room) x w (f .result)) (cleared .clear .ensures) (f .ensures .fitting l));
       over = λ l. absurd (omega (arith, c .if1 .left));
     }
 
