@@ -52,7 +52,7 @@ fn sheet_b() -> Sheet {
 }
 
 /// The sheet whose shortest meeting word has n(n+1)/2 letters.
-fn longest_word(n: usize) -> Sheet {
+pub fn longest_word(n: usize) -> Sheet {
     let mut edges = Vec::new();
     for q in 0..n {
         edges.push((q, 0, (q + 1) % n));

@@ -183,6 +183,12 @@ fn main() {
     let programs = PathBuf::from(args.next().expect("the folder of the programs"));
     let count: usize = args.next().map_or(4000, |x| x.parse().expect("a count"));
     let mut b = Bench { programs, passed: 0, failed: 0, kinds: Default::default() };
+    for n in 2..=16 {
+        let s = cases::longest_word(n);
+        let file = write_sheet(&s, false);
+        b.expect("bound reached", walks::shortest_meeting(&s) == Some(n * (n + 1) / 2), &file);
+        b.rewritten(&file);
+    }
     for seed in 0..count {
         let mut r = Random::new(seed as u64);
         let most = [3, 5, 8, 16][seed % 4];
