@@ -8,13 +8,13 @@ use Rattle.gate.specs.Gate.{refusal, cleared}
 use Rattle.gate.specs.declared.Refusal.{Refusal}
 use Rattle.automaton.specs.Automaton.{Automaton}
 use Rattle.automaton.specs.Reading.{Passes}
-use Rattle.automaton.specs.Lent.{Tables, Long, clearedTables}
+use Rattle.automaton.specs.Lent.{Tables, clearedTables}
 use Rattle.format.specs.Format.{Sheet, numbers, most}
 use Rattle.sheet.specs.Read.{Accepted, Refuses, lentTable}
 use Rattle.plan.specs.Letter.{letterAt}
 use Rattle.plan.specs.Plan.{PlanIs, Faulty, mostPlan}
 use Rattle.tracker.specs.Numbering.{MoreThan}
-use Rattle.tracker.specs.Build.{Store, RoomFits, Fitted, clearedStore}
+use Rattle.tracker.specs.Build.{Store, Lent, Fitted, clearedStore}
 use Rattle.judge.specs.declared.Answer.{Answer}
 use Rattle.judge.specs.declared.Answer.the-variants.{Yes, No}
 use Rattle.judge.specs.declared.Outcome.{Outcome}
@@ -54,10 +54,10 @@ pub data Refusing (s p : List ℕ) (room : ℕ) (v w : Tables) (f : Store) (r : 
 -- THE VERDICT. s and p are the two files; the successor sets' table was t and is u, the witness v and w, the tuples and nexts f and g.
 abbrev pub Judgement : List ℕ → List ℕ → ℕ → List ℕ → List ℕ → Tables → Tables → Store → Store → Outcome → Type 0
 Judgement s p room t u v w f g (Refused r) =
-    (((128 ≤ length t) × Long v × RoomFits room f → ⊥) × (r ≡ refusal 1 0) × (u ≡ t) × (w ≡ v) × (g ≡ f))
-    ⊎ ((128 ≤ length t) × Long v × RoomFits room f × Refusing s p room v w f r × (u ≡ cleared t) × (g ≡ clearedStore f))
+    ((Lent room t v f → ⊥) × (r ≡ refusal 1 0) × (u ≡ t) × (w ≡ v) × (g ≡ f))
+    ⊎ (Lent room t v f × Refusing s p room v w f r × (u ≡ cleared t) × (g ≡ clearedStore f))
 Judgement s p room t u v w f g (Judged z) =
-    (128 ≤ length t) × Long v × RoomFits room f × SizesFit s p
+    Lent room t v f × SizesFit s p
     × ((σ : Sheet) × Accepted s σ × (u ≡ lentTable (numbers σ .table) t)
     × ((count : ℕ) × Fitted (numbers σ) room f g count
     × ((lead : List ℕ) × (cycle : List ℕ) × Verdicts σ p lead cycle count z)))

@@ -11,12 +11,13 @@ use Rattle.gate.specs.declared.Refusal.{Refusal}
 use Rattle.automaton.specs.Lent.{Tables, tables, clearedTables}
 use Rattle.format.specs.Format.{Sheet, FileIs, numbers}
 use Rattle.format.specs.NumbersLaws.{sheet-fits}
-use Rattle.sheet.specs.Read.{Accepted}
+use Rattle.sheet.specs.Read.{Accepted, Refuses}
 use Rattle.plan.specs.Letter.{letterAt}
 use Rattle.plan.specs.LetterLaws.{letter-below}
 use Rattle.plan.specs.Plan.{PlanIs}
 use Rattle.plan.specs.ReadLaws.{known-below}
 use Rattle.tracker.specs.Build.{Store, store, Fitted, clearedStore, Builds}
+use Rattle.tracker.specs.BuildLaws.{file-built}
 use Rattle.tracker.specs.declared.Tracker.{Tracker}
 use Rattle.tracker.specs.declared.Built.the-variants as B
 use Rattle.judge.specs.declared.Outcome.the-variants.{Refused, Judged}
@@ -62,45 +63,43 @@ store-cleared f tuples nexts a b = rw (a, b)
 same-cleared : (t u : List ℕ) → length u ≡ length t → cleared u ≡ cleared t
 same-cleared t u e = rw e
 
-module _ (s p : List ℕ) (room : ℕ) (t u : List ℕ) (v w : Tables) (f g : Store) where
+module _ {s p : List ℕ} {room : ℕ} {t u : List ℕ} {v w : Tables} {f g : Store} where
   -- 1 and 2
-  pub size-refused : (SizesFit s p → ⊥) → (r : Refusal) → TooLong room t u v w f g r → Judgement s p room t u v w f g (Refused r)
-  size-refused not-both r (inl h) = inl h
-  size-refused not-both r (inr (a, l, k, e, x, y, z)) = inr (a, l, k, Refusing.by-size not-both e y, x, z)
+  pub size-refused : {r : Refusal} → (SizesFit s p → ⊥) → TooLong room t u v w f g r → Judgement s p room t u v w f g (Refused r)
+  size-refused not-both (inl h) = inl h
+  size-refused not-both (inr (l, e, x, y, z)) = inr (l, Refusing.by-size not-both e y, x, z)
 
   module _ (sizes : SizesFit s p) where
     -- 1, and 3 to 11
-    pub built-refused : (r : Refusal) → Builds s room t u v w f g (B.Refused r) → Judgement s p room t u v w f g (Refused r)
-    built-refused r (inl h) = inl h
-    built-refused r (inr (a, l, k, x, z, inl h)) = inr (a, l, k, Refusing.by-sheet sizes h, x, z)
-    built-refused r (inr (a, l, k, x, z, inr (σ, h, m, e, y))) = inr (a, l, k, Refusing.by-room sizes σ h m e y, x, z)
+    pub built-refused : {r : Refusal} → Builds s room t u v w f g (B.Refused r) → Judgement s p room t u v w f g (Refused r)
+    built-refused (Builds.short n e x y z) = inl (n, (cc), x, y, z)
+    built-refused {r} (Builds.refused l q h e x z) = let i : q ≡ r = cc in inr (l, Refusing.by-sheet sizes (subst (Refuses s v w) i h), x, z)
+    built-refused (Builds.asked l σ h y (m, e, z) x) = inr (l, Refusing.by-room sizes σ h m e y, x, z)
 
-    module _ (x : Tracker) (built : Builds s room t u v w f g (B.Is x)) where
+    module _ {x : Tracker} (built : Builds s room t u v w f g (B.Is x)) where
       pub built-tables : length (g .tuples) ≡ length (f .tuples) → TablesFit (g .tuples) (g .nexts) (x .tuples)
       built-tables same =
-          let (a, l, k, (σ, accepted, are, is, fitted), y) = built in
-          tables-fit (sheet-fits s σ (accepted .file)) room (x .tuples) f g fitted k same
+          let (l, (σ, accepted, are, is, fitted), y) = file-built built in
+          tables-fit (sheet-fits s σ (accepted .file)) room (x .tuples) f g fitted (l .store) same
 
       -- 12 to 14
-      pub plan-refused : (r : Refusal) → ((σ : Sheet) → FileIs s σ → PlanJudged σ p (g .tuples) (g .nexts) (x .tuples) (Refused r))
+      pub plan-refused : {r : Refusal} {u′ : List ℕ} {g′ : Store} → ((σ : Sheet) → FileIs s σ → PlanJudged σ p (g .tuples) (g .nexts) (x .tuples) (Refused r))
           → length u ≡ length t → length (g .tuples) ≡ length (f .tuples) → length (g .nexts) ≡ length (f .nexts)
-          → (u′ : List ℕ) (g′ : Store) → u′ ≡ cleared u → g′ ≡ clearedStore g → Judgement s p room t u′ v w f g′ (Refused r)
-      plan-refused r h lu lt ln u′ g′ cu cg =
-          let (a, l, k, (σ, accepted, are, is, fitted), y) = built in
+          → u′ ≡ cleared u → g′ ≡ clearedStore g → Judgement s p room t u′ v w f g′ (Refused r)
+      plan-refused h lu lt ln cu cg =
+          let (l, (σ, accepted, are, is, fitted), y) = file-built built in
           let (number, line, faulty, e) = h σ (accepted .file) in
           inr (
-            a,
             l,
-            k,
             Refusing.by-plan sizes σ accepted g (x .tuples) fitted number line faulty e y,
             cu ∙ same-cleared t u lu,
             cg ∙ store-cleared f (cleared (g .tuples)) (cleared (g .nexts)) (same-cleared (f .tuples) (g .tuples) lt) (same-cleared (f .nexts) (g .nexts) ln),
           )
 
       -- the answer
-      pub plan-judged : (z : Verdict) → ((σ : Sheet) → FileIs s σ → PlanJudged σ p (g .tuples) (g .nexts) (x .tuples) (Judged z))
+      pub plan-judged : {z : Verdict} → ((σ : Sheet) → FileIs s σ → PlanJudged σ p (g .tuples) (g .nexts) (x .tuples) (Judged z))
           → Judgement s p room t u v w f g (Judged z)
-      plan-judged z h =
-          let (a, l, k, (σ, accepted, are, is, fitted), y) = built in
+      plan-judged {z} h =
+          let (l, (σ, accepted, are, is, fitted), y) = file-built built in
           let (lead, cycle, plan, table) = h σ (accepted .file) in
-          (a, l, k, sizes, (σ, accepted, is, (x .tuples, fitted, (lead, cycle, verdicts s σ accepted room f g (x .tuples) fitted p lead cycle z plan table))), y)
+          (l, sizes, (σ, accepted, is, (x .tuples, fitted, (lead, cycle, verdicts s σ accepted room f g (x .tuples) fitted p lead cycle z plan table))), y)

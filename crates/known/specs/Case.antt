@@ -6,13 +6,13 @@ use lib.ListN.{length}
 use Rattle.gate.specs.Gate.{refusal}
 use Rattle.gate.specs.declared.Refusal.{Refusal}
 use Rattle.automaton.specs.Meeting.{Everywhere, Witness}
-use Rattle.automaton.specs.Lent.{Tables, Long}
+use Rattle.automaton.specs.Lent.{Tables}
 use Rattle.format.specs.Format.{Sheet, FileIs, numbers}
 use Rattle.tuple.specs.Step.{Tuple}
 use Rattle.tracker.specs.declared.Tracker.{Tracker}
 use Rattle.tracker.specs.declared.Built.{Built}
 use Rattle.tracker.specs.declared.Built.the-variants as B
-use Rattle.tracker.specs.Build.{Store, RoomFits, Holds, Builds}
+use Rattle.tracker.specs.Build.{Store, Lent, Holds, Builds}
 use Rattle.judge.specs.declared.Outcome.{Outcome}
 use Rattle.judge.specs.declared.Outcome.the-variants as O
 use Rattle.judge.specs.declared.Verdict.{Verdict}
@@ -64,15 +64,9 @@ BuiltIs s f g o (judged z colours) = ((x : Tracker) × (o ≡ B.Is x) × (x .tup
 BuiltIs s f g o (refused number line) = number ≤ 11 → o ≡ B.Refused (refusal number line)
 BuiltIs s f g o (meeting word one other) = (o ≡ B.Refused (met (length word))) × Shortest s word one other
 
--- the lent tables are long enough
-pub record Enough (room : ℕ) (t : List ℕ) (v : Tables) (f : Store) : Type 0 where
-  pub cells : 128 ≤ length t
-  pub witness : Long v
-  pub tuples : RoomFits room f
-
 -- THE DEFINITIONS ALONE give what is expected: it is every outcome that they allow, in tables that are long enough
 pub record Forced (c : Case) : Type 0 where
-  pub verdict : (t u : List ℕ) (v w : Tables) (f g : Store) (o : Outcome) → Enough (c .room) t v f
+  pub verdict : (t u : List ℕ) (v w : Tables) (f g : Store) (o : Outcome) → Lent (c .room) t v f
       → Judgement (c .sheet) (c .plan) (c .room) t u v w f g o → VerdictIs (c .sheet) f g o (c .expected)
-  pub building : (t u : List ℕ) (v w : Tables) (f g : Store) (o : Built) → Enough (c .room) t v f
+  pub building : (t u : List ℕ) (v w : Tables) (f g : Store) (o : Built) → Lent (c .room) t v f
       → Builds (c .sheet) (c .room) t u v w f g o → BuiltIs (c .sheet) f g o (c .expected)

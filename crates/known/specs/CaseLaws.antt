@@ -38,7 +38,7 @@ use Rattle.known.specs.BelowLaws.{and-both}
 use Rattle.known.specs.VerdictTest.{isVerdict}
 use Rattle.known.specs.VerdictTestLaws.{verdict-is, one-verdict}
 use Rattle.known.specs.CaseTest.{automatonOf, isRefused, rightPlan, rightColours, right}
-use Rattle.known.specs.CauseLaws.{Planned, Tracks, verdict-cause, build-cause}
+use Rattle.known.specs.CauseLaws.{Planned, IsBuilt, verdict-cause, build-cause}
 use Rattle.known.specs.SheetLaws.{numbers-are, sheet-asked}
 
 refused-is : (number line : ℕ) (e : Expected) → isRefused number line e ≡ true → E.refused number line ≡ e
@@ -120,7 +120,7 @@ module _ (s p : List ℕ) (f g : Store) (σ : Sheet) (file : FileIs s σ) (x : C
           omega (arith, plan-number n l h, eqb-true n number a)
       by (passed y) h t = true-is-not-false (sym t)
 
-  tracker-asked : length p ≤ mostPlan → (o : Built) → Tracks f g o σ ts → (e : Expected) → rightColours ts e ≡ true → rightPlan A (planOf (x .names) p) e ≡ true
+  tracker-asked : length p ≤ mostPlan → (o : Built) → IsBuilt f g o σ ts → (e : Expected) → rightColours ts e ≡ true → rightPlan A (planOf (x .names) p) e ≡ true
       → BuiltIs s f g o e
   tracker-asked size o h (judged z colours) c t =
       let k = h .counted ∙ (sym (length-map ts (λ u. u .colour)) ∙ ap length (colours-are ts z colours c)) in
@@ -139,16 +139,16 @@ right-forced c e =
       plan = ltb-false mostPlan (length (c .plan)) (not-true (ltb mostPlan (length (c .plan))) b);
     } in
     record {
-      verdict = λ t u v w f g o enough h.
+      verdict = λ t u v w f g o lent h.
           sheet-asked (c .sheet) (c .plan) (c .room) Outcome O.Refused (Planned (c .plan) f g o) o (VerdictIs (c .sheet) f g o)
           (λ number line e t is. subst (VerdictIs (c .sheet) f g o) (refused-is number line e t) is)
           (λ word one other is k. (is, k))
           (λ σ file x are ts. plan-asked (c .sheet) (c .plan) f g σ file x are ts o)
-          (c .expected) j (verdict-cause (c .sheet) (c .room) t u v w f g enough (c .plan) size o h);
-      building = λ t u v w f g o enough h.
-          sheet-asked (c .sheet) (c .plan) (c .room) Built B.Refused (Tracks f g o) o (BuiltIs (c .sheet) f g o)
+          (c .expected) j (verdict-cause (c .sheet) (c .room) t u v w f g lent (c .plan) size o h);
+      building = λ t u v w f g o lent h.
+          sheet-asked (c .sheet) (c .plan) (c .room) Built B.Refused (IsBuilt f g o) o (BuiltIs (c .sheet) f g o)
           (λ number line e t is. subst (BuiltIs (c .sheet) f g o) (refused-is number line e t) (λ few. is))
           (λ word one other is k. (is, k))
           (λ σ file x are ts. tracker-asked (c .sheet) (c .plan) f g σ file x are ts (size .plan) o)
-          (c .expected) j (build-cause (c .sheet) (c .room) t u v w f g enough o h);
+          (c .expected) j (build-cause (c .sheet) (c .room) t u v w f g lent o h);
     }

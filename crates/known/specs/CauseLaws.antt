@@ -1,7 +1,7 @@
 -- The contracts of the verdict and of building, where the lent tables are long enough and the files are not too long: what leads to an outcome.
 -- Assumes nothing.
 use Prim.Native.Nat.{ℕ, _≤_}
-use mathlib.Core.Path.{_≡_, refl, ap}
+use mathlib.Core.Path.{_≡_, refl, ap, _∙_}
 use mathlib.Core.List.{List}
 use mathlib.Core.Logic.{inl, inr}
 use native.Mathlib.Omega.{arith}
@@ -17,7 +17,7 @@ use Rattle.tracker.specs.declared.Tracker.{Tracker}
 use Rattle.tracker.specs.declared.Built.{Built}
 use Rattle.tracker.specs.declared.Built.the-variants as B
 use Rattle.tracker.specs.Numbering.{Numbering, MoreThan}
-use Rattle.tracker.specs.Build.{Store, Holds, Fitted, Builds}
+use Rattle.tracker.specs.Build.{Store, Lent, Holds, Fitted, Builds}
 use Rattle.plan.specs.Letter.{letterAt}
 use Rattle.plan.specs.Plan.{PlanIs}
 use Rattle.plan.specs.Plan as Plan
@@ -26,7 +26,7 @@ use Rattle.judge.specs.declared.Outcome.the-variants as O
 use Rattle.judge.specs.declared.Verdict.{Verdict}
 use Rattle.judge.specs.Passes.{Judges}
 use Rattle.judge.specs.Verdict.{SizesFit, Refusing, Judgement}
-use Rattle.known.specs.Case.{met, Enough}
+use Rattle.known.specs.Case.{met}
 
 -- the sheet file s and the room lead to the outcome o: refused by question 2 to 11, or its tuples are numbered, and what Then says holds of them
 pub data Cause (s : List ℕ) (room : ℕ) (Outcomes : Type 0) (refuse : Refusal → Outcomes) (Then : Sheet → List Tuple → Type 0) (o : Outcomes) : Type 0 where
@@ -49,19 +49,19 @@ pub data Planned (p : List ℕ) (f g : Store) (o : Outcome) (σ : Sheet) (ts : L
       → (z : Verdict) → Judges (numbers σ) (letterAt lead cycle) (length lead) (length cycle) z → o ≡ O.Judged z → Planned p f g o σ ts
 
 -- or a tracker is built
-pub record Tracks (f g : Store) (o : Built) (σ : Sheet) (ts : List Tuple) : Type 0 where
+pub record IsBuilt (f g : Store) (o : Built) (σ : Sheet) (ts : List Tuple) : Type 0 where
   pub holds : Holds (numbers σ) ts f g
   pub tracker : Tracker
   pub is : o ≡ B.Is tracker
   pub counted : tracker .tuples ≡ length ts
 
-module _ (s : List ℕ) (room : ℕ) (t u : List ℕ) (v w : Tables) (f g : Store) (enough : Enough room t v f) where
-  sheet-cause : (Outcomes : Type 0) (refuse : Refusal → Outcomes) (Then : Sheet → List Tuple → Type 0) (r : Refusal)
-      → Refuses s v w r → Cause s room Outcomes refuse Then (refuse r)
-  sheet-cause Outcomes refuse Then r (Refuses.faulty number line h e c) = Cause.sheet-fault number line h (ap refuse e)
-  sheet-cause Outcomes refuse Then r (Refuses.meeting σ file m) =
+module _ (s : List ℕ) (room : ℕ) (t u : List ℕ) (v w : Tables) (f g : Store) (lent : Lent room t v f) where
+  sheet-cause : (Outcomes : Type 0) (refuse : Refusal → Outcomes) (Then : Sheet → List Tuple → Type 0) (o : Outcomes) (r : Refusal)
+      → Refuses s v w r → o ≡ refuse r → Cause s room Outcomes refuse Then o
+  sheet-cause Outcomes refuse Then o r (Refuses.faulty number line h e c) is = Cause.sheet-fault number line h (is ∙ ap refuse e)
+  sheet-cause Outcomes refuse Then o r (Refuses.meeting σ file m) is =
       Cause.meeting-walks σ file (r .length) (w .word) (w .one) (w .other) (m .witness)
-      (λ i. refuse (record { number = m .number i; line = m .line i; length = r .length }))
+      (is ∙ λ i. refuse (record { number = m .number i; line = m .line i; length = r .length }))
 
   room-is : (σ : Sheet) (h : Store) (count : ℕ) (fitted : Fitted (numbers σ) room f h count) → length (fitted .list) ≤ room
   room-is σ h count fitted = omega (arith, fitted .count-is, fitted .room-is)
@@ -69,22 +69,22 @@ module _ (s : List ℕ) (room : ℕ) (t u : List ℕ) (v w : Tables) (f g : Stor
   module _ (p : List ℕ) (size : SizesFit s p) where
     refusing-cause : (r : Refusal) → Refusing s p room v w f r → Cause s room Outcome O.Refused (Planned p f g (O.Refused r)) (O.Refused r)
     refusing-cause r (Refusing.by-size long e c) = absurd (long size)
-    refusing-cause r (Refusing.by-sheet fit h) = sheet-cause Outcome O.Refused (Planned p f g (O.Refused r)) r h
+    refusing-cause r (Refusing.by-sheet fit h) = sheet-cause Outcome O.Refused (Planned p f g (O.Refused r)) (O.Refused r) r h refl
     refusing-cause r (Refusing.by-room fit σ accepted h e c) = Cause.no-room σ accepted h (ap O.Refused e)
     refusing-cause r (Refusing.by-plan fit σ accepted h count fitted number line fault e c) =
         Cause.numbered σ accepted (fitted .list) (fitted .holds .numbering) (room-is σ h count fitted) (Planned.plan-fault number line fault (ap O.Refused e))
 
     pub verdict-cause : (o : Outcome) → Judgement s p room t u v w f g o → Cause s room Outcome O.Refused (Planned p f g o) o
-    verdict-cause (O.Refused r) (inl (short, e, x, y, z)) = absurd (short (enough .cells, enough .witness, enough .tuples))
-    verdict-cause (O.Refused r) (inr (a, b, c, h, x, y)) = refusing-cause r h
-    verdict-cause (O.Judged z) (a, b, c, d, (σ, accepted, e, (count, fitted, (lead, cycle, h))), x) =
+    verdict-cause (O.Refused r) (inl (short, e, x, y, z)) = absurd (short lent)
+    verdict-cause (O.Refused r) (inr (l, h, x, y)) = refusing-cause r h
+    verdict-cause (O.Judged z) (l, d, (σ, accepted, e, (count, fitted, (lead, cycle, h))), x) =
         Cause.numbered σ accepted (fitted .list) (fitted .holds .numbering) (room-is σ g count fitted)
         (Planned.verdict (fitted .holds) lead cycle (h .plan) z (h .judged) refl)
 
-  pub build-cause : (o : Built) → Builds s room t u v w f g o → Cause s room Built B.Refused (Tracks f g o) o
-  build-cause (B.Refused r) (inl (short, e, x, y, z)) = absurd (short (enough .cells, enough .witness, enough .tuples))
-  build-cause (B.Refused r) (inr (a, b, c, x, y, inl h)) = sheet-cause Built B.Refused (Tracks f g (B.Refused r)) r h
-  build-cause (B.Refused r) (inr (a, b, c, x, y, inr (σ, accepted, h, e, z))) = Cause.no-room σ accepted h (ap B.Refused e)
-  build-cause (B.Is x) (a, b, c, (σ, accepted, n, e, fitted), z) =
+  pub build-cause : (o : Built) → Builds s room t u v w f g o → Cause s room Built B.Refused (IsBuilt f g o) o
+  build-cause o (Builds.short short e x y z) = absurd (short lent)
+  build-cause o (Builds.refused l r h e x y) = sheet-cause Built B.Refused (IsBuilt f g o) o r h e
+  build-cause (B.Refused r) (Builds.asked l σ accepted z (h, e, y) x) = Cause.no-room σ accepted h (ap B.Refused e)
+  build-cause (B.Is x) (Builds.asked l σ accepted z (n, fitted) e) =
       Cause.numbered σ accepted (fitted .list) (fitted .holds .numbering) (room-is σ g (x .tuples) fitted)
       (record { holds = fitted .holds; tracker = x; is = refl; counted = fitted .count-is })

@@ -7,12 +7,53 @@ use tracker::Built;
 ghost use Rattle.automaton.specs.Automaton.{automaton};
 ghost use Rattle.automaton.specs.Lent.{tables};
 ghost use Rattle.tracker.specs.Build.{store};
+ghost use Rattle.listing.specs.Listing.{listing};
 ghost use Rattle.listing.specs.List.{ListsNumbers, Lists};
+ghost use Rattle.listing.specs.Put.{Sized, RefusedWith, Finishes};
 
 // The answer of listing: a refusal, or the count of bytes written.
 pub enum Listed {
     Refused(Refusal),
     Bytes(usize),
+}
+
+// A refusal by building: with 1, which is asked first, the buffer is not touched, and with every other number it is cleared.
+fn refuse(r: Refusal, out: &mut [u8]) -> Listed
+    ensures { λ l. ⌜ RefusedWith r (now (out .entry)) (now (out .exit)) l ⌝ }
+{
+    if r.number == 1 {
+        return Listed::Refused(r);
+    }
+    gate::clear_bytes(out);
+    Listed::Refused(r)
+}
+
+// The last question, whether the buffer is long enough, and the listing with zeros behind it.
+fn finish(
+    n: usize,
+    k: usize,
+    count: usize,
+    tuples: &mut [u16],
+    nexts: &mut [u16],
+    out: &mut [u8],
+) -> Listed
+    requires { ⌜ Sized n k count (now tuples) (now nexts) ⌝ }
+    ensures { λ l. ⌜ Finishes (listing n k count (now (tuples .entry)) (now (nexts .entry)))
+        (store (now (tuples .entry)) (now (nexts .entry))) (store (now (tuples .exit)) (now (nexts .exit))) (now (out .entry)) (now (out .exit)) l ⌝ }
+{
+    let bytes = writing::listing_length(n, k, count);
+    if out.len() < bytes {
+        gate::clear(tuples);
+        gate::clear(nexts);
+        gate::clear_bytes(out);
+        return Listed::Refused(Refusal {
+            number: 1,
+            line: 0,
+            length: 0,
+        });
+    }
+    writing::write(out, n, k, count, tuples, nexts);
+    Listed::Bytes(bytes)
 }
 
 // The listing of the tracker of a sheet as numbers.
@@ -27,33 +68,13 @@ pub fn list_numbers(
     other: &mut [u16],
     out: &mut [u8],
 ) -> Listed
-    ensures { λ r. ⌜ ListsNumbers (automaton a (now (table .entry))) room (tables (now (word .entry)) (now (one .entry)) (now (other .entry))) (tables (now (word .exit)) (now (one .exit)) (now (other .exit))) (store (now (tuples .entry)) (now (nexts .entry))) (store (now (tuples .exit)) (now (nexts .exit))) (now (out .entry)) (now (out .exit)) r ⌝ }
+    ensures { λ r. ⌜ ListsNumbers (automaton a (now (table .entry))) room
+        (tables (now (word .entry)) (now (one .entry)) (now (other .entry))) (tables (now (word .exit)) (now (one .exit)) (now (other .exit)))
+        (store (now (tuples .entry)) (now (nexts .entry))) (store (now (tuples .exit)) (now (nexts .exit))) (now (out .entry)) (now (out .exit)) r ⌝ }
 {
-    let built = tracker::build_numbers(a, table, room, tuples, nexts, word, one, other);
-    match built {
-        Built::Refused(r) => {
-            if r.number == 1 {
-                return Listed::Refused(r);
-            }
-            gate::clear_bytes(out);
-            Listed::Refused(r)
-        }
-        Built::Is(x) => {
-            let count = x.tuples;
-            let bytes = writing::listing_length(a.n, a.k, count);
-            if out.len() < bytes {
-                gate::clear(tuples);
-                gate::clear(nexts);
-                gate::clear_bytes(out);
-                return Listed::Refused(Refusal {
-                    number: 1,
-                    line: 0,
-                    length: 0,
-                });
-            }
-            writing::write(out, a.n, a.k, count, tuples, nexts);
-            Listed::Bytes(bytes)
-        }
+    match tracker::build_numbers(a, table, room, tuples, nexts, word, one, other) {
+        Built::Refused(r) => refuse(r, out),
+        Built::Is(x) => finish(x.numbers.n, x.numbers.k, x.tuples, tuples, nexts, out),
     }
 }
 
@@ -69,35 +90,18 @@ pub fn list(
     other: &mut [u16],
     out: &mut [u8],
 ) -> Listed
-    ensures { λ r. ⌜ Lists (now (sheet .entry)) room (now (table .entry)) (now (table .exit)) (tables (now (word .entry)) (now (one .entry)) (now (other .entry))) (tables (now (word .exit)) (now (one .exit)) (now (other .exit))) (store (now (tuples .entry)) (now (nexts .entry))) (store (now (tuples .exit)) (now (nexts .exit))) (now (out .entry)) (now (out .exit)) r ⌝ }
+    ensures { λ r. ⌜ Lists (now (sheet .entry)) room (now (table .entry)) (now (table .exit))
+        (tables (now (word .entry)) (now (one .entry)) (now (other .entry))) (tables (now (word .exit)) (now (one .exit)) (now (other .exit)))
+        (store (now (tuples .entry)) (now (nexts .entry))) (store (now (tuples .exit)) (now (nexts .exit))) (now (out .entry)) (now (out .exit)) r ⌝ }
 {
-    let built = tracker::build(sheet, room, table, tuples, nexts, word, one, other);
-    match built {
-        Built::Refused(r) => {
-            if r.number == 1 {
-                return Listed::Refused(r);
-            }
-            gate::clear_bytes(out);
-            Listed::Refused(r)
-        }
+    match tracker::build(sheet, room, table, tuples, nexts, word, one, other) {
+        Built::Refused(r) => refuse(r, out),
         Built::Is(x) => {
-            let n = x.numbers.n;
-            let k = x.numbers.k;
-            let count = x.tuples;
-            let bytes = writing::listing_length(n, k, count);
-            if out.len() < bytes {
+            let listed = finish(x.numbers.n, x.numbers.k, x.tuples, tuples, nexts, out);
+            if let Listed::Refused(_) = listed {
                 gate::clear(table);
-                gate::clear(tuples);
-                gate::clear(nexts);
-                gate::clear_bytes(out);
-                return Listed::Refused(Refusal {
-                    number: 1,
-                    line: 0,
-                    length: 0,
-                });
             }
-            writing::write(out, n, k, count, tuples, nexts);
-            Listed::Bytes(bytes)
+            listed
         }
     }
 }

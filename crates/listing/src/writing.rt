@@ -94,6 +94,7 @@ pub fn write(out: &mut [u8], n: usize, k: usize, count: usize, tuples: &[u16], n
     requires { ⌜ Sized n k count (now tuples) (now nexts) × (listingBytes n k count ≤ length (now out)) ⌝ }
     ensures { λ _. ⌜ now (out .exit) ≡ lentText (listing n k count (now (tuples .entry)) (now (nexts .entry))) (now (out .entry)) ⌝ }
 {
-    gate::clear_bytes(out);
     put_listing(out, n, k, count, tuples, nexts);
+    let end = listing_length(n, k, count);
+    gate::clear_bytes(&mut out[end..]);
 }

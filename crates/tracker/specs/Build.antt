@@ -2,9 +2,9 @@
 use Prim.Native.Nat.{ℕ, _-_, _*_, _≤_}
 use mathlib.Core.Path.{_≡_}
 use mathlib.Core.List.{List, _++_}
-use mathlib.Core.Logic.{_⊎_}
 use lib.ListN.{length, replicate}
 use Rattle.gate.specs.Gate.{refusal, cleared}
+use Rattle.gate.specs.declared.Refusal.{Refusal}
 use Rattle.automaton.specs.Automaton.{Automaton, Fits}
 use Rattle.automaton.specs.Meeting.{Free, Everywhere}
 use Rattle.automaton.specs.Lent.{Tables, Long, clearedTables, NumbersRefuse}
@@ -33,6 +33,13 @@ pub record RoomFits (room : ℕ) (v : Store) : Type 0 where
   pub tuples : 17 * room ≤ length (v .tuples)
   pub nexts : 8 * room ≤ length (v .nexts)
 
+-- QUESTION 1: "Are the lent tables long enough (128 successor sets; a witness of 136 letters and two walks of 137 states; for room R, 17·R
+-- tuple numbers and 8·R next numbers ..), and is R 1 to 1,024?" The successor sets' table is t, the witness v, the tuples and nexts f.
+pub record Lent (room : ℕ) (t : List ℕ) (v : Tables) (f : Store) : Type 0 where
+  pub table : 128 ≤ length t
+  pub witness : Long v
+  pub store : RoomFits room f
+
 -- the tracker of A in lent tables that were v and are w: every cell is given, and those without a meaning are zero
 pub record Holds (A : Automaton) (ts : List Tuple) (v w : Store) : Type 0 where
   pub numbering : Numbering A ts
@@ -40,32 +47,38 @@ pub record Holds (A : Automaton) (ts : List Tuple) (v w : Store) : Type 0 where
   pub nexts : NextCells A ts (w .nexts)
   pub same : length (w .nexts) ≡ length (v .nexts)
 
--- QUESTION 11 on an accepted automaton: refused, or built with all its tuples
+-- a tracker with all its tuples, for which there is room
 pub record Fitted (A : Automaton) (room : ℕ) (v w : Store) (count : ℕ) : Type 0 where
   pub list : List Tuple
   pub count-is : count ≡ length list
   pub room-is : count ≤ room
   pub holds : Holds A list v w
 
+-- QUESTION 11 on the automaton A, in tables that were f and are g: the tracker, or 11 with both all zero
+abbrev pub Tracks : Automaton → ℕ → Store → Store → Built → Type 0
+Tracks A room f g (Refused r) = MoreThan A room × (r ≡ refusal 11 0) × (g ≡ clearedStore f)
+Tracks A room f g (Is x) = AreNumbers A (x .numbers) × Fitted A room f g (x .tuples)
+
 -- BUILDING FROM NUMBERS. The sheet as numbers is A; the witness was v and is w, the tuples and nexts were f and are g.
-abbrev pub BuildsNumbers : Automaton → ℕ → Tables → Tables → Store → Store → Built → Type 0
-BuildsNumbers A room v w f g (Refused r) =
-    (((128 ≤ length (A .table)) × Long v × RoomFits room f → ⊥) × (r ≡ refusal 1 0) × (w ≡ v) × (g ≡ f))
-    ⊎ ((128 ≤ length (A .table)) × Long v × RoomFits room f × (g ≡ clearedStore f)
-    × (NumbersRefuse A v w r
-    ⊎ (Fits A × Free A Everywhere × MoreThan A room × (r ≡ refusal 11 0) × (w ≡ clearedTables v))))
-BuildsNumbers A room v w f g (Is x) =
-    (128 ≤ length (A .table)) × Long v × RoomFits room f
-    × Fits A × Free A Everywhere × AreNumbers A (x .numbers) × Fitted A room f g (x .tuples) × (w ≡ clearedTables v)
+pub data BuildsNumbers (A : Automaton) (room : ℕ) (v w : Tables) (f g : Store) (b : Built) : Type 0 where
+  -- 1, asked first: nothing is touched
+  short : (Lent room (A .table) v f → ⊥) → b ≡ Refused (refusal 1 0) → w ≡ v → g ≡ f → BuildsNumbers A room v w f g b
+  -- 4, 7, 8 and 10
+  refused : Lent room (A .table) v f → (r : Refusal) → NumbersRefuse A v w r → b ≡ Refused r → g ≡ clearedStore f → BuildsNumbers A room v w f g b
+  -- 11, or the tracker
+  asked : Lent room (A .table) v f → Fits A → Free A Everywhere → w ≡ clearedTables v → Tracks A room f g b → BuildsNumbers A room v w f g b
+
+-- a lent table of successor sets, which was t, behind question 11: all zero with a refusal, and the sheet's with its tracker
+abbrev pub TableIs : List ℕ → List ℕ → List ℕ → Built → Type 0
+TableIs sets t u (Refused r) = u ≡ cleared t
+TableIs sets t u (Is x) = u ≡ lentTable sets t
 
 -- BUILDING FROM A SHEET FILE s. The successor sets' table was t and is u.
-abbrev pub Builds : List ℕ → ℕ → List ℕ → List ℕ → Tables → Tables → Store → Store → Built → Type 0
-Builds s room t u v w f g (Refused r) =
-    (((128 ≤ length t) × Long v × RoomFits room f → ⊥) × (r ≡ refusal 1 0) × (u ≡ t) × (w ≡ v) × (g ≡ f))
-    ⊎ ((128 ≤ length t) × Long v × RoomFits room f × (u ≡ cleared t) × (g ≡ clearedStore f)
-    × (Refuses s v w r
-    ⊎ ((σ : Sheet) × Accepted s σ × MoreThan (numbers σ) room × (r ≡ refusal 11 0) × (w ≡ clearedTables v))))
-Builds s room t u v w f g (Is x) =
-    (128 ≤ length t) × Long v × RoomFits room f
-    × ((σ : Sheet) × Accepted s σ × AreNumbers (numbers σ) (x .numbers) × (u ≡ lentTable (numbers σ .table) t) × Fitted (numbers σ) room f g (x .tuples))
-    × (w ≡ clearedTables v)
+pub data Builds (s : List ℕ) (room : ℕ) (t u : List ℕ) (v w : Tables) (f g : Store) (b : Built) : Type 0 where
+  -- 1, asked first: nothing is touched
+  short : (Lent room t v f → ⊥) → b ≡ Refused (refusal 1 0) → u ≡ t → w ≡ v → g ≡ f → Builds s room t u v w f g b
+  -- 2 to 10
+  refused : Lent room t v f → (r : Refusal) → Refuses s v w r → b ≡ Refused r → u ≡ cleared t → g ≡ clearedStore f → Builds s room t u v w f g b
+  -- 11, or the tracker
+  asked : Lent room t v f → (σ : Sheet) → Accepted s σ → w ≡ clearedTables v → Tracks (numbers σ) room f g b → TableIs (numbers σ .table) t u b
+      → Builds s room t u v w f g b

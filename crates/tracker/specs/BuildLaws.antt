@@ -1,76 +1,60 @@
 -- The answers of building, one by one. Assumes nothing.
-use Prim.Native.Nat.{ℕ, _+_, _-_, _*_, _^_, _≤_, _<_}
+use Prim.Native.Nat.{ℕ, _+_, _-_, _*_, _^_}
 use mathlib.Core.Path.{_≡_, refl, sym, ap, subst, _∙_}
 use mathlib.Core.List.{List, [], _∷_}
+use mathlib.Core.Bool.{Bool}
 use mathlib.Core.Logic.{inl, inr}
+use native.Mathlib.Omega.{arith}
 use lib.ListN.{length, getD, take, replicate, length-set, length-replicate}
 use lib.Seq.{take-at}
-use Rattle.gate.specs.Gate.{refusal, cleared}
+use Rattle.gate.specs.Gate.{cleared}
 use Rattle.gate.specs.declared.Refusal.{Refusal}
 use Rattle.sets.specs.Sets.{unionOf}
 use Rattle.automaton.specs.Automaton.{Automaton, automaton, Fits}
-use Rattle.automaton.specs.Lent.{Tables, Long}
+use Rattle.automaton.specs.Lent.{Tables, clearedTables}
+use Rattle.automaton.specs.Questions.{Decides}
 use Rattle.walks.specs.Check.{Checks}
-use Rattle.walks.specs.declared.Checked.the-variants.{Refused as CheckRefused, Free as CheckFree}
+use Rattle.walks.specs.declared.Checked.the-variants.{Refused as CheckRefused}
 use Rattle.format.specs.Format.{Sheet, Transition, tableOf, numbers, entered as cellEntered}
 use Rattle.format.specs.NumbersLaws.{sheet-fits}
-use Rattle.sheet.specs.Read.{AreNumbers, Reads, lentTable}
+use Rattle.sheet.specs.Read.{Accepted, AreNumbers, Reads, lentTable}
 use Rattle.sheet.specs.declared.Read.the-variants.{Refused as ReadRefused, Is as ReadIs}
 use Rattle.automaton.specs.declared.Numbers.{Numbers}
+use Rattle.tracker.specs.declared.Tracker.{Tracker}
 use Rattle.tracker.specs.declared.Built.the-variants.{Refused, Is}
-use Rattle.tracker.specs.Numbering.{MoreThan}
-use Rattle.tracker.specs.Build.{Store, clearedStore, RoomFits, Fitted, BuildsNumbers, Builds}
-use Rattle.tracker.specs.Fill.{Fit, Enough}
+use Rattle.tracker.specs.Build.{Store, clearedStore, Lent, Fitted, Tracks, BuildsNumbers, Builds}
+use Rattle.tracker.specs.Fill.{Enough}
 
--- QUESTION 1
-
--- of a table t of successor sets, the witness v and the store f
-abbrev pub EnoughFor : ℕ → List ℕ → Tables → Store → Type 0
-EnoughFor room t v f =
-    Enough room (length t) (length (f .tuples)) (length (f .nexts)) (length (v .word)) (length (v .one)) (length (v .other))
-
-module _ (room : ℕ) (t : List ℕ) (v : Tables) (f : Store) where
-  pub enough-lent : EnoughFor room t v f → (128 ≤ length t) × Long v × RoomFits room f
-  enough-lent e = (
-    e .for-table,
-    record { word = e .for-word; one = e .for-one; other = e .for-other },
-    record { some = e .some; most = e .most; tuples = e .for-tuples; nexts = e .for-nexts },
-  )
-
-  pub lent-enough : (128 ≤ length t) × Long v × RoomFits room f → EnoughFor room t v f
-  lent-enough (c, l, r) = record {
-    some = r .some;
-    most = r .most;
-    for-tuples = r .tuples;
-    for-nexts = r .nexts;
-    for-table = c;
-    for-word = l .word;
-    for-one = l .one;
-    for-other = l .other;
-  }
+-- QUESTION 1 by the tables' lengths
+pub lent-decided : {answer : Bool} {room : ℕ} {t : List ℕ} {v : Tables} {f : Store}
+    → Decides answer (Enough room (length t) (length (f .tuples)) (length (f .nexts)) (length (v .word)) (length (v .one)) (length (v .other)))
+    → Decides answer (Lent room t v f)
+lent-decided (enough, short) = (
+  λ yes.
+      let e = enough yes in
+      record {
+        table = e .for-table;
+        witness = record { word = e .for-word; one = e .for-one; other = e .for-other };
+        store = record { some = e .some; most = e .most; tuples = e .for-tuples; nexts = e .for-nexts };
+      },
+  λ no l.
+      short no (record {
+        some = l .store .some;
+        most = l .store .most;
+        for-tuples = l .store .tuples;
+        for-nexts = l .store .nexts;
+        for-table = l .table;
+        for-word = l .witness .word;
+        for-one = l .witness .one;
+        for-other = l .witness .other;
+      }),
+)
 
 -- FROM NUMBERS
-
-module _ (A : Automaton) (room : ℕ) (v : Tables) (f : Store) where
-  pub numbers-short : (EnoughFor room (A .table) v f → ⊥) → BuildsNumbers A room v v f f (Refused (refusal 1 0))
-  numbers-short n = inl (λ h. n (lent-enough room (A .table) v f h), refl, refl, refl)
-
-  module _ (e : EnoughFor room (A .table) v f) (w : Tables) where
-    pub numbers-refused : (g : Store) (r : Refusal) → Checks A v w (CheckRefused r) → g ≡ clearedStore f → BuildsNumbers A room v w f g (Refused r)
-    numbers-refused g r (inl (n, q, z)) c = let (l, long, h) = enough-lent room (A .table) v f e in absurd (n (record { cells = l; long = long }))
-    numbers-refused g r (inr (l, n)) c = let (l, long, h) = enough-lent room (A .table) v f e in inr (l, long, h, c, inl n)
-
-    pub numbers-over : (g : Store) (m : ℕ) → Checks A v w CheckFree → Fit A room f g m → room < m → BuildsNumbers A room v w f g (Refused (refusal 11 0))
-    numbers-over g m (x, fits, free, z) t h =
-        let (l, long, r) = enough-lent room (A .table) v f e in
-        let (more, c) = t .over h in
-        inr (l, long, r, c, inr (fits, free, more, refl, z))
-
-    pub numbers-is : (g : Store) (m : ℕ) (a : Numbers) → AreNumbers A a → Checks A v w CheckFree → Fit A room f g m → m ≤ room
-        → BuildsNumbers A room v w f g (Is (record { numbers = a; tuples = m }))
-    numbers-is g m a n (x, fits, free, z) t h =
-        let (l, long, r) = enough-lent room (A .table) v f e in
-        (l, long, r, fits, free, n, t .fitting h, z)
+pub numbers-refused : {A : Automaton} {room : ℕ} {v w : Tables} {f g : Store} {r : Refusal} → Lent room (A .table) v f
+    → Checks A v w (CheckRefused r) → g ≡ clearedStore f → BuildsNumbers A room v w f g (Refused r)
+numbers-refused lent (inl (n, q, z)) c = absurd (n (record { cells = lent .table; long = lent .witness }))
+numbers-refused {r = r} lent (inr (l, n)) c = BuildsNumbers.refused lent r n refl c
 
 -- FROM A SHEET FILE
 
@@ -89,28 +73,39 @@ read-is σ a t u n e =
     let p : take 128 u ≡ numbers σ .table = ap (take 128) e ∙ take-at (numbers σ .table) (replicate (length t - 128) 0) 128 (numbers-length σ) in
     λ i. record { n = n .n i; k = n .k i; initial = n .initial i; recurring = n .recurring i; table = p i }
 
-module _ (s : List ℕ) (room : ℕ) (t : List ℕ) (v : Tables) (f : Store) where
-  pub file-short : (EnoughFor room t v f → ⊥) → Builds s room t t v v f f (Refused (refusal 1 0))
-  file-short n = inl (λ h. n (lent-enough room t v f h), refl, refl, refl, refl)
+pub read-fits : {s u : List ℕ} {v w : Tables} {a : Numbers} (t : List ℕ) → Reads s t u v w (ReadIs a) → Fits (automaton a (take 128 u))
+read-fits {s} {u} {a = a} t (l, long, (σ, x, n, z), q) = subst Fits (sym (read-is σ a t u n z)) (sheet-fits s σ (x .file))
 
-  module _ (e : EnoughFor room t v f) (u : List ℕ) (w : Tables) where
-    pub file-refused : (g : Store) (r : Refusal) → Reads s t u v w (ReadRefused r) → g ≡ clearedStore f → Builds s room t u v w f g (Refused r)
-    file-refused g r (inl (n, q, z, x)) c = let (l, long, h) = enough-lent room t v f e in absurd (n (l, long))
-    file-refused g r (inr (l, long, q, z)) c = let (k, long', h) = enough-lent room t v f e in inr (l, long, h, z, c, inl q)
+module _ {s : List ℕ} {room : ℕ} {t u : List ℕ} {v w : Tables} {f g : Store} (lent : Lent room t v f) where
+  pub file-refused : {r : Refusal} → Reads s t u v w (ReadRefused r) → g ≡ clearedStore f → Builds s room t u v w f g (Refused r)
+  file-refused (inl (n, q, z, x)) c = absurd (n (lent .table, lent .witness))
+  file-refused {r} (inr (l, long, q, z)) c = Builds.refused lent r q refl z c
 
-    -- the automaton fits
-    pub file-fits : (a : Numbers) → Reads s t u v w (ReadIs a) → Fits (automaton a (take 128 u))
-    file-fits a (l, long, (σ, x, n, z), q) = subst Fits (sym (read-is σ a t u n z)) (sheet-fits s σ (x .file))
+  -- 11: then the successor sets' table is o
+  pub file-over : {a : Numbers} {r : Refusal} {o : List ℕ} → Reads s t u v w (ReadIs a) → Tracks (automaton a (take 128 u)) room f g (Refused r)
+      → o ≡ cleared t → Builds s room t o v w f g (Refused r)
+  file-over {a} {r} (l, long, (σ, x, n, z), q) h e =
+      Builds.asked lent σ x q (subst (λ (A : Automaton). Tracks A room f g (Refused r)) (read-is σ a t u n z) h) e
 
-    pub file-over : (g : Store) (m : ℕ) (a : Numbers) → Reads s t u v w (ReadIs a) → Fit (automaton a (take 128 u)) room f g m → room < m
-        → (u' : List ℕ) → u' ≡ cleared t → Builds s room t u' v w f g (Refused (refusal 11 0))
-    file-over g m a (l, long, (σ, x, n, z), q) b h u' y =
-        let (k, long', r) = enough-lent room t v f e in
-        let (more, c) = b .over h in
-        inr (l, long, r, y, c, inr (σ, x, subst (λ (A : Automaton). MoreThan A room) (read-is σ a t u n z) more, refl, q))
+  pub file-is : {a : Numbers} {y : Tracker} → Reads s t u v w (ReadIs a) → Tracks (automaton a (take 128 u)) room f g (Is y) → Builds s room t u v w f g (Is y)
+  file-is {a} {y} (l, long, (σ, x, n, z), q) h =
+      Builds.asked lent σ x q (subst (λ (A : Automaton). Tracks A room f g (Is y)) (read-is σ a t u n z) h) z
 
-    pub file-is : (g : Store) (m : ℕ) (a : Numbers) → Reads s t u v w (ReadIs a) → Fit (automaton a (take 128 u)) room f g m → m ≤ room
-        → Builds s room t u v w f g (Is (record { numbers = a; tuples = m }))
-    file-is g m a (l, long, (σ, x, n, z), q) b h =
-        let (k, long', r) = enough-lent room t v f e in
-        (l, long, r, (σ, x, n, z, subst (λ (A : Automaton). Fitted A room f g m) (read-is σ a t u n z) (b .fitting h)), q)
+-- WHAT A TRACKER TELLS of the questions on the way to it
+
+no-refusal : {x : Tracker} {r : Refusal} → Is x ≡ Refused r → ⊥
+no-refusal e = let z : _≡_ {A = ℕ} 0 1 = cc in omega arith
+
+pub numbers-built : {A : Automaton} {room : ℕ} {v w : Tables} {f g : Store} {x : Tracker} → BuildsNumbers A room v w f g (Is x)
+    → Lent room (A .table) v f × Fits A × AreNumbers A (x .numbers) × Fitted A room f g (x .tuples)
+numbers-built (BuildsNumbers.short n e p q) = absurd (no-refusal e)
+numbers-built (BuildsNumbers.refused l r h e c) = absurd (no-refusal e)
+numbers-built (BuildsNumbers.asked l fits free c (a, h)) = (l, fits, a, h)
+
+pub file-built : {s : List ℕ} {room : ℕ} {t u : List ℕ} {v w : Tables} {f g : Store} {x : Tracker} → Builds s room t u v w f g (Is x)
+    → Lent room t v f
+    × ((σ : Sheet) × Accepted s σ × AreNumbers (numbers σ) (x .numbers) × (u ≡ lentTable (numbers σ .table) t) × Fitted (numbers σ) room f g (x .tuples))
+    × (w ≡ clearedTables v)
+file-built (Builds.short n e o p q) = absurd (no-refusal e)
+file-built (Builds.refused l r h e o c) = absurd (no-refusal e)
+file-built (Builds.asked l σ y c (a, h) o) = (l, (σ, y, a, o, h), c)

@@ -9,7 +9,7 @@ use Rattle.automaton.specs.Automaton.{Automaton, Fits}
 use Rattle.tuple.specs.Colour.{neutral}
 use Rattle.tuple.specs.Step.{Tuple}
 use Rattle.tracker.specs.Numbering.{tupleAt, entered, rows, MoreThan}
-use Rattle.tracker.specs.Build.{Store, clearedStore, RoomFits, Fitted}
+use Rattle.tracker.specs.Build.{Store, RoomFits, Fitted}
 use Rattle.tracker.specs.Explore.{found}
 
 -- "its next on letter l is number 8t+l", of the steps before c; every other cell is zero
@@ -65,11 +65,6 @@ pub record Filling (A : Automaton) (room : ℕ) (v : Store) : Type 0 where
 pub record Fills (A : Automaton) (room : ℕ) (v w : Store) (r : ℕ) : Type 0 where
   pub fitting : r ≤ room → Fitted A room v w r
   pub over : room < r → MoreThan A room
-
--- the same in tables with any contents: where there are too many the tables are all zero
-pub record Fit (A : Automaton) (room : ℕ) (v w : Store) (r : ℕ) : Type 0 where
-  pub fitting : r ≤ room → Fitted A room v w r
-  pub over : room < r → MoreThan A room × (w ≡ clearedStore v)
 
 -- QUESTION 1 of building, on the lengths of the lent tables
 pub record Enough (room table tuples nexts word one other : ℕ) : Type 0 where

@@ -4,11 +4,11 @@ ghost use mathlib.Core.Path.{_≡_};
 ghost use Prim.Native.Nat.{_<_, _≤_, _+_, _/_, _%_};
 ghost use lib.ListN.{length};
 ghost use Rattle.rows.specs.Rows.{rowAt, Added};
-ghost use Rattle.automaton.specs.Automaton.{automaton, Fits};
+ghost use Rattle.automaton.specs.Automaton.{automaton};
 ghost use Rattle.tuple.specs.Step.{next};
 ghost use Rattle.tuple.specs.Row.{row, tupleOf, Steps};
-ghost use Rattle.tracker.specs.Build.{store, clearedStore, RoomFits};
-ghost use Rattle.tracker.specs.Fill.{firstCells, NoRows, Entering, Filled, Goes, Filling, Fills, Fit};
+ghost use Rattle.tracker.specs.Build.{store, clearedStore};
+ghost use Rattle.tracker.specs.Fill.{firstCells, NoRows, Entering, Filled, Goes, Filling, Fills};
 
 // The first tuple becomes row 0.
 fn begin(a: Numbers, tuples: &mut [u16], head: &mut [u16], link: &mut [u16])
@@ -67,7 +67,7 @@ fn expand(
 }
 
 // All steps from the first tuple on, in cleared tables: the count of tuples, or a number above the room where they are too many.
-fn fill(a: Numbers, table: &[u16], room: usize, tuples: &mut [u16], nexts: &mut [u16]) -> usize
+pub fn fill(a: Numbers, table: &[u16], room: usize, tuples: &mut [u16], nexts: &mut [u16]) -> usize
     requires { ⌜ Filling (automaton a (now table)) room (store (now tuples) (now nexts)) ⌝ }
     ensures { λ r. ⌜ Fills (automaton a (now (table .entry))) room (store (now (tuples .entry)) (now (nexts .entry))) (store (now (tuples .exit)) (now (nexts .exit))) r ⌝ }
 {
@@ -92,17 +92,4 @@ pub fn clear(tuples: &mut [u16], nexts: &mut [u16])
 {
     gate::clear(tuples);
     gate::clear(nexts);
-}
-
-// Question 11 of an automaton that fits, in tables with any contents.
-pub fn fit(a: Numbers, table: &[u16], room: usize, tuples: &mut [u16], nexts: &mut [u16]) -> usize
-    requires { ⌜ Fits (automaton a (now table)) × RoomFits room (store (now tuples) (now nexts)) ⌝ }
-    ensures { λ r. ⌜ Fit (automaton a (now (table .entry))) room (store (now (tuples .entry)) (now (nexts .entry))) (store (now (tuples .exit)) (now (nexts .exit))) r ⌝ }
-{
-    clear(tuples, nexts);
-    let m = fill(a, table, room, tuples, nexts);
-    if room < m {
-        clear(tuples, nexts);
-    }
-    m
 }

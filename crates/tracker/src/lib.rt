@@ -5,10 +5,10 @@ use automaton::Numbers;
 use gate::Refusal;
 use sheet::Read;
 use walks::Checked;
-ghost use Rattle.automaton.specs.Automaton.{automaton};
+ghost use Rattle.automaton.specs.Automaton.{automaton, Fits};
 ghost use Rattle.automaton.specs.Questions.{Decides};
 ghost use Rattle.automaton.specs.Lent.{tables};
-ghost use Rattle.tracker.specs.Build.{store, BuildsNumbers, Builds};
+ghost use Rattle.tracker.specs.Build.{store, RoomFits, Tracks, BuildsNumbers, Builds};
 ghost use Rattle.tracker.specs.Fill.{Enough};
 
 // A tracker that was built: the sheet's numbers, and how many tuples the tables hold.
@@ -61,6 +61,28 @@ pub fn enough(
     true
 }
 
+// Question 11 on an automaton that fits, in tables with any contents.
+fn track(a: Numbers, table: &[u16], room: usize, tuples: &mut [u16], nexts: &mut [u16]) -> Built
+    requires { ⌜ Fits (automaton a (now table)) × RoomFits room (store (now tuples) (now nexts)) ⌝ }
+    ensures { λ r. ⌜ Tracks (automaton a (now (table .entry))) room
+        (store (now (tuples .entry)) (now (nexts .entry))) (store (now (tuples .exit)) (now (nexts .exit))) r ⌝ }
+{
+    filling::clear(tuples, nexts);
+    let m = filling::fill(a, table, room, tuples, nexts);
+    if room < m {
+        filling::clear(tuples, nexts);
+        return Built::Refused(Refusal {
+            number: 11,
+            line: 0,
+            length: 0,
+        });
+    }
+    Built::Is(Tracker {
+        numbers: a,
+        tuples: m,
+    })
+}
+
 // A tracker from a sheet as numbers.
 pub fn build_numbers(
     a: Numbers,
@@ -72,7 +94,9 @@ pub fn build_numbers(
     one: &mut [u16],
     other: &mut [u16],
 ) -> Built
-    ensures { λ r. ⌜ BuildsNumbers (automaton a (now (table .entry))) room (tables (now (word .entry)) (now (one .entry)) (now (other .entry))) (tables (now (word .exit)) (now (one .exit)) (now (other .exit))) (store (now (tuples .entry)) (now (nexts .entry))) (store (now (tuples .exit)) (now (nexts .exit))) r ⌝ }
+    ensures { λ r. ⌜ BuildsNumbers (automaton a (now (table .entry))) room
+        (tables (now (word .entry)) (now (one .entry)) (now (other .entry))) (tables (now (word .exit)) (now (one .exit)) (now (other .exit)))
+        (store (now (tuples .entry)) (now (nexts .entry))) (store (now (tuples .exit)) (now (nexts .exit))) r ⌝ }
 {
     if enough(
         room,
@@ -83,23 +107,11 @@ pub fn build_numbers(
         one.len(),
         other.len(),
     ) {
-        let checked = walks::check(a, table, word, one, other);
-        if let Checked::Refused(r) = checked {
+        if let Checked::Refused(r) = walks::check(a, table, word, one, other) {
             filling::clear(tuples, nexts);
             return Built::Refused(r);
         }
-        let m = filling::fit(a, table, room, tuples, nexts);
-        if room < m {
-            return Built::Refused(Refusal {
-                number: 11,
-                line: 0,
-                length: 0,
-            });
-        }
-        return Built::Is(Tracker {
-            numbers: a,
-            tuples: m,
-        });
+        return track(a, table, room, tuples, nexts);
     }
     Built::Refused(Refusal {
         number: 1,
@@ -119,7 +131,9 @@ pub fn build(
     one: &mut [u16],
     other: &mut [u16],
 ) -> Built
-    ensures { λ r. ⌜ Builds (now (sheet .entry)) room (now (table .entry)) (now (table .exit)) (tables (now (word .entry)) (now (one .entry)) (now (other .entry))) (tables (now (word .exit)) (now (one .exit)) (now (other .exit))) (store (now (tuples .entry)) (now (nexts .entry))) (store (now (tuples .exit)) (now (nexts .exit))) r ⌝ }
+    ensures { λ r. ⌜ Builds (now (sheet .entry)) room (now (table .entry)) (now (table .exit))
+        (tables (now (word .entry)) (now (one .entry)) (now (other .entry))) (tables (now (word .exit)) (now (one .exit)) (now (other .exit)))
+        (store (now (tuples .entry)) (now (nexts .entry))) (store (now (tuples .exit)) (now (nexts .exit))) r ⌝ }
 {
     if enough(
         room,
@@ -130,26 +144,17 @@ pub fn build(
         one.len(),
         other.len(),
     ) {
-        let read = sheet::read_sheet(sheet, table, word, one, other);
-        match read {
+        match sheet::read_sheet(sheet, table, word, one, other) {
             Read::Refused(r) => {
                 filling::clear(tuples, nexts);
                 return Built::Refused(r);
             }
             Read::Is(a) => {
-                let m = filling::fit(a, &table[..128], room, tuples, nexts);
-                if room < m {
+                let built = track(a, &table[..128], room, tuples, nexts);
+                if let Built::Refused(_) = built {
                     gate::clear(table);
-                    return Built::Refused(Refusal {
-                        number: 11,
-                        line: 0,
-                        length: 0,
-                    });
                 }
-                return Built::Is(Tracker {
-                    numbers: a,
-                    tuples: m,
-                });
+                return built;
             }
         }
     }

@@ -1,22 +1,66 @@
--- Each answer is that of building, or of the last question on the way to it. Assumes nothing.
+-- Each answer is that of building, or of the last question. Assumes nothing.
 use Prim.Native.Nat.{ℕ}
-use mathlib.Core.Path.{_≡_, ap, _∙_}
-use native.Mathlib.Omega.{arith}
+use mathlib.Core.Path.{ap, subst, _∙_}
 use lib.ListN.{replicate}
 use Rattle.automaton.specs.Lent.{tables}
-use Rattle.tracker.specs.Build.{store, clearedStore, Builds}
-use Rattle.tracker.specs.declared.Built.the-variants.{Refused, Is}
-use Rattle.listing.specs.PutLaws.{listing-length}
-use Rattle.listing.specs.ListLaws.{file-first, file-refused, file-sized, file-last, file-bytes}
+use Rattle.tracker.specs.Build.{Store, store, Builds}
+use Rattle.tracker.specs.declared.Built.{Built}
+use Rattle.tracker.specs.declared.Built.the-variants.{Is}
+use Rattle.listing.specs.ListLaws.{SameLengths, file-refused, file-sized, file-last, file-bytes}
 use borrow.Author.Needs.{needs}
 use Rattle.listing.proofs.list.Statement.{statement}
 use Rattle.listing.proofs.list.Tie as tie
 
+-- the tables that are lent, and as they are behind building
+abbrev start : tie.After-build → tie.Start
+start c = c .before .before .before .before .before .before .before .before .before .before .before .before .before .before .before
+
+abbrev lent : tie.After-build → Store
+lent c = let a = start c .args in store (a .tuples .now) (a .nexts .now)
+
+abbrev left : tie.After-build → Store
+left c = let u = c .build .last .1 .1 .1 in store (u .0) (u .1 .0)
+
+abbrev Built-as : tie.After-build → Built → Type 0
+Built-as c b =
+    let a = start c .args in
+    let w = c .build .last .1 .1 .1 .1 .1 in
+    Builds (a .sheet .now) (a .room) (a .table .now) (c .build .last .1 .1 .0) (tables (a .word .now) (a .one .now) (a .other .now))
+    (tables (w .0) (w .1 .0) (w .1 .1 .0)) (lent c) (left c) b
+
+-- a tracker
+abbrev behind : tie.After-x → tie.After-build
+behind c = c .before .before .before .before .before .before .before .before .before .before .before .before .before .before
+
+built : (c : tie.After-x) → Built-as (behind c) (Is (c .x .given .0 .0))
+built c = subst (Built-as (behind c)) (c .x .given .1) (behind c .build .ensures)
+
+kept : (c : tie.After-x) → SameLengths (lent (behind c)) (left (behind c))
+kept c = let k = behind c .build .kept .1 .1 .1 in record { tuples = k .0; nexts = k .1 .0 }
+
 build-requires : tie.Need-build-requires
 build-requires c κs = search needs
 
-enum-known-built : tie.Need-enum-known-built
-enum-known-built c = search needs
+enum-known-r : tie.Need-enum-known-r
+enum-known-r c = search needs
+
+refuse-requires : tie.Need-refuse-requires
+refuse-requires c κs = search needs
+
+enum-known-x : tie.Need-enum-known-x
+enum-known-x c = search needs
+
+finish-requires : tie.Need-finish-requires
+finish-requires c κs = let told = c .before .before .before .before in file-sized (built told) (kept told)
+
+enum-told : tie.Need-enum-told
+enum-told c = search needs
+
+clear-requires : tie.Need-clear-requires
+clear-requires c κs = search needs
+
+enum-told-2 : tie.Need-enum-told-2
+enum-told-2 c = search needs
 
 same-length : tie.Need-same-length
 same-length c = search needs
@@ -36,59 +80,15 @@ same-length-5 c = search needs
 same-length-6 : tie.Need-same-length-6
 same-length-6 c = search needs
 
-returns : tie.Need-returns
-returns c =
-    let told = c .before .before .before in
-    let built = told .before .before .before .before .before .before .before .before .before .before .before .before .before .before in
-    let start = built .before .before .before .before .before .before .before .before .before .before .before .before .before .before .before in
-    let a = start .args in
-    let v = tables (a .word .now) (a .one .now) (a .other .now) in
-    let f = store (a .tuples .now) (a .nexts .now) in
-    let m = built .build in
-    let u = m .last .1 .1 .0 in
-    let w = tables (m .last .1 .1 .1 .1 .1 .0) (m .last .1 .1 .1 .1 .1 .1 .0) (m .last .1 .1 .1 .1 .1 .1 .1 .0) in
-    let g = store (m .last .1 .1 .1 .0) (m .last .1 .1 .1 .1 .0) in
-    let r = told .built .given in
-    let b : Builds (a .sheet .now) (a .room) (a .table .now) u v w f g (Refused (r .0 .0)) = rw (r .1) at (m .ensures) in
-    file-first (a .sheet .now) (a .room) (a .table .now) u v w f g (a .out .now) (r .0 .0) b (c .if1 .taken)
-
-clear-bytes-requires : tie.Need-clear-bytes-requires
-clear-bytes-requires c κs = search needs
-
-enum-known-built-2 : tie.Need-enum-known-built-2
-enum-known-built-2 c = search needs
-
-listing-length-requires : tie.Need-listing-length-requires
-listing-length-requires c κs =
-    let told = c .before in
-    let built = told .before .before .before .before .before .before .before .before .before .before .before .before .before .before in
-    let start = built .before .before .before .before .before .before .before .before .before .before .before .before .before .before .before in
-    let a = start .args in
-    let v = tables (a .word .now) (a .one .now) (a .other .now) in
-    let f = store (a .tuples .now) (a .nexts .now) in
-    let m = built .build in
-    let u = m .last .1 .1 .0 in
-    let w = tables (m .last .1 .1 .1 .1 .1 .0) (m .last .1 .1 .1 .1 .1 .1 .0) (m .last .1 .1 .1 .1 .1 .1 .1 .0) in
-    let g = store (m .last .1 .1 .1 .0) (m .last .1 .1 .1 .1 .0) in
-    let r = told .built2 .given in
-    let b : Builds (a .sheet .now) (a .room) (a .table .now) u v w f g (Is (r .0 .0)) = rw (r .1) at (m .ensures) in
-    let s = file-sized (a .sheet .now) (a .room) (a .table .now) u v w f g (a .out .now) (r .0 .0) b (m .kept .1 .1 .1 .0) (m .kept .1 .1 .1 .1 .0) in
-    (s .states, s .letters, s .most)
-
-clear-requires : tie.Need-clear-requires
-clear-requires c κs = search needs
-
-clear-requires-2 : tie.Need-clear-requires-2
-clear-requires-2 c κs = search needs
-
-clear-requires-3 : tie.Need-clear-requires-3
-clear-requires-3 c κs = search needs
-
-clear-bytes-requires-2 : tie.Need-clear-bytes-requires-2
-clear-bytes-requires-2 c κs = search needs
-
 same-length-7 : tie.Need-same-length-7
 same-length-7 c = search needs
+
+returns : tie.Need-returns
+returns c =
+    let refused = c .before .before in
+    let told = refused .before .before .before in
+    let building = told .before .before .before .before .before .before .before .before .before .before .before .before .before .before in
+    file-refused (rw (told .r .given .1) at (building .build .ensures)) (refused .refuse .ensures)
 
 same-length-8 : tie.Need-same-length-8
 same-length-8 c = search needs
@@ -108,59 +108,17 @@ same-length-12 c = search needs
 same-length-13 : tie.Need-same-length-13
 same-length-13 c = search needs
 
-returns-2 : tie.Need-returns-2
-returns-2 c =
-    let emptied = c .before .before in
-    let second = emptied .before .before .before .before in
-    let first = second .before .before .before .before in
-    let zeroth = first .before .before .before .before in
-    let short = zeroth .before .before in
-    let measured = short .before in
-    let told = measured .before .before in
-    let built = told .before .before .before .before .before .before .before .before .before .before .before .before .before .before in
-    let start = built .before .before .before .before .before .before .before .before .before .before .before .before .before .before .before in
-    let a = start .args in
-    let v = tables (a .word .now) (a .one .now) (a .other .now) in
-    let f = store (a .tuples .now) (a .nexts .now) in
-    let m = built .build in
-    let u = m .last .1 .1 .0 in
-    let w = tables (m .last .1 .1 .1 .1 .1 .0) (m .last .1 .1 .1 .1 .1 .1 .0) (m .last .1 .1 .1 .1 .1 .1 .1 .0) in
-    let g = store (m .last .1 .1 .1 .0) (m .last .1 .1 .1 .1 .0) in
-    let r = told .built2 .given in
-    let b : Builds (a .sheet .now) (a .room) (a .table .now) u v w f g (Is (r .0 .0)) = rw (r .1) at (m .ensures) in
-    let x = first .clear2 in
-    let y = second .clear3 in
-    let p = x .ensures ∙ ap (λ (n : ℕ). replicate n 0) (m .kept .1 .1 .1 .0) in
-    let q = y .ensures ∙ ap (λ (n : ℕ). replicate n 0) (m .kept .1 .1 .1 .1 .0) in
-    let o : store (x .last .0) (y .last .0) ≡ clearedStore f = λ i. store (p i) (q i) in
-    let h = short .if2 .taken in
-    let z = zeroth .clear in
-    let t = z .ensures ∙ ap (λ (n : ℕ). replicate n 0) (m .kept .1 .1 .0) in
-    file-last (a .sheet .now) (a .room) (a .table .now) u v w f g (a .out .now) (r .0 .0) (z .last .0) (store (x .last .0) (y .last .0)) (emptied .clear-bytes2 .last .0) b
-    (omega (arith, measured .listing-length .ensures)) t o (emptied .clear-bytes2 .ensures)
-
-write-requires : tie.Need-write-requires
-write-requires c κs =
-    let long = c .before .before .before in
-    let measured = long .before in
-    let told = measured .before .before in
-    let built = told .before .before .before .before .before .before .before .before .before .before .before .before .before .before in
-    let start = built .before .before .before .before .before .before .before .before .before .before .before .before .before .before .before in
-    let a = start .args in
-    let v = tables (a .word .now) (a .one .now) (a .other .now) in
-    let f = store (a .tuples .now) (a .nexts .now) in
-    let m = built .build in
-    let u = m .last .1 .1 .0 in
-    let w = tables (m .last .1 .1 .1 .1 .1 .0) (m .last .1 .1 .1 .1 .1 .1 .0) (m .last .1 .1 .1 .1 .1 .1 .1 .0) in
-    let g = store (m .last .1 .1 .1 .0) (m .last .1 .1 .1 .1 .0) in
-    let r = told .built2 .given in
-    let b : Builds (a .sheet .now) (a .room) (a .table .now) u v w f g (Is (r .0 .0)) = rw (r .1) at (m .ensures) in
-    let s = file-sized (a .sheet .now) (a .room) (a .table .now) u v w f g (a .out .now) (r .0 .0) b (m .kept .1 .1 .1 .0) (m .kept .1 .1 .1 .1 .0) in
-    let h = long .if2 .left in
-    (s, omega (arith, measured .listing-length .ensures))
-
 same-length-14 : tie.Need-same-length-14
 same-length-14 c = search needs
+
+returns-2 : tie.Need-returns-2
+returns-2 c =
+    let cleared = c .before .before in
+    let over = cleared .before .before in
+    let finished = over .before .before .before .before .before .before .before .before in
+    let told = finished .before .before .before .before .before in
+    let table = cleared .clear .ensures ∙ ap (λ (n : ℕ). replicate n 0) (behind told .build .kept .1 .1 .0) in
+    rw (over .enum-told .given .1) (file-last (built told) (kept told) (rw (over .enum-told .given .1) at (finished .finish .ensures)) table)
 
 same-length-15 : tie.Need-same-length-15
 same-length-15 c = search needs
@@ -180,108 +138,48 @@ same-length-19 c = search needs
 same-length-20 : tie.Need-same-length-20
 same-length-20 c = search needs
 
-returns-3 : tie.Need-returns-3
-returns-3 c =
-    let emptied = c .before .before in
-    let other = emptied .before .before in
-    let told = other .before .before .before in
-    let built = told .before .before .before .before .before .before .before .before .before .before .before .before .before .before in
-    let start = built .before .before .before .before .before .before .before .before .before .before .before .before .before .before .before in
-    let a = start .args in
-    let v = tables (a .word .now) (a .one .now) (a .other .now) in
-    let f = store (a .tuples .now) (a .nexts .now) in
-    let m = built .build in
-    let u = m .last .1 .1 .0 in
-    let w = tables (m .last .1 .1 .1 .1 .1 .0) (m .last .1 .1 .1 .1 .1 .1 .0) (m .last .1 .1 .1 .1 .1 .1 .1 .0) in
-    let g = store (m .last .1 .1 .1 .0) (m .last .1 .1 .1 .1 .0) in
-    let r = told .built .given in
-    let b : Builds (a .sheet .now) (a .room) (a .table .now) u v w f g (Refused (r .0 .0)) = rw (r .1) at (m .ensures) in
-    file-refused (a .sheet .now) (a .room) (a .table .now) u v w f g (a .out .now) (r .0 .0) (emptied .clear-bytes .last .0) b (other .if1 .left) (emptied .clear-bytes .ensures)
-
 same-length-21 : tie.Need-same-length-21
 same-length-21 c = search needs
 
-same-length-22 : tie.Need-same-length-22
-same-length-22 c = search needs
-
-same-length-23 : tie.Need-same-length-23
-same-length-23 c = search needs
-
-same-length-24 : tie.Need-same-length-24
-same-length-24 c = search needs
-
-same-length-25 : tie.Need-same-length-25
-same-length-25 c = search needs
-
-same-length-26 : tie.Need-same-length-26
-same-length-26 c = search needs
-
-same-length-27 : tie.Need-same-length-27
-same-length-27 c = search needs
-
-returns-4 : tie.Need-returns-4
-returns-4 c =
-    let written = c .before .before in
-    let long = written .before .before .before .before in
-    let measured = long .before in
-    let told = measured .before .before in
-    let built = told .before .before .before .before .before .before .before .before .before .before .before .before .before .before in
-    let start = built .before .before .before .before .before .before .before .before .before .before .before .before .before .before .before in
-    let a = start .args in
-    let v = tables (a .word .now) (a .one .now) (a .other .now) in
-    let f = store (a .tuples .now) (a .nexts .now) in
-    let m = built .build in
-    let u = m .last .1 .1 .0 in
-    let w = tables (m .last .1 .1 .1 .1 .1 .0) (m .last .1 .1 .1 .1 .1 .1 .0) (m .last .1 .1 .1 .1 .1 .1 .1 .0) in
-    let g = store (m .last .1 .1 .1 .0) (m .last .1 .1 .1 .1 .0) in
-    let r = told .built2 .given in
-    let b : Builds (a .sheet .now) (a .room) (a .table .now) u v w f g (Is (r .0 .0)) = rw (r .1) at (m .ensures) in
-    let e = measured .listing-length .ensures in
-    let h = long .if2 .left in
-    rw e (file-bytes (a .sheet .now) (a .room) (a .table .now) u v w f g (a .out .now) (r .0 .0) (written .write .last .0) b (omega arith) (written .write .ensures))
+returns-3 : tie.Need-returns-3
+returns-3 c =
+    let finished = c .before .before .before .before .before .before .before .before in
+    let told = finished .before .before .before .before .before in
+    rw (c .enum-told2 .given .1) (file-bytes (built told) (kept told) (rw (c .enum-told2 .given .1) at (finished .finish .ensures)))
 
 pub list-spec : {M : Type 1} → statement M
 list-spec =
     tie.close
     (tie.spec
     build-requires
-    enum-known-built
+    enum-known-r
+    refuse-requires
+    enum-known-x
+    finish-requires
+    enum-told
+    clear-requires
+    enum-told-2
     same-length
     same-length-2
     same-length-3
     same-length-4
     same-length-5
     same-length-6
-    returns
-    clear-bytes-requires
-    enum-known-built-2
-    listing-length-requires
-    clear-requires
-    clear-requires-2
-    clear-requires-3
-    clear-bytes-requires-2
     same-length-7
+    returns
     same-length-8
     same-length-9
     same-length-10
     same-length-11
     same-length-12
     same-length-13
-    returns-2
-    write-requires
     same-length-14
+    returns-2
     same-length-15
     same-length-16
     same-length-17
     same-length-18
     same-length-19
     same-length-20
-    returns-3
     same-length-21
-    same-length-22
-    same-length-23
-    same-length-24
-    same-length-25
-    same-length-26
-    same-length-27
-    returns-4)
+    returns-3)

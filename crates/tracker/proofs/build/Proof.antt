@@ -1,18 +1,52 @@
 -- Each answer is that of the questions on the way to it. Assumes nothing.
 use Prim.Native.Nat.{ℕ}
-use mathlib.Core.Path.{_≡_, sym, ap, _∙_}
+use mathlib.Core.Path.{refl, sym, ap, subst, _∙_}
 use native.Mathlib.Omega.{arith}
-use lib.ListN.{length, replicate}
+use lib.ListN.{replicate}
 use lib.Seq.{length-take-le}
-use Rattle.gate.specs.Gate.{cleared}
-use Rattle.automaton.specs.Lent.{tables}
+use Rattle.automaton.specs.Lent.{Tables, tables}
+use Rattle.automaton.specs.Questions.{Decides}
 use Rattle.sheet.specs.Read.{Reads}
+use Rattle.sheet.specs.declared.Read.{Read}
 use Rattle.sheet.specs.declared.Read.the-variants.{Is}
-use Rattle.tracker.specs.Build.{store}
-use Rattle.tracker.specs.BuildLaws.{enough-lent, file-short, file-refused, file-fits, file-over, file-is}
+use Rattle.tracker.specs.Build.{store, Lent, Builds}
+use Rattle.tracker.specs.BuildLaws.{lent-decided, read-fits, file-refused, file-over, file-is}
 use borrow.Author.Needs.{needs}
 use Rattle.tracker.proofs.build.Statement.{statement}
 use Rattle.tracker.proofs.build.Tie as tie
+
+-- what is handed over
+abbrev witness : tie.Start → Tables
+witness c = tables (c .args .word .now) (c .args .one .now) (c .args .other .now)
+
+abbrev Long-enough : tie.Start → Type 0
+Long-enough c = Lent (c .args .room) (c .args .table .now) (witness c) (store (c .args .tuples .now) (c .args .nexts .now))
+
+-- the start, from behind question 1 and from behind reading
+abbrev start : tie.After-enough → tie.Start
+start c = c .before .before .before .before .before .before .before .before
+
+abbrev begun : tie.After-read-sheet → tie.Start
+begun c = start (c .before .before .before .before .before .before)
+
+asked : (c : tie.After-enough) → Decides (c .enough .result) (Long-enough (start c))
+asked c = lent-decided (c .enough .ensures)
+
+lent : (c : tie.After-read-sheet) → Long-enough (begun c)
+lent c = let granted = c .before .before .before .before .before in asked (granted .before) .0 (granted .if1 .taken)
+
+abbrev left : tie.After-read-sheet → Tables
+left c = let w = c .read-sheet .last .1 .1 in tables (w .0) (w .1 .0) (w .1 .1 .0)
+
+abbrev Read-as : tie.After-read-sheet → Read → Type 0
+Read-as c x = Reads (begun c .args .sheet .now) (begun c .args .table .now) (c .read-sheet .last .1 .0) (witness (begun c)) (left c) x
+
+-- an accepted sheet
+abbrev behind : tie.After-a → tie.After-read-sheet
+behind c = c .before .before .before .before .before .before .before .before .before .before
+
+accepted : (c : tie.After-a) → Read-as (behind c) (Is (c .a .given .0 .0))
+accepted c = subst (Read-as (behind c)) (c .a .given .1) (behind c .read-sheet .ensures)
 
 enough-requires : tie.Need-enough-requires
 enough-requires c κs = search needs
@@ -20,8 +54,8 @@ enough-requires c κs = search needs
 read-sheet-requires : tie.Need-read-sheet-requires
 read-sheet-requires c κs = search needs
 
-enum-known-read : tie.Need-enum-known-read
-enum-known-read c = search needs
+enum-known-r : tie.Need-enum-known-r
+enum-known-r c = search needs
 
 clear-requires : tie.Need-clear-requires
 clear-requires c κs = search needs
@@ -49,63 +83,34 @@ returns c =
     let cleared = c .before .before .before .before in
     let told = cleared .before .before .before .before in
     let read = told .before .before .before .before .before .before .before .before .before .before in
-    let granted = read .before .before .before .before .before in
-    let asked = granted .before in
-    let start = asked .before .before .before .before .before .before .before .before in
-    let a = start .args in
-    let s = a .sheet .now in
-    let t = a .table .now in
-    let v = tables (a .word .now) (a .one .now) (a .other .now) in
-    let f = store (a .tuples .now) (a .nexts .now) in
-    let e = asked .enough .ensures .0 (granted .if1 .taken) in
-    let k = read .read-sheet in
-    let u = k .last .1 .0 in
-    let w = tables (k .last .1 .1 .0) (k .last .1 .1 .1 .0) (k .last .1 .1 .1 .1 .0) in
-    let x = cleared .clear in
-    let r = told .read .given in
-    file-refused s (a .room) t v f e u w (store (x .last .0) (x .last .1 .0)) (r .0 .0) (rw (r .1) at (k .ensures)) (x .ensures)
+    file-refused {w = left read} (lent read) (rw (told .r .given .1) at (read .read-sheet .ensures)) (cleared .clear .ensures)
 
-enum-known-read-2 : tie.Need-enum-known-read-2
-enum-known-read-2 c = search needs
+enum-known-a : tie.Need-enum-known-a
+enum-known-a c = search needs
 
-slice-reshare-prefix-fit : tie.Need-slice-reshare-prefix-fit
-slice-reshare-prefix-fit c =
-    let read = c .before .before .before .before .before .before .before .before .before .before .before in
-    let granted = read .before .before .before .before .before in
-    let asked = granted .before in
-    let h = asked .enough .ensures .0 (granted .if1 .taken) .for-table in
-    omega (arith, read .read-sheet .kept .1 .0)
+slice-reshare-prefix-track : tie.Need-slice-reshare-prefix-track
+slice-reshare-prefix-track c =
+    let read = behind (c .before) in
+    omega (arith, lent read .table, read .read-sheet .kept .1 .0)
 
-slice-aggregate-fit : tie.Need-slice-aggregate-fit
-slice-aggregate-fit c =
-    let read = c .before .before .before .before .before .before .before .before .before .before .before .before in
-    let granted = read .before .before .before .before .before in
-    let asked = granted .before in
-    let h = asked .enough .ensures .0 (granted .if1 .taken) .for-table in
-    sym (length-take-le 128 (read .read-sheet .last .1 .0) (omega (arith, read .read-sheet .kept .1 .0)))
+slice-aggregate-track : tie.Need-slice-aggregate-track
+slice-aggregate-track c =
+    let read = behind (c .before .before) in
+    sym (length-take-le 128 (read .read-sheet .last .1 .0) (omega (arith, lent read .table, read .read-sheet .kept .1 .0)))
 
-fit-requires : tie.Need-fit-requires
-fit-requires c κs =
+track-requires : tie.Need-track-requires
+track-requires c κs =
     let told = c .before .before .before .before in
-    let read = told .before .before .before .before .before .before .before .before .before .before in
-    let granted = read .before .before .before .before .before in
-    let asked = granted .before in
-    let start = asked .before .before .before .before .before .before .before .before in
-    let a = start .args in
-    let s = a .sheet .now in
-    let t = a .table .now in
-    let v = tables (a .word .now) (a .one .now) (a .other .now) in
-    let f = store (a .tuples .now) (a .nexts .now) in
-    let e = asked .enough .ensures .0 (granted .if1 .taken) in
-    let k = read .read-sheet in
-    let u = k .last .1 .0 in
-    let w = tables (k .last .1 .1 .0) (k .last .1 .1 .1 .0) (k .last .1 .1 .1 .1 .0) in
-    let r = told .read2 .given in
-    let z : Reads s t u v w (Is (r .0 .0)) = rw (r .1) at (k .ensures) in
-    (file-fits s (a .room) t v f e u w (r .0 .0) z, enough-lent (a .room) t v f e .2)
+    (read-fits (begun (behind told) .args .table .now) (accepted told), lent (behind told) .store)
+
+enum-told : tie.Need-enum-told
+enum-told c = search needs
 
 clear-requires-2 : tie.Need-clear-requires-2
 clear-requires-2 c κs = search needs
+
+enum-told-2 : tie.Need-enum-told-2
+enum-told-2 c = search needs
 
 same-length-7 : tie.Need-same-length-7
 same-length-7 c = search needs
@@ -129,28 +134,10 @@ returns-2 : tie.Need-returns-2
 returns-2 c =
     let cleared = c .before .before in
     let over = cleared .before .before in
-    let fitted = over .before .before .before .before .before in
-    let told = fitted .before .before .before .before .before in
-    let read = told .before .before .before .before .before .before .before .before .before .before in
-    let granted = read .before .before .before .before .before in
-    let asked = granted .before in
-    let start = asked .before .before .before .before .before .before .before .before in
-    let a = start .args in
-    let s = a .sheet .now in
-    let t = a .table .now in
-    let v = tables (a .word .now) (a .one .now) (a .other .now) in
-    let f = store (a .tuples .now) (a .nexts .now) in
-    let e = asked .enough .ensures .0 (granted .if1 .taken) in
-    let k = read .read-sheet in
-    let u = k .last .1 .0 in
-    let w = tables (k .last .1 .1 .0) (k .last .1 .1 .1 .0) (k .last .1 .1 .1 .1 .0) in
-    let r = told .read2 .given in
-    let z : Reads s t u v w (Is (r .0 .0)) = rw (r .1) at (k .ensures) in
-    let m = fitted .fit in
-    let g = store (m .last .1 .1 .1 .0) (m .last .1 .1 .1 .1 .0) in
-    let x = cleared .clear2 in
-    let y : x .last .0 ≡ replicate (length t) 0 = x .ensures ∙ ap (λ (n : ℕ). replicate n 0) (k .kept .1 .0) in
-    file-over s (a .room) t v f e u w g (m .result) (r .0 .0) z (m .ensures) (over .if2 .taken) (x .last .0) y
+    let tracked = over .before .before .before .before .before .before in
+    let told = tracked .before .before .before .before .before in
+    let table = cleared .clear2 .ensures ∙ ap (λ (n : ℕ). replicate n 0) (behind told .read-sheet .kept .1 .0) in
+    rw (over .enum-told .given .1) (file-over (lent (behind told)) (accepted told) (rw (over .enum-told .given .1) at (tracked .track .ensures)) table)
 
 same-length-13 : tie.Need-same-length-13
 same-length-13 c = search needs
@@ -172,37 +159,12 @@ same-length-18 c = search needs
 
 returns-3 : tie.Need-returns-3
 returns-3 c =
-    let fitted = c .before .before .before .before .before in
-    let told = fitted .before .before .before .before .before in
-    let read = told .before .before .before .before .before .before .before .before .before .before in
-    let granted = read .before .before .before .before .before in
-    let asked = granted .before in
-    let start = asked .before .before .before .before .before .before .before .before in
-    let a = start .args in
-    let s = a .sheet .now in
-    let t = a .table .now in
-    let v = tables (a .word .now) (a .one .now) (a .other .now) in
-    let f = store (a .tuples .now) (a .nexts .now) in
-    let e = asked .enough .ensures .0 (granted .if1 .taken) in
-    let k = read .read-sheet in
-    let u = k .last .1 .0 in
-    let w = tables (k .last .1 .1 .0) (k .last .1 .1 .1 .0) (k .last .1 .1 .1 .1 .0) in
-    let r = told .read2 .given in
-    let z : Reads s t u v w (Is (r .0 .0)) = rw (r .1) at (k .ensures) in
-    let m = fitted .fit in
-    let g = store (m .last .1 .1 .1 .0) (m .last .1 .1 .1 .1 .0) in
-    file-is s (a .room) t v f e u w g (m .result) (r .0 .0) z (m .ensures) (c .if2 .left)
+    let tracked = c .before .before .before .before .before .before in
+    let told = tracked .before .before .before .before .before in
+    rw (c .enum-told2 .given .1) (file-is (lent (behind told)) (accepted told) (rw (c .enum-told2 .given .1) at (tracked .track .ensures)))
 
 returns-4 : tie.Need-returns-4
-returns-4 c =
-    let asked = c .before in
-    let start = asked .before .before .before .before .before .before .before .before in
-    let a = start .args in
-    let s = a .sheet .now in
-    let t = a .table .now in
-    let v = tables (a .word .now) (a .one .now) (a .other .now) in
-    let f = store (a .tuples .now) (a .nexts .now) in
-    file-short s (a .room) t v f (asked .enough .ensures .1 (c .if1 .left))
+returns-4 c = Builds.short (asked (c .before) .1 (c .if1 .left)) refl refl refl refl
 
 pub build-spec : {M : Type 1} → statement M
 build-spec =
@@ -210,7 +172,7 @@ build-spec =
     (tie.spec
     enough-requires
     read-sheet-requires
-    enum-known-read
+    enum-known-r
     clear-requires
     same-length
     same-length-2
@@ -219,11 +181,13 @@ build-spec =
     same-length-5
     same-length-6
     returns
-    enum-known-read-2
-    slice-reshare-prefix-fit
-    slice-aggregate-fit
-    fit-requires
+    enum-known-a
+    slice-reshare-prefix-track
+    slice-aggregate-track
+    track-requires
+    enum-told
     clear-requires-2
+    enum-told-2
     same-length-7
     same-length-8
     same-length-9

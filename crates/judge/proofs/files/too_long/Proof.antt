@@ -1,14 +1,22 @@
 -- Question 1 by the lengths; then each table is cleared. Assumes nothing.
 use mathlib.Core.Path.{refl}
 use mathlib.Core.Logic.{inl, inr}
-use denote.Ref.{now}
 use Rattle.automaton.specs.Lent.{tables}
-use Rattle.tracker.specs.Build.{store}
-use Rattle.tracker.specs.BuildLaws.{enough-lent, lent-enough}
+use Rattle.automaton.specs.Questions.{Decides}
+use Rattle.tracker.specs.Build.{store, Lent}
+use Rattle.tracker.specs.BuildLaws.{lent-decided}
 use Rattle.judge.specs.VerdictLaws.{tables-cleared, store-cleared}
 use borrow.Author.Needs.{needs}
 use Rattle.judge.proofs.files.too_long.Statement.{statement}
 use Rattle.judge.proofs.files.too_long.Tie as tie
+
+abbrev start : tie.After-enough → tie.Start
+start c = c .before .before .before .before .before .before .before
+
+asked : (c : tie.After-enough)
+    → let a = start c .args in
+    Decides (c .enough .result) (Lent (a .room) (a .table .now) (tables (a .word .now) (a .one .now) (a .other .now)) (store (a .tuples .now) (a .nexts .now)))
+asked c = lent-decided (c .enough .ensures)
 
 enough-requires : tie.Need-enough-requires
 enough-requires c κs = search needs
@@ -51,28 +59,24 @@ same-length-6 c = search needs
 
 returns : tie.Need-returns
 returns c =
-    let a = c .before .before .before .before .before .before .before .before .before .before .before .before .before .before .before .before .before .before .before .before .before .before .before .before .before .before .before .before .before .before .before .before .args in
-    let t = now (a .table) in
-    let v = tables (now (a .word)) (now (a .one)) (now (a .other)) in
-    let f = store (now (a .tuples)) (now (a .nexts)) in
-    let (x, y, z) = enough-lent (a .room) t v f (c .before .before .before .before .before .before .before .before .before .before .before .before .before .before .before .before .before .before .before .before .before .before .before .before .before .enough .ensures .0 (c .before .before .before .before .before .before .before .before .before .before .before .before .before .before .before .before .before .before .before .before .before .before .before .before .if1 .taken)) in
+    let sixth = c .before .before in
+    let fifth = sixth .before .before .before .before in
+    let fourth = fifth .before .before .before .before in
+    let third = fourth .before .before .before .before in
+    let second = third .before .before .before .before in
+    let first = second .before .before .before .before in
+    let granted = first .before .before in
+    let a = start (granted .before) .args in
     inr (
-      x,
-      y,
-      z,
+      asked (granted .before) .0 (granted .if1 .taken),
       refl,
-      c .before .before .before .before .before .before .before .before .before .before .before .before .before .before .before .before .before .before .before .before .before .before .clear .ensures,
-      tables-cleared v _ _ _ (c .before .before .before .before .before .before .before .before .before .before .clear4 .ensures) (c .before .before .before .before .before .before .clear5 .ensures) (c .before .before .clear6 .ensures),
-      store-cleared f _ _ (c .before .before .before .before .before .before .before .before .before .before .before .before .before .before .before .before .before .before .clear2 .ensures) (c .before .before .before .before .before .before .before .before .before .before .before .before .before .before .clear3 .ensures),
+      first .clear .ensures,
+      tables-cleared (tables (a .word .now) (a .one .now) (a .other .now)) _ _ _ (fourth .clear4 .ensures) (fifth .clear5 .ensures) (sixth .clear6 .ensures),
+      store-cleared (store (a .tuples .now) (a .nexts .now)) _ _ (second .clear2 .ensures) (third .clear3 .ensures),
     )
 
 returns-2 : tie.Need-returns-2
-returns-2 c =
-    let a = c .before .before .before .before .before .before .before .before .args in
-    let t = now (a .table) in
-    let v = tables (now (a .word)) (now (a .one)) (now (a .other)) in
-    let f = store (now (a .tuples)) (now (a .nexts)) in
-    inl (λ h. c .before .enough .ensures .1 (c .if1 .left) (lent-enough (a .room) t v f h), refl, refl, refl, refl)
+returns-2 c = inl (asked (c .before) .1 (c .if1 .left), refl, refl, refl, refl)
 
 pub too-long-spec : {M : Type 1} → statement M
 too-long-spec =

@@ -1,15 +1,39 @@
 -- Each exit is a case of the contract, by the laws of its parts. Assumes nothing.
-use mathlib.Core.Path.{_∙_}
+use mathlib.Core.Path.{subst}
 use native.Mathlib.Omega.{arith}
-use denote.Ref.{now}
 use Rattle.automaton.specs.Lent.{tables}
-use Rattle.tracker.specs.Build.{store, Builds}
+use Rattle.tracker.specs.Build.{Store, store, Builds}
+use Rattle.tracker.specs.declared.Built.{Built}
 use Rattle.tracker.specs.declared.Built.the-variants as B
 use Rattle.judge.specs.Verdict.{SizesFit}
 use Rattle.judge.specs.VerdictLaws.{size-refused, built-refused, built-tables, plan-refused, plan-judged, store-cleared}
 use borrow.Author.Needs.{needs}
 use Rattle.judge.proofs.files.verdict.Statement.{statement}
 use Rattle.judge.proofs.files.verdict.Tie as tie
+
+-- behind building: the sizes fit, and the tables are those of its answer
+abbrev start : tie.After-build → tie.Start
+start c = c .before .before .before .before .before .before .before .before .before .before .before .before .before .before .before .before .before
+
+sizes : (c : tie.After-build) → SizesFit (start c .args .sheet .now) (start c .args .plan .now)
+sizes c = let fit = c .before .before .before .before .before .before .before in record { sheet = fit .before .if1 .left; plan = fit .if2 .left }
+
+abbrev left : tie.After-build → Store
+left c = let u = c .build .last .1 .1 .1 in store (u .0) (u .1 .0)
+
+abbrev Built-as : tie.After-build → Built → Type 0
+Built-as c b =
+    let a = start c .args in
+    let w = c .build .last .1 .1 .1 .1 .1 in
+    Builds (a .sheet .now) (a .room) (a .table .now) (c .build .last .1 .1 .0) (tables (a .word .now) (a .one .now) (a .other .now))
+    (tables (w .0) (w .1 .0) (w .1 .1 .0)) (store (a .tuples .now) (a .nexts .now)) (left c) b
+
+-- a tracker
+abbrev behind : tie.After-x → tie.After-build
+behind c = c .before .before .before .before .before .before .before .before .before .before .before .before .before .before
+
+built : (c : tie.After-x) → Built-as (behind c) (B.Is (c .x .given .0 .0))
+built c = subst (Built-as (behind c)) (c .x .given .1) (behind c .build .ensures)
 
 too-long-requires : tie.Need-too-long-requires
 too-long-requires c κs = search needs
@@ -34,17 +58,9 @@ same-length-6 c = search needs
 
 returns : tie.Need-returns
 returns c =
-    let a = c .before .before .before .before .before .before .before .before .before .before .before .before .before .before .before .before .before .before .before .before .before .before .before .before .before .before .before .before .args in
-    let s = now (a .sheet) in
-    let p = now (a .plan) in
-    let t = now (a .table) in
-    let v = tables (now (a .word)) (now (a .one)) (now (a .other)) in
-    let f = store (now (a .tuples)) (now (a .nexts)) in
-    let u = c .before .before .before .before .before .before .before .before .before .before .before .before .too-long .last .1 .0 in
-    let w = tables (c .before .before .before .before .before .before .before .before .before .before .before .before .too-long .last .1 .1 .1 .1 .0) (c .before .before .before .before .before .before .before .before .before .before .before .before .too-long .last .1 .1 .1 .1 .1 .0) (c .before .before .before .before .before .before .before .before .before .before .before .before .too-long .last .1 .1 .1 .1 .1 .1 .0) in
-    let g = store (c .before .before .before .before .before .before .before .before .before .before .before .before .too-long .last .1 .1 .0) (c .before .before .before .before .before .before .before .before .before .before .before .before .too-long .last .1 .1 .1 .0) in
-    let r = c .before .before .before .before .before .before .before .before .before .before .before .before .too-long .result in
-    size-refused s p (a .room) t u v w f g (λ z. omega (arith, z .sheet, c .before .before .before .before .before .before .before .before .before .before .before .before .before .before .before .before .before .before .before .if1 .taken)) r (c .before .before .before .before .before .before .before .before .before .before .before .before .too-long .ensures)
+    let refused = c .before .before .before .before .before .before .before .before .before .before .before .before in
+    let long = refused .before .before .before .before .before .before .before .if1 .taken in
+    size-refused (λ z. omega (arith, z .sheet)) (refused .too-long .ensures)
 
 too-long-requires-2 : tie.Need-too-long-requires-2
 too-long-requires-2 c κs = search needs
@@ -69,17 +85,9 @@ same-length-12 c = search needs
 
 returns-2 : tie.Need-returns-2
 returns-2 c =
-    let a = c .before .before .before .before .before .before .before .before .before .before .before .before .before .before .before .before .before .before .before .before .before .before .before .before .before .before .before .before .before .args in
-    let s = now (a .sheet) in
-    let p = now (a .plan) in
-    let t = now (a .table) in
-    let v = tables (now (a .word)) (now (a .one)) (now (a .other)) in
-    let f = store (now (a .tuples)) (now (a .nexts)) in
-    let u = c .before .before .before .before .before .before .before .before .before .before .before .before .too-long2 .last .1 .0 in
-    let w = tables (c .before .before .before .before .before .before .before .before .before .before .before .before .too-long2 .last .1 .1 .1 .1 .0) (c .before .before .before .before .before .before .before .before .before .before .before .before .too-long2 .last .1 .1 .1 .1 .1 .0) (c .before .before .before .before .before .before .before .before .before .before .before .before .too-long2 .last .1 .1 .1 .1 .1 .1 .0) in
-    let g = store (c .before .before .before .before .before .before .before .before .before .before .before .before .too-long2 .last .1 .1 .0) (c .before .before .before .before .before .before .before .before .before .before .before .before .too-long2 .last .1 .1 .1 .0) in
-    let r = c .before .before .before .before .before .before .before .before .before .before .before .before .too-long2 .result in
-    size-refused s p (a .room) t u v w f g (λ z. omega (arith, z .plan, c .before .before .before .before .before .before .before .before .before .before .before .before .before .before .before .before .before .before .before .if2 .taken)) r (c .before .before .before .before .before .before .before .before .before .before .before .before .too-long2 .ensures)
+    let refused = c .before .before .before .before .before .before .before .before .before .before .before .before in
+    let long = refused .before .before .before .before .before .before .before .if2 .taken in
+    size-refused (λ z. omega (arith, z .plan)) (refused .too-long2 .ensures)
 
 build-requires : tie.Need-build-requires
 build-requires c κs = search needs
@@ -92,19 +100,8 @@ enum-known-x c = search needs
 
 judge-plan-requires : tie.Need-judge-plan-requires
 judge-plan-requires c κs =
-    let a = c .before .before .before .before .before .before .before .before .before .before .before .before .before .before .before .before .before .before .before .before .before .before .before .before .before .before .before .before .before .before .before .before .before .before .args in
-    let s = now (a .sheet) in
-    let p = now (a .plan) in
-    let t = now (a .table) in
-    let v = tables (now (a .word)) (now (a .one)) (now (a .other)) in
-    let f = store (now (a .tuples)) (now (a .nexts)) in
-    let u = c .before .before .before .before .before .before .before .before .before .before .before .before .before .before .before .before .before .build .last .1 .1 .0 in
-    let w = tables (c .before .before .before .before .before .before .before .before .before .before .before .before .before .before .before .before .before .build .last .1 .1 .1 .1 .1 .0) (c .before .before .before .before .before .before .before .before .before .before .before .before .before .before .before .before .before .build .last .1 .1 .1 .1 .1 .1 .0) (c .before .before .before .before .before .before .before .before .before .before .before .before .before .before .before .before .before .build .last .1 .1 .1 .1 .1 .1 .1 .0) in
-    let g = store (c .before .before .before .before .before .before .before .before .before .before .before .before .before .before .before .before .before .build .last .1 .1 .1 .0) (c .before .before .before .before .before .before .before .before .before .before .before .before .before .before .before .before .before .build .last .1 .1 .1 .1 .0) in
-    let sizes : SizesFit s p = record { sheet = c .before .before .before .before .before .before .before .before .before .before .before .before .before .before .before .before .before .before .before .before .before .before .before .before .before .if1 .left; plan = c .before .before .before .before .before .before .before .before .before .before .before .before .before .before .before .before .before .before .before .before .before .before .before .before .if2 .left } in
-    let x = c .before .before .before .x .given .0 .0 in
-    let built : Builds s (a .room) t u v w f g (B.Is x) = rw (c .before .before .before .x .given .1) at (c .before .before .before .before .before .before .before .before .before .before .before .before .before .before .before .before .before .build .ensures) in
-    (sizes .plan, built-tables s p (a .room) t u v w f g sizes x built (c .before .before .before .before .before .before .before .before .before .before .before .before .before .before .before .before .before .build .kept .1 .1 .1 .0))
+    let told = c .before .before .before in
+    (sizes (behind told) .plan, built-tables (sizes (behind told)) (built told) (behind told .build .kept .1 .1 .1 .0))
 
 enum-known-r-2 : tie.Need-enum-known-r-2
 enum-known-r-2 c = search needs
@@ -141,24 +138,21 @@ same-length-18 c = search needs
 
 returns-3 : tie.Need-returns-3
 returns-3 c =
-    let a = c .before .before .before .before .before .before .before .before .before .before .before .before .before .before .before .before .before .before .before .before .before .before .before .before .before .before .before .before .before .before .before .before .args in
-    let s = now (a .sheet) in
-    let p = now (a .plan) in
-    let t = now (a .table) in
-    let v = tables (now (a .word)) (now (a .one)) (now (a .other)) in
-    let f = store (now (a .tuples)) (now (a .nexts)) in
-    let u = c .before .before .before .before .before .before .before .before .before .before .before .before .before .before .before .build .last .1 .1 .0 in
-    let w = tables (c .before .before .before .before .before .before .before .before .before .before .before .before .before .before .before .build .last .1 .1 .1 .1 .1 .0) (c .before .before .before .before .before .before .before .before .before .before .before .before .before .before .before .build .last .1 .1 .1 .1 .1 .1 .0) (c .before .before .before .before .before .before .before .before .before .before .before .before .before .before .before .build .last .1 .1 .1 .1 .1 .1 .1 .0) in
-    let g = store (c .before .before .before .before .before .before .before .before .before .before .before .before .before .before .before .build .last .1 .1 .1 .0) (c .before .before .before .before .before .before .before .before .before .before .before .before .before .before .before .build .last .1 .1 .1 .1 .0) in
-    let sizes : SizesFit s p = record { sheet = c .before .before .before .before .before .before .before .before .before .before .before .before .before .before .before .before .before .before .before .before .before .before .before .if1 .left; plan = c .before .before .before .before .before .before .before .before .before .before .before .before .before .before .before .before .before .before .before .before .before .before .if2 .left } in
-    let r = c .before .r .given .0 .0 in
-    built-refused s p (a .room) t u v w f g sizes r (rw (c .before .r .given .1) at (c .before .before .before .before .before .before .before .before .before .before .before .before .before .before .before .build .ensures))
+    let told = c .before in
+    let building = told .before .before .before .before .before .before .before .before .before .before .before .before .before .before in
+    built-refused (sizes building) (rw (told .r .given .1) at (building .build .ensures))
 
 same-length-19 : tie.Need-same-length-19
-same-length-19 c = omega (arith, c .before .before .before .before .before .before .before .before .before .before .clear .kept .0, c .before .before .before .before .before .before .clear2 .kept .0, c .before .before .before .before .before .before .before .before .before .before .before .before .before .before .before .before .before .before .before .before .before .before .before .before .before .before .before .before .before .before .before .before .before .build .kept .1 .1 .0)
+same-length-19 c =
+    let first = c .before .before .before .before .before .before .before .before .before .before in
+    let told = first .before .before .before .before .before .before .before .before .before in
+    omega (arith, first .clear .kept .0, behind told .build .kept .1 .1 .0)
 
 same-length-20 : tie.Need-same-length-20
-same-length-20 c = omega (arith, c .before .before .before .before .before .before .before .before .before .before .clear .kept .0, c .before .before .before .before .before .before .clear2 .kept .0, c .before .before .before .before .before .before .before .before .before .before .before .before .before .before .before .before .before .before .before .before .before .before .before .before .before .before .before .before .before .before .before .before .before .build .kept .1 .1 .1 .0)
+same-length-20 c =
+    let second = c .before .before .before .before .before .before in
+    let told = second .before .before .before .before .before .before .before .before .before .before .before .before .before in
+    omega (arith, second .clear2 .kept .0, behind told .build .kept .1 .1 .1 .0)
 
 same-length-21 : tie.Need-same-length-21
 same-length-21 c = search needs
@@ -174,22 +168,15 @@ same-length-24 c = search needs
 
 returns-4 : tie.Need-returns-4
 returns-4 c =
-    let a = c .before .before .before .before .before .before .before .before .before .before .before .before .before .before .before .before .before .before .before .before .before .before .before .before .before .before .before .before .before .before .before .before .before .before .before .before .before .before .before .before .before .before .before .before .before .before .before .before .before .before .args in
-    let s = now (a .sheet) in
-    let p = now (a .plan) in
-    let t = now (a .table) in
-    let v = tables (now (a .word)) (now (a .one)) (now (a .other)) in
-    let f = store (now (a .tuples)) (now (a .nexts)) in
-    let u = c .before .before .before .before .before .before .before .before .before .before .before .before .before .before .before .before .before .before .before .before .before .before .before .before .before .before .before .before .before .before .before .before .before .build .last .1 .1 .0 in
-    let w = tables (c .before .before .before .before .before .before .before .before .before .before .before .before .before .before .before .before .before .before .before .before .before .before .before .before .before .before .before .before .before .before .before .before .before .build .last .1 .1 .1 .1 .1 .0) (c .before .before .before .before .before .before .before .before .before .before .before .before .before .before .before .before .before .before .before .before .before .before .before .before .before .before .before .before .before .before .before .before .before .build .last .1 .1 .1 .1 .1 .1 .0) (c .before .before .before .before .before .before .before .before .before .before .before .before .before .before .before .before .before .before .before .before .before .before .before .before .before .before .before .before .before .before .before .before .before .build .last .1 .1 .1 .1 .1 .1 .1 .0) in
-    let g = store (c .before .before .before .before .before .before .before .before .before .before .before .before .before .before .before .before .before .before .before .before .before .before .before .before .before .before .before .before .before .before .before .before .before .build .last .1 .1 .1 .0) (c .before .before .before .before .before .before .before .before .before .before .before .before .before .before .before .before .before .before .before .before .before .before .before .before .before .before .before .before .before .before .before .before .before .build .last .1 .1 .1 .1 .0) in
-    let sizes : SizesFit s p = record { sheet = c .before .before .before .before .before .before .before .before .before .before .before .before .before .before .before .before .before .before .before .before .before .before .before .before .before .before .before .before .before .before .before .before .before .before .before .before .before .before .before .before .before .if1 .left; plan = c .before .before .before .before .before .before .before .before .before .before .before .before .before .before .before .before .before .before .before .before .before .before .before .before .before .before .before .before .before .before .before .before .before .before .before .before .before .before .before .before .if2 .left } in
-    let x = c .before .before .before .before .before .before .before .before .before .before .before .before .before .before .before .before .before .before .before .x .given .0 .0 in
-    let built : Builds s (a .room) t u v w f g (B.Is x) = rw (c .before .before .before .before .before .before .before .before .before .before .before .before .before .before .before .before .before .before .before .x .given .1) at (c .before .before .before .before .before .before .before .before .before .before .before .before .before .before .before .before .before .before .before .before .before .before .before .before .before .before .before .before .before .before .before .before .before .build .ensures) in
-    let r = c .before .before .before .before .before .before .before .before .before .before .before .before .before .r2 .given .0 .0 in
-    let k = c .before .before .before .before .before .before .before .before .before .before .before .before .before .before .before .before .before .before .before .before .before .before .before .before .before .before .before .before .before .before .before .before .before .build .kept in
-    plan-refused s p (a .room) t u v w f g sizes x built r (rw (c .before .before .before .before .before .before .before .before .before .before .before .before .before .r2 .given .1) at (c .before .before .before .before .before .before .before .before .before .before .before .before .before .before .before .judge-plan .ensures)) (k .1 .1 .0) (k .1 .1 .1 .0) (k .1 .1 .1 .1 .0)
-    _ _ (c .before .before .before .before .before .before .before .before .before .before .clear .ensures) (store-cleared g _ _ (c .before .before .before .before .before .before .clear2 .ensures) (c .before .before .clear3 .ensures))
+    let third = c .before .before in
+    let second = third .before .before .before .before in
+    let first = second .before .before .before .before in
+    let refused = first .before .before .before in
+    let planned = refused .before .before in
+    let told = planned .before .before .before .before in
+    let k = behind told .build .kept .1 .1 in
+    plan-refused (sizes (behind told)) (built told) (rw (refused .r2 .given .1) at (planned .judge-plan .ensures)) (k .0) (k .1 .0) (k .1 .1 .0) (first .clear .ensures)
+    (store-cleared (left (behind told)) _ _ (second .clear2 .ensures) (third .clear3 .ensures))
 
 same-length-25 : tie.Need-same-length-25
 same-length-25 c = search needs
@@ -211,20 +198,10 @@ same-length-30 c = search needs
 
 returns-5 : tie.Need-returns-5
 returns-5 c =
-    let a = c .before .before .before .before .before .before .before .before .before .before .before .before .before .before .before .before .before .before .before .before .before .before .before .before .before .before .before .before .before .before .before .before .before .before .before .before .before .before .args in
-    let s = now (a .sheet) in
-    let p = now (a .plan) in
-    let t = now (a .table) in
-    let v = tables (now (a .word)) (now (a .one)) (now (a .other)) in
-    let f = store (now (a .tuples)) (now (a .nexts)) in
-    let u = c .before .before .before .before .before .before .before .before .before .before .before .before .before .before .before .before .before .before .before .before .before .build .last .1 .1 .0 in
-    let w = tables (c .before .before .before .before .before .before .before .before .before .before .before .before .before .before .before .before .before .before .before .before .before .build .last .1 .1 .1 .1 .1 .0) (c .before .before .before .before .before .before .before .before .before .before .before .before .before .before .before .before .before .before .before .before .before .build .last .1 .1 .1 .1 .1 .1 .0) (c .before .before .before .before .before .before .before .before .before .before .before .before .before .before .before .before .before .before .before .before .before .build .last .1 .1 .1 .1 .1 .1 .1 .0) in
-    let g = store (c .before .before .before .before .before .before .before .before .before .before .before .before .before .before .before .before .before .before .before .before .before .build .last .1 .1 .1 .0) (c .before .before .before .before .before .before .before .before .before .before .before .before .before .before .before .before .before .before .before .before .before .build .last .1 .1 .1 .1 .0) in
-    let sizes : SizesFit s p = record { sheet = c .before .before .before .before .before .before .before .before .before .before .before .before .before .before .before .before .before .before .before .before .before .before .before .before .before .before .before .before .before .if1 .left; plan = c .before .before .before .before .before .before .before .before .before .before .before .before .before .before .before .before .before .before .before .before .before .before .before .before .before .before .before .before .if2 .left } in
-    let x = c .before .before .before .before .before .before .before .x .given .0 .0 in
-    let built : Builds s (a .room) t u v w f g (B.Is x) = rw (c .before .before .before .before .before .before .before .x .given .1) at (c .before .before .before .before .before .before .before .before .before .before .before .before .before .before .before .before .before .before .before .before .before .build .ensures) in
-    let z = c .before .v .given .0 .0 in
-    plan-judged s p (a .room) t u v w f g sizes x built z (rw (c .before .v .given .1) at (c .before .before .before .judge-plan .ensures))
+    let judged = c .before in
+    let planned = judged .before .before in
+    let told = planned .before .before .before .before in
+    plan-judged (sizes (behind told)) (built told) (rw (judged .v .given .1) at (planned .judge-plan .ensures))
 
 pub verdict-spec : {M : Type 1} → statement M
 verdict-spec =

@@ -1,34 +1,55 @@
--- The buffer is cleared, and the listing written at its start. Assumes nothing.
-use Prim.Native.Nat.{ℕ}
-use mathlib.Core.Path.{ap, _∙_}
+-- The listing is written at the start, and what lies behind it cleared. Assumes nothing.
+use mathlib.Core.Path.{sym, _∙_}
 use native.Mathlib.Omega.{arith}
-use mathlib.Core.List.{List}
-use lib.Seq.{sets}
-use Rattle.gate.specs.Gate.{cleared}
 use Rattle.listing.specs.Listing.{listing}
-use Rattle.listing.specs.PutLaws.{listing-length}
-use Rattle.gate.specs.GateLaws.{lent-text}
+use Rattle.listing.specs.PutLaws.{listing-length, zeros-behind}
 use borrow.Author.Needs.{needs}
 use Rattle.listing.proofs.writing.write.Statement.{statement}
 use Rattle.listing.proofs.writing.write.Tie as tie
 
-clear-bytes-requires : tie.Need-clear-bytes-requires
-clear-bytes-requires c κs = search needs
-
 put-listing-requires : tie.Need-put-listing-requires
 put-listing-requires c κs = search needs
+
+listing-length-requires : tie.Need-listing-length-requires
+listing-length-requires c κs = search needs
+
+sub-clear-bytes : tie.Need-sub-clear-bytes
+sub-clear-bytes c = search needs
+
+part-clear-bytes-start : tie.Need-part-clear-bytes-start
+part-clear-bytes-start c = search needs
+
+part-clear-bytes-end : tie.Need-part-clear-bytes-end
+part-clear-bytes-end c = search needs
+
+clear-bytes-requires : tie.Need-clear-bytes-requires
+clear-bytes-requires c κs = search needs
 
 same-length : tie.Need-same-length
 same-length c = search needs
 
 returns : tie.Need-returns
 returns c =
-    let a = c .before .before .before .before .before .before .before .before .before .before .before .args in
-    let k = listing-length (a .n) (a .k) (a .count) (a .tuples .now) (a .nexts .now) in
-    let h = c .before .before .before .before .before .before .before .before .before .before .before .pre .1 in
-    c .before .before .put-listing .ensures
-    ∙ ap (λ (o : List ℕ). sets o 0 (listing (a .n) (a .k) (a .count) (a .tuples .now) (a .nexts .now))) (c .before .before .before .before .before .before .clear-bytes .ensures)
-    ∙ lent-text (listing (a .n) (a .k) (a .count) (a .tuples .now) (a .nexts .now)) (a .out .now) (omega arith)
+    let emptied = c .before .before in
+    let measured = emptied .before .before in
+    let put = measured .before .before .before in
+    let start = put .before .before .before .before .before in
+    let a = start .args in
+    let e = measured .listing-length .ensures in
+    let h = start .pre .1 in
+    zeros-behind (listing (a .n) (a .k) (a .count) (a .tuples .now) (a .nexts .now)) (a .out .now) (put .put-listing .last .0) (emptied .clear-bytes .last .0)
+    (measured .listing-length .result) (listing-length (a .n) (a .k) (a .count) (a .tuples .now) (a .nexts .now) ∙ sym e) (omega arith) (put .put-listing .ensures)
+    (emptied .clear-bytes .ensures)
 
 pub write-spec : {M : Type 1} → statement M
-write-spec = tie.close (tie.spec clear-bytes-requires put-listing-requires same-length returns)
+write-spec =
+    tie.close
+    (tie.spec
+    put-listing-requires
+    listing-length-requires
+    sub-clear-bytes
+    part-clear-bytes-start
+    part-clear-bytes-end
+    clear-bytes-requires
+    same-length
+    returns)

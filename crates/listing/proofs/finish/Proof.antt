@@ -1,0 +1,86 @@
+-- The answer is that of the last question. Assumes nothing.
+use mathlib.Core.Path.{_≡_, refl, sym, _∙_}
+use lib.ListN.{length}
+use Rattle.tracker.specs.Build.{store}
+use Rattle.listing.specs.Listing.{listing}
+use Rattle.listing.specs.PutLaws.{listing-length}
+use borrow.Author.Needs.{needs}
+use Rattle.listing.proofs.finish.Statement.{statement}
+use Rattle.listing.proofs.finish.Tie as tie
+
+abbrev start : tie.After-listing-length → tie.Start
+start c = c .before .before .before .before
+
+length-is : (c : tie.After-listing-length)
+    → length (listing (start c .args .n) (start c .args .k) (start c .args .count) (start c .args .tuples .now) (start c .args .nexts .now)) ≡ c .listing-length .result
+length-is c =
+    let a = start c .args in
+    listing-length (a .n) (a .k) (a .count) (a .tuples .now) (a .nexts .now) ∙ sym (c .listing-length .ensures)
+
+listing-length-requires : tie.Need-listing-length-requires
+listing-length-requires c κs = search needs
+
+clear-requires : tie.Need-clear-requires
+clear-requires c κs = search needs
+
+clear-requires-2 : tie.Need-clear-requires-2
+clear-requires-2 c κs = search needs
+
+clear-bytes-requires : tie.Need-clear-bytes-requires
+clear-bytes-requires c κs = search needs
+
+same-length : tie.Need-same-length
+same-length c = search needs
+
+same-length-2 : tie.Need-same-length-2
+same-length-2 c = search needs
+
+same-length-3 : tie.Need-same-length-3
+same-length-3 c = search needs
+
+returns : tie.Need-returns
+returns c =
+    let emptied = c .before .before in
+    let second = emptied .before .before .before .before in
+    let first = second .before .before .before .before in
+    let short = first .before .before in
+    let p = first .clear .ensures in
+    let q = second .clear2 .ensures in
+    (rw (length-is (short .before)) (short .if1 .taken), refl, λ i. store (p i) (q i), emptied .clear-bytes .ensures)
+
+write-requires : tie.Need-write-requires
+write-requires c κs = search needs
+
+same-length-4 : tie.Need-same-length-4
+same-length-4 c = search needs
+
+same-length-5 : tie.Need-same-length-5
+same-length-5 c = search needs
+
+same-length-6 : tie.Need-same-length-6
+same-length-6 c = search needs
+
+returns-2 : tie.Need-returns-2
+returns-2 c =
+    let written = c .before .before in
+    let long = written .before .before .before .before in
+    let e = length-is (long .before) in
+    (rw e (long .if1 .left), sym e, refl, written .write .ensures)
+
+pub finish-spec : {M : Type 1} → statement M
+finish-spec =
+    tie.close
+    (tie.spec
+    listing-length-requires
+    clear-requires
+    clear-requires-2
+    clear-bytes-requires
+    same-length
+    same-length-2
+    same-length-3
+    returns
+    write-requires
+    same-length-4
+    same-length-5
+    same-length-6
+    returns-2)

@@ -1,0 +1,77 @@
+-- Cleared tables are filled, and cleared again where the tuples are too many. Assumes nothing.
+use mathlib.Core.Path.{refl, sym, subst, _∙_}
+use Rattle.automaton.specs.Automaton.{automaton}
+use Rattle.tracker.specs.Build.{Store, store, Fitted}
+use Rattle.tracker.specs.Fill.{Filling}
+use Rattle.tracker.specs.FillLaws.{cleared-filling, cleared-fitted, cleared-alike}
+use borrow.Author.Needs.{needs}
+use Rattle.tracker.proofs.track.Statement.{statement}
+use Rattle.tracker.proofs.track.Tie as tie
+
+-- the start, from behind the first clearing
+abbrev start : tie.After-clear → tie.Start
+start c = c .before .before .before .before .before .before
+
+abbrev lent : tie.Start → Store
+lent c = store (c .args .tuples .now) (c .args .nexts .now)
+
+clear-requires : tie.Need-clear-requires
+clear-requires c κs = search needs
+
+fill-requires : tie.Need-fill-requires
+fill-requires c κs =
+    let cleared = c .before .before .before .before .before .before in
+    let s = start cleared in
+    let A = automaton (s .args .a) (s .args .table .now) in
+    subst (Filling A (s .args .room)) (sym (cleared .clear .ensures)) (cleared-filling A (s .args .room) (lent s) (s .pre .0) (s .pre .1))
+
+clear-requires-2 : tie.Need-clear-requires-2
+clear-requires-2 c κs = search needs
+
+same-length : tie.Need-same-length
+same-length c = search needs
+
+same-length-2 : tie.Need-same-length-2
+same-length-2 c = search needs
+
+returns : tie.Need-returns
+returns c =
+    let emptied = c .before .before .before .before in
+    let filled = emptied .before .before .before .before .before .before .before .before in
+    let cleared = filled .before .before .before .before .before .before .before in
+    let f = filled .fill in
+    let v = store (f .last .1 .1 .1 .0) (f .last .1 .1 .1 .1 .0) in
+    let k = cleared .clear .kept in
+    let q = cleared-alike v (lent (start cleared)) (f .kept .1 .1 .1 .0 ∙ k .0) (f .kept .1 .1 .1 .1 .0 ∙ k .1 .0) in
+    (f .ensures .over (emptied .before .before .before .if1 .taken), refl, emptied .clear2 .ensures ∙ q)
+
+same-length-3 : tie.Need-same-length-3
+same-length-3 c = search needs
+
+same-length-4 : tie.Need-same-length-4
+same-length-4 c = search needs
+
+returns-2 : tie.Need-returns-2
+returns-2 c =
+    let filled = c .before .before .before .before .before in
+    let cleared = filled .before .before .before .before .before .before .before in
+    let s = start cleared in
+    let f = filled .fill in
+    let A = automaton (s .args .a) (s .args .table .now) in
+    let w = store (f .last .1 .1 .1 .0) (f .last .1 .1 .1 .1 .0) in
+    let h = subst (λ (x : Store). Fitted A (s .args .room) x w (f .result)) (cleared .clear .ensures) (f .ensures .fitting (c .if1 .left)) in
+    (record { n = refl; k = refl; initial = refl; recurring = refl }, cleared-fitted A (s .args .room) (lent s) w (f .result) h)
+
+pub track-spec : {M : Type 1} → statement M
+track-spec =
+    tie.close
+    (tie.spec
+    clear-requires
+    fill-requires
+    clear-requires-2
+    same-length
+    same-length-2
+    returns
+    same-length-3
+    same-length-4
+    returns-2)
