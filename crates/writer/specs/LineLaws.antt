@@ -8,7 +8,8 @@ use lib.Seq.{sets}
 use Rattle.text.specs.Bytes.{lf, space}
 use Rattle.text.specs.Column.{column}
 use Rattle.text.specs.SetsLaws.{sets-append}
-use Rattle.format.specs.Format.{nameLine}
+use Rattle.format.specs.Format.{sheetWord, headLine, nameLine}
+use Rattle.writer.specs.Columns.{columnsLine}
 
 pub name-stored : (out : List ℕ) (at l : ℕ) (name : List ℕ) →
     set (sets (set (sets (set out at 78) (at + 1) (column 3 l)) (at + 4) space) (at + 5) name) (at + 5 + length name) lf ≡ sets out at (nameLine l name)
@@ -18,3 +19,22 @@ name-stored out at l name =
     let four : at + 4 ≡ suc (suc (suc (suc at))) = omega arith in
     let five : at + 5 ≡ suc (suc (suc (suc (suc at)))) = omega arith in
     rw (one, four, five) (sym (sets-append name (lf ∷ []) _ (suc (suc (suc (suc (suc at)))))))
+
+pub head-stored : (out : List ℕ) (at n k : ℕ) →
+    set (sets (sets (sets out at sheetWord) (at + 5) (column 3 n)) (at + 8) (column 3 k)) (at + 11) lf ≡ sets out at (headLine n k)
+unfolding headLine column
+head-stored out at n k =
+    let five : at + 5 ≡ suc (suc (suc (suc (suc at)))) = omega arith in
+    let eight : at + 8 ≡ suc (suc (suc (suc (suc (suc (suc (suc at))))))) = omega arith in
+    let eleven : at + 11 ≡ suc (suc (suc (suc (suc (suc (suc (suc (suc (suc (suc at)))))))))) = omega arith in
+    rw (five, eight, eleven)
+
+pub columns-stored : (out : List ℕ) (at letter a b c : ℕ) →
+    set (sets (sets (sets (set out at letter) (at + 1) (column 3 a)) (at + 4) (column 3 b)) (at + 7) (column 3 c)) (at + 10) lf ≡ sets out at (columnsLine letter a b c)
+unfolding column
+columns-stored out at letter a b c =
+    let one : at + 1 ≡ suc at = omega arith in
+    let four : at + 4 ≡ suc (suc (suc (suc at))) = omega arith in
+    let seven : at + 7 ≡ suc (suc (suc (suc (suc (suc (suc at)))))) = omega arith in
+    let ten : at + 10 ≡ suc (suc (suc (suc (suc (suc (suc (suc (suc (suc at))))))))) = omega arith in
+    rw (one, four, seven, ten)

@@ -18,9 +18,13 @@ transitionsFrom table i = transitionsOf table i (places - i)
 abbrev pub At : List ℕ → ℕ → Type 0
 At table i = Member (getD table (i / 16) 0) (i % 16)
 
--- i is the first place from `start` on at which a transition stands, and 2048 where there is none
+-- a transition stands at place i, or i is 2048
+pub record Stop (table : List ℕ) (i : ℕ) : Type 0 where
+  pub most : i ≤ places
+  pub there : i < places → At table i
+
+-- i is the first such place from `start` on
 pub record First (table : List ℕ) (start i : ℕ) : Type 0 where
   pub from : start ≤ i
-  pub most : i ≤ places
+  pub stop : Stop table i
   pub none-before : transitionsFrom table start ≡ transitionsFrom table i
-  pub there : i < places → At table i

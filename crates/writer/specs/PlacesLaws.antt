@@ -1,20 +1,20 @@
 -- The transitions from a place on: with a transition there, without one, and at the end. Assumes nothing.
 use Prim.Native.Nat.{ℕ, zero, suc, _+_, _-_, _*_, _/_, _%_, _≤_, _<_}
-use mathlib.Core.Path.{_≡_, ap, _∙_}
+use mathlib.Core.Path.{_≡_, sym, ap, _∙_}
 use mathlib.Core.List.{List, [], _∷_}
 use native.Mathlib.Omega.{arith}
 use native.Mathlib.Numerals.{add-one}
-use lib.ListN.{getD}
+use lib.ListN.{length, getD}
 use lib.Seq.{sets}
 use Rattle.text.specs.SetsLaws.{sets-append}
 use Rattle.sets.specs.Sets.{bit}
 use Rattle.sets.specs.SetLaws.{bit-zero}
 use Rattle.format.specs.Format.{placed, transitionsOf, transitionLine, transitionLines}
 use Rattle.format.specs.FormatLaws.{transition-length}
-use Rattle.writer.specs.Places.{places, transitionsFrom, At, First}
+use Rattle.writer.specs.Places.{places, transitionsFrom, At, Stop, First}
 
 module _ (T : List ℕ) where
-  pub place-here : (i : ℕ) → i < places → At T i → transitionsFrom T i ≡ placed i ∷ transitionsFrom T (i + 1)
+  place-here : (i : ℕ) → i < places → At T i → transitionsFrom T i ≡ placed i ∷ transitionsFrom T (i + 1)
   unfolding transitionsOf
   place-here i h m =
       let e : places - i ≡ suc (places - (i + 1)) = omega arith in
@@ -28,12 +28,6 @@ module _ (T : List ℕ) where
       let f : i + 1 ≡ suc i = add-one i in
       rw (e, z, f)
 
-  pub place-last : (i : ℕ) → places ≤ i → transitionsFrom T i ≡ []
-  unfolding transitionsOf
-  place-last i h =
-      let e : places - i ≡ 0 = omega arith in
-      rw e
-
   -- the places of an empty cell: `left` of them, up to the next cell
   cell-rest : (left i c : ℕ) → c < 128 → i + left ≡ 16 * c + 16 → 16 * c ≤ i → getD T c 0 ≡ 0 → transitionsFrom T i ≡ transitionsFrom T (16 * c + 16)
   cell-rest zero i c l h k z = ap (transitionsFrom T) (let e : i ≡ 16 * c + 16 = omega arith in e)
@@ -45,15 +39,34 @@ module _ (T : List ℕ) where
   pub cell-empty : (i : ℕ) → i < places → getD T (i / 16) 0 ≡ 0 → transitionsFrom T i ≡ transitionsFrom T (16 * (i / 16) + 16)
   cell-empty i h z = cell-rest (16 * (i / 16) + 16 - i) i (i / 16) (omega arith) (omega arith) (omega arith) z
 
-  -- the transition at place i, and then those from the next one's place j on
-  module _ (i j : ℕ) (h : i < places) (m : At T i) (next : First T (i + 1) j) where
-    pub place-next : transitionsFrom T i ≡ placed i ∷ transitionsFrom T j
-    place-next = place-here i h m ∙ ap (placed i ∷_) (next .none-before)
+-- One transition after the other: at the place i a transition stands, and the next one at j
 
-    pub lines-next : (out : List ℕ) (at : ℕ) → sets out at (transitionLines (transitionsFrom T i)) ≡ sets (sets out at (transitionLine (placed i))) (at + 11) (transitionLines (transitionsFrom T j))
+module _ {T : List ℕ} {i : ℕ} (stop : Stop T i) where
+  module _ (h : i < places) where
+    module _ {j : ℕ} (next : First T (i + 1) j) where
+      place-next : transitionsFrom T i ≡ placed i ∷ transitionsFrom T j
+      place-next = place-here T i h (stop .there h) ∙ ap (placed i ∷_) (next .none-before)
+
+      pub count-next : length (transitionsFrom T i) ≡ length (transitionsFrom T j) + 1
+      count-next = ap length place-next ∙ sym (add-one _)
+
+      pub lines-next : (out : List ℕ) (at : ℕ) → sets out at (transitionLines (transitionsFrom T i)) ≡ sets (sets out at (transitionLine (placed i))) (at + 11) (transitionLines (transitionsFrom T j))
+      unfolding transitionLines
+      lines-next out at = rw (place-next, sets-append, transition-length)
+
+    pub count-here : 0 < length (transitionsFrom T i)
+    count-here = rw (place-here T i h (stop .there h)) (omega arith)
+
+  module _ (h : places ≤ i) where
+    place-last : transitionsFrom T i ≡ []
+    unfolding transitionsOf
+    place-last =
+        let e : places - i ≡ 0 = omega arith in
+        rw e
+
+    pub count-last : length (transitionsFrom T i) ≡ 0
+    count-last = ap length place-last
+
+    pub lines-last : (out : List ℕ) (at : ℕ) → sets out at (transitionLines (transitionsFrom T i)) ≡ out
     unfolding transitionLines
-    lines-next out at = rw (place-next, sets-append, transition-length)
-
-  pub lines-last : (i : ℕ) → places ≤ i → (out : List ℕ) (at : ℕ) → sets out at (transitionLines (transitionsFrom T i)) ≡ out
-  unfolding transitionLines
-  lines-last i h out at = rw (place-last i h)
+    lines-last out at = rw place-last

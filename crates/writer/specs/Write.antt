@@ -1,41 +1,52 @@
--- What writing a sheet answers, and what the lent tables hold then.
-use Prim.Native.Nat.{ℕ, _-_, _≤_, _<_}
+-- What writing a sheet answers, and what the lent tables hold then. The witness was v and is w then, the buffer was b and is c.
+use Prim.Native.Nat.{ℕ, _≤_, _<_}
 use mathlib.Core.Path.{_≡_}
 use mathlib.Core.List.{List}
-use mathlib.Core.Logic.{_⊎_}
 use lib.ListN.{length}
 use Rattle.gate.specs.Gate.{refusal, cleared, lentText}
+use Rattle.gate.specs.declared.Refusal.{Refusal}
 use Rattle.automaton.specs.Automaton.{Automaton, Fits}
 use Rattle.automaton.specs.Meeting.{Free, Everywhere}
+use Rattle.automaton.specs.Lent.{Tables, Long, clearedTables, NumbersRefuse}
+use Rattle.walks.specs.Check.{Lengths}
+use Rattle.format.specs.Format.{Sheet, written}
+use Rattle.sheet.specs.Read.{Accepted, Refuses}
 use Rattle.writer.specs.declared.Written.{Written}
 use Rattle.writer.specs.declared.Written.the-variants.{Refused, Bytes}
-use Rattle.format.specs.Format.{Sheet, numbers, written}
-use Rattle.automaton.specs.Lent.{Tables, Long, clearedTables, NumbersRefuse}
-use Rattle.sheet.specs.Read.{Accepted, Refuses}
+use Rattle.writer.specs.Same.{writing}
 
--- WRITING FROM A FILE: "The writer writes composed letters". The buffer was b and is c then; its length is asked last of all.
-abbrev pub Writes : List ℕ → Tables → Tables → List ℕ → List ℕ → Written → Type 0
-Writes s v w b c (Refused r) =
-    ((Long v → ⊥) × (r ≡ refusal 1 0) × (w ≡ v) × (c ≡ b))
-    ⊎ (Long v × Refuses s v w r × (c ≡ cleared b))
-    ⊎ (Long v × ((σ : Sheet) × Accepted s σ × (length b < length (written (numbers σ) (σ .names)))) × (r ≡ refusal 1 0) × (w ≡ clearedTables v) × (c ≡ cleared b))
-Writes s v w b c (Bytes count) =
-    Long v × ((σ : Sheet) × Accepted s σ × (count ≡ length (written (numbers σ) (σ .names))) × (count ≤ length b) × (c ≡ lentText (written (numbers σ) (σ .names)) b))
-    × (w ≡ clearedTables v)
+-- THE LAST QUESTION: is the buffer long enough for the text? "Lengths for writing and listing are known late, so that part is asked last of all"
+abbrev pub Put : List ℕ → List ℕ → List ℕ → Written → Type 0
+Put text b c (Refused x) = (length b < length text) × (x ≡ refusal 1 0) × (c ≡ cleared b)
+Put text b c (Bytes count) = (count ≡ length text) × (count ≤ length b) × (c ≡ lentText text b)
 
--- WRITING FROM NUMBERS with a file for the names: "that file's questions come first, then a differing k is 4, line 0, then the questions on the numbers"
--- The sheet as numbers is A, with a table of at least 128 cells; s is the names' file.
-abbrev pub WritesNumbers : Automaton → List ℕ → Tables → Tables → List ℕ → List ℕ → Written → Type 0
-WritesNumbers A s v w b c (Refused r) =
-    (((128 ≤ length (A .table)) × Long v → ⊥) × (r ≡ refusal 1 0) × (w ≡ v) × (c ≡ b))
-    ⊎ ((128 ≤ length (A .table)) × Long v × (c ≡ cleared b)
-    × (Refuses s v w r
-    ⊎ ((σ : Sheet) × Accepted s σ
-    × (((σ .k ≡ A .k → ⊥) × (r ≡ refusal 4 0) × (w ≡ clearedTables v))
-    ⊎ ((σ .k ≡ A .k) × NumbersRefuse A v w r)
-    ⊎ ((σ .k ≡ A .k) × Fits A × Free A Everywhere × (length b < length (written A (σ .names))) × (r ≡ refusal 1 0) × (w ≡ clearedTables v))))))
-WritesNumbers A s v w b c (Bytes count) =
-    (128 ≤ length (A .table)) × Long v
-    × ((σ : Sheet) × Accepted s σ × (σ .k ≡ A .k) × Fits A × Free A Everywhere
-    × (count ≡ length (written A (σ .names))) × (count ≤ length b) × (c ≡ lentText (written A (σ .names)) b))
-    × (w ≡ clearedTables v)
+-- WRITING FROM A FILE s: "The writer writes composed letters"
+pub data Writes (s : List ℕ) (v w : Tables) (b c : List ℕ) (r : Written) : Type 0 where
+  -- 1, asked first, "touches nothing"
+  short : (Long v → ⊥) → r ≡ Refused (refusal 1 0) → w ≡ v → c ≡ b → Writes s v w b c r
+  -- 2 to 10
+  refused : Long v → (x : Refusal) → Refuses s v w x → r ≡ Refused x → c ≡ cleared b → Writes s v w b c r
+  -- 1, asked last, or the text
+  asked : Long v → (σ : Sheet) → Accepted s σ → w ≡ clearedTables v → Put (writing σ) b c r → Writes s v w b c r
+
+-- WRITING FROM NUMBERS A with a file s for the names. Questions 2 to 10:
+-- "that file's questions come first, then a differing k is 4, line 0, then the questions on the numbers"
+pub data NamedRefuse (A : Automaton) (s : List ℕ) (v w : Tables) (x : Refusal) : Type 0 where
+  by-names : Refuses s v w x → NamedRefuse A s v w x
+  by-letters : (σ : Sheet) → Accepted s σ → (σ .k ≡ A .k → ⊥) → x ≡ refusal 4 0 → w ≡ clearedTables v → NamedRefuse A s v w x
+  by-numbers : (σ : Sheet) → Accepted s σ → σ .k ≡ A .k → NumbersRefuse A v w x → NamedRefuse A s v w x
+
+-- all answered yes: s is the file of σ
+pub record NamedAccepted (A : Automaton) (s : List ℕ) (σ : Sheet) : Type 0 where
+  pub names : Accepted s σ
+  pub letters : σ .k ≡ A .k
+  pub fits : Fits A
+  pub free : Free A Everywhere
+
+pub data WritesNumbers (A : Automaton) (s : List ℕ) (v w : Tables) (b c : List ℕ) (r : Written) : Type 0 where
+  -- 1, asked first, "touches nothing"
+  short : (Lengths A v → ⊥) → r ≡ Refused (refusal 1 0) → w ≡ v → c ≡ b → WritesNumbers A s v w b c r
+  -- 2 to 10
+  refused : Lengths A v → (x : Refusal) → NamedRefuse A s v w x → r ≡ Refused x → c ≡ cleared b → WritesNumbers A s v w b c r
+  -- 1, asked last, or the text
+  asked : Lengths A v → (σ : Sheet) → NamedAccepted A s σ → w ≡ clearedTables v → Put (written A (σ .names)) b c r → WritesNumbers A s v w b c r

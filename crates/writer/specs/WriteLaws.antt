@@ -1,32 +1,34 @@
--- The ends of the two calls: refused before the numbers, refused for the numbers, or the text in the buffer. Assumes nothing.
-use Prim.Native.Nat.{ℕ, zero, _-_, _≤_, _<_}
+-- The ends of the two calls: refused before the last question, or asked it with the names that the rows hold. Assumes nothing.
+use Prim.Native.Nat.{ℕ, _+_, _-_, _≤_}
 use mathlib.Core.Path.{_≡_, refl, sym, ap, _∙_, subst}
-use mathlib.Core.List.{List, map, append-nil}
+use mathlib.Core.List.{List, _++_, map, append-nil}
 use mathlib.Core.Logic.{inl, inr}
 use native.Mathlib.Omega.{arith}
-use lib.ListN.{length, length-map, length-replicate}
-use Rattle.gate.specs.Gate.{refusal, cleared}
+use native.Mathlib.Nat.{zero-add}
+use lib.ListN.{length, take, drop, length-map, length-replicate, length-drop, drop-of-length-le}
+use lib.Seq.{sets, sets-eq, take-all, take-at, drop-at}
+use Rattle.gate.specs.Gate.{refusal, cleared, lentText}
 use Rattle.gate.specs.declared.Refusal.{Refusal}
 use Rattle.names.specs.Name.{compose}
 use Rattle.automaton.specs.declared.Numbers.{Numbers}
-use Rattle.automaton.specs.Automaton.{Automaton, automaton}
-use Rattle.automaton.specs.Meeting.{Free}
+use Rattle.automaton.specs.Automaton.{Automaton, Fits, FirstNo, automaton}
 use Rattle.automaton.specs.Lent.{Tables, Long, SameLengths, clearedTables, NumbersRefuse}
-use Rattle.format.specs.Format.{Sheet, FileIs, Faulty, numbers, written}
+use Rattle.format.specs.Format.{Sheet, FileIs, Faulty, numbers}
+use Rattle.format.specs.NumbersLaws.{sheet-fits}
+use Rattle.walks.specs.declared.Checked.{Checked}
 use Rattle.walks.specs.declared.Checked.the-variants as K
-use Rattle.walks.specs.Check.{Lengths, Checks}
+use Rattle.walks.specs.Check.{Checks}
 use Rattle.sheet.specs.declared.Read.the-variants as R
-use Rattle.sheet.specs.Read.{Accepted, Refuses, AreNumbers, lentTable, Reads}
+use Rattle.sheet.specs.Read.{Refuses, Reads}
 use Rattle.sheet.specs.Rows.{Holds}
 use Rattle.sheet.specs.declared.File.{File}
 use Rattle.sheet.specs.declared.File.the-variants as F
 use Rattle.sheet.specs.Answers.{LettersRead}
 use Rattle.sheet.specs.UniqueLaws.{file-unique, file-or-fault}
 use Rattle.writer.specs.declared.Written.{Written}
-use Rattle.writer.specs.declared.Written.the-variants.{Refused, Bytes}
-use Rattle.writer.specs.Write.{Writes, WritesNumbers}
-use Rattle.writer.specs.Same.{writing}
-use Rattle.writer.specs.Text.{textOf, rowsText, Writable, Finishes, RefusedWith, Completes}
+use Rattle.writer.specs.declared.Written.the-variants.{Refused}
+use Rattle.writer.specs.Write.{Put, Writes, NamedRefuse, WritesNumbers}
+use Rattle.writer.specs.Text.{textOf, rowsText, Writable, PutNamed, RefusedWith, Asks}
 use Rattle.writer.specs.TextLaws.{text-written}
 use Rattle.writer.specs.RowNames.{rowNames}
 use Rattle.writer.specs.RowNamesLaws.{rows-hold}
@@ -45,80 +47,81 @@ faulty-number s number line (Faulty.transition σ rest a b c d) = omega arith
 faulty-number s number line (Faulty.end σ rest a b c d) = omega arith
 faulty-number s number line (Faulty.behind σ after a b c) = omega arith
 
-refuses-number : (s : List ℕ) (v w : Tables) (r : Refusal) → Refuses s v w r → r .number ≡ 1 → ⊥
-refuses-number s v w r (Refuses.faulty number line f e z) h = omega (arith, faulty-number s number line f, ap (λ (x : Refusal). x .number) e)
-refuses-number s v w r (Refuses.meeting σ f m) h = omega (arith, m .number)
+first-number : (A : Automaton) (number : ℕ) → FirstNo A number → 2 ≤ number
+first-number A number (FirstNo.range a) = omega arith
+first-number A number (FirstNo.states a b) = omega arith
+first-number A number (FirstNo.cells a b c) = omega arith
 
--- The rows hold the names of the sheet, whichever way it is known
+refuses-number : {s : List ℕ} {v w : Tables} {x : Refusal} → Refuses s v w x → x .number ≡ 1 → ⊥
+refuses-number {s} (Refuses.faulty number line f e z) h = omega (arith, faulty-number s number line f, ap (λ (x : Refusal). x .number) e)
+refuses-number (Refuses.meeting σ f m) h = omega (arith, m .number)
 
-pub letters-hold : (s rows : List ℕ) (r : File) → LettersRead s rows r → (σ : Sheet) → FileIs s σ → Holds (map compose (σ .names)) rows
-letters-hold s rows (F.Refused r) (number, line, fault, e) σ file = absurd (file-or-fault s σ number line file fault)
+numbers-number : {A : Automaton} {v w : Tables} {x : Refusal} → NumbersRefuse A v w x → x .number ≡ 1 → ⊥
+numbers-number {A} (NumbersRefuse.unfit number f e z) h = omega (arith, first-number A number f, ap (λ (x : Refusal). x .number) e)
+numbers-number (NumbersRefuse.meeting f m) h = omega (arith, m .number)
+
+named-number : {A : Automaton} {s : List ℕ} {v w : Tables} {x : Refusal} → NamedRefuse A s v w x → x .number ≡ 1 → ⊥
+named-number (NamedRefuse.by-names f) h = refuses-number f h
+named-number (NamedRefuse.by-letters σ a d e z) h = omega (arith, ap (λ (x : Refusal). x .number) e)
+named-number (NamedRefuse.by-numbers σ a e f) h = numbers-number f h
+
+-- THE LAST QUESTION
+
+-- a text of n bytes stored in the buffer, and all that lies behind it cleared
+pub text-lent : (text b : List ℕ) {n : ℕ} {l m : List ℕ} → l ≡ sets b 0 text → n ≡ length text → n ≤ length b → m ≡ cleared (take (length l - n) (drop n l))
+    → take n l ++ (m ++ drop (length l - n) (drop n l)) ≡ lentText text b
+text-lent text b {n} {l} {m} put e h clear =
+    let rest = drop n b in
+    let is : l ≡ text ++ rest = put ∙ sets-eq text b 0 (rw zero-add (omega arith)) ∙ rw (zero-add, e) in
+    let front : take n l ≡ text = rw is (take-at text rest n (sym e)) in
+    let back : drop n l ≡ rest = rw is (drop-at text rest n (sym e)) in
+    let size : length l - n ≡ length rest = rw (← back) (sym (length-drop n l)) in
+    rw (clear, front, back, size, take-all (length rest) rest (omega arith), drop-of-length-le rest {i = length rest} (omega arith), append-nil, length-drop n b, e)
+
+-- the rows hold the names of the sheet, whichever way it is known
+letters-hold : (s rows : List ℕ) (letters : File) → LettersRead s rows letters → (σ : Sheet) → FileIs s σ → Holds (map compose (σ .names)) rows
+letters-hold s rows (F.Refused x) (number, line, fault, e) σ file = absurd (file-or-fault s σ number line file fault)
 letters-hold s rows (F.Is a) letters σ file = subst (λ (υ : Sheet). Holds (map compose (υ .names)) rows) (file-unique s (letters .sheet) σ (letters .file) file) (letters .holds)
 
--- The text of a sheet that is read
+pub put-named : (A : Automaton) (s rows b c : List ℕ) (letters : File) (r : Written) → LettersRead s rows letters → Put (rowsText A rows) b c r → PutNamed A s b c r
+put-named A s rows b c letters r read put σ file same = subst (λ (text : List ℕ). Put text b c r) (ap (textOf A) names ∙ text-written A (σ .names)) put
+  where
+    names : rowNames rows 0 (A .k) ≡ map compose (σ .names)
+    names = rows-hold (map compose (σ .names)) rows (A .k) (length-map (σ .names) compose ∙ file .all-names ∙ same) (letters-hold s rows letters read σ file)
 
-module _ (s : List ℕ) (σ : Sheet) (file : FileIs s σ) where
-  -- the names that the rows hold
-  names-are : (rows : List ℕ) → Holds (map compose (σ .names)) rows → (k : ℕ) → k ≡ σ .k → rowNames rows 0 k ≡ map compose (σ .names)
-  names-are rows holds k e = rows-hold (map compose (σ .names)) rows k (length-map (σ .names) compose ∙ file .all-names ∙ sym e) holds
+-- A sheet's own numbers
 
-  -- of numbers with the names of the sheet
-  pub numbers-text : (A : Automaton) (rows : List ℕ) → Holds (map compose (σ .names)) rows → σ .k ≡ A .k → rowsText A rows ≡ written A (σ .names)
-  numbers-text A rows holds e = ap (textOf A) (names-are rows holds (A .k) (sym e)) ∙ text-written A (σ .names)
+letters : (σ : Sheet) → σ .k ≡ numbers σ .k
+unfolding numbers
+letters σ = refl
 
-  -- of its own numbers
-  numbers-are : (a : Numbers) (u : List ℕ) → AreNumbers (numbers σ) a → u ≡ numbers σ .table → automaton a u ≡ numbers σ
-  numbers-are a u e t = λ i. record { n = e .n i; k = e .k i; initial = e .initial i; recurring = e .recurring i; table = t i }
+-- numbers that fit can be written
+pub writable : {A : Automaton} → Fits A → 128 ≤ length (A .table) → Writable A
+writable fits h = record { states = omega (arith, fits .range); letters = omega (arith, fits .range); table = h }
 
-  letters : σ .k ≡ numbers σ .k
-  unfolding numbers
-  letters = refl
+-- WRITING FROM A FILE, whose successor sets are read into a table t of 128 cells
 
-  pub sheet-text : (a : Numbers) (u rows : List ℕ) → AreNumbers (numbers σ) a → u ≡ numbers σ .table → Holds (map compose (σ .names)) rows
-      → rowsText (automaton a u) rows ≡ writing σ
-  sheet-text a u rows e t holds = ap (λ (A : Automaton). rowsText A rows) (numbers-are a u e t) ∙ numbers-text (numbers σ) rows holds letters
+module _ (t : List ℕ) {s u : List ℕ} {v w : Tables} (whole : length t ≡ 128) where
+  pub write-refused : {b c : List ℕ} {x : Refusal} {r : Written} → Reads s t u v w (R.Refused x) → RefusedWith x b c r → Writes s v w b c r
+  write-refused (inl (short, e, f, z)) answer =
+      Writes.short (λ l. short (omega arith, l)) (answer .is ∙ ap Refused e) z (answer .untouched (ap (λ (p : Refusal). p .number) e))
+  write-refused (inr (h, l, f, z)) answer = Writes.refused l _ f (answer .is) (answer .zero (refuses-number f))
 
-  writable-read : (a : Numbers) (u rows : List ℕ) → AreNumbers (numbers σ) a → u ≡ numbers σ .table → 192 ≤ length rows → Writable (automaton a u) rows
-  unfolding numbers
-  writable-read a u rows e t h = record {
-    states = omega (arith, e .n, file .right .range);
-    letters = omega (arith, e .k, file .right .range);
-    table = omega (arith, ap length t, table-whole σ);
-    rows = h;
-  }
+  module _ {a : Numbers} (reads : Reads s t u v w (R.Is a)) where
+    is : automaton a u ≡ numbers (reads .2 .0)
+    is =
+        let (x, l, (σ, f, e, g), y) = reads in
+        let z : length t - 128 ≡ 0 = omega arith in
+        let h : u ≡ numbers σ .table = g ∙ rw z (append-nil (numbers σ .table)) in
+        λ i. record { n = e .n i; k = e .k i; initial = e .initial i; recurring = e .recurring i; table = h i }
 
--- a table of 128 cells has none behind
-table-is : (sets t : List ℕ) → length t ≡ 128 → lentTable sets t ≡ sets
-table-is sets t e =
-    let z : length t - 128 ≡ 0 = omega arith in
-    rw z (append-nil sets)
+    pub write-asks : Writable (automaton a u)
+    write-asks = subst Writable (sym is) (writable (sheet-fits s (reads .2 .0) (reads .2 .1 .file)) (omega (arith, table-whole (reads .2 .0))))
 
--- WRITING FROM A FILE
-
-module _ (s t u : List ℕ) (v w : Tables) (b : List ℕ) (whole : length t ≡ 128) where
-  pub write-refused : (r : Refusal) → Reads s t u v w (R.Refused r) → (c : List ℕ) (q : Written) → RefusedWith r b c q → Writes s v w b c q
-  write-refused r reads c q answer = subst (Writes s v w b c) (sym (answer .is)) (by reads)
-    where
-      by : Reads s t u v w (R.Refused r) → Writes s v w b c (Refused r)
-      by (inl (short, e, x, y)) = inl ((λ l. short (omega arith, l)), e, y, answer .untouched (ap (λ (p : Refusal). p .number) e))
-      by (inr (x, l, f, y)) = inr (inl (l, f, answer .zero (refuses-number s v w r f)))
-
-  module _ (a : Numbers) (rows : List ℕ) (reads : Reads s t u v w (R.Is a)) (holds : (σ : Sheet) → FileIs s σ → Holds (map compose (σ .names)) rows) where
-    read : (σ : Sheet) × Accepted s σ × AreNumbers (numbers σ) a × (u ≡ numbers σ .table)
-    read = let (x, l, (σ, f, e, g), y) = reads in (σ, f, e, g ∙ table-is (numbers σ .table) t whole)
-
-    is : rowsText (automaton a u) rows ≡ writing (read .0)
-    is = sheet-text s (read .0) (read .1 .file) a u rows (read .2) (read .3) (holds (read .0) (read .1 .file))
-
-    pub write-asks : 192 ≤ length rows → Writable (automaton a u) rows
-    write-asks h = writable-read s (read .0) (read .1 .file) a u rows (read .2) (read .3) h
-
-    pub write-finishes : (c : List ℕ) (r : Written) → Finishes (rowsText (automaton a u) rows) b c r → Writes s v w b c r
-    write-finishes c r f = by r (subst (λ (x : List ℕ). Finishes x b c r) is f)
-      where
-        by : (r : Written) → Finishes (writing (read .0)) b c r → Writes s v w b c r
-        by (Refused r) (l, e, z) = inr (inr (reads .1, (read .0, read .1, l), e, reads .3, z))
-        by (Bytes n) (e, l, z) = (reads .1, (read .0, read .1, e, l, z), reads .3)
+    pub write-finishes : {b c : List ℕ} {r : Written} → PutNamed (automaton a u) s b c r → Writes s v w b c r
+    write-finishes {b} {c} {r} put =
+        let (x, l, (σ, f, e, g), y) = reads in
+        Writes.asked l σ f y (subst (λ (A : Automaton). PutNamed A s b c r) is put σ (f .file) (letters σ))
 
 -- WRITING FROM NUMBERS
 
@@ -147,67 +150,35 @@ refuse-cleared A v w r (NumbersRefuse.meeting fits m) = NumbersRefuse.meeting fi
       other = l .other ∙ length-replicate {A = ℕ} (length (v .other)) 0;
     }
 
-module _ (A : Automaton) (s : List ℕ) (v : Tables) (b : List ℕ) where
-  pub numbers-short : length (A .table) < 128 → WritesNumbers A s v v b b (Refused (refusal 1 0))
-  numbers-short h = inl ((λ l. let z = l .0 in omega arith), refl, refl, refl)
+-- the questions before the last: the names' file is read into a table t of 128 cells
+module _ (t : List ℕ) {s : List ℕ} {v : Tables} (whole : length t ≡ 128) where
+  pub ask-names : {A : Automaton} {u : List ℕ} {w : Tables} {x : Refusal} → 128 ≤ length (A .table) → Reads s t u v w (R.Refused x) → Asks A s v w (K.Refused x)
+  ask-names cells (inl (short, e, f, z)) = inl ((λ l. short (omega arith, l .long)), e, z)
+  ask-names cells (inr (h, l, f, z)) = inr (record { cells = cells; long = l }, NamedRefuse.by-names f)
 
-  module _ (t u : List ℕ) (whole : length t ≡ 128) (cells : 128 ≤ length (A .table)) where
-    pub numbers-refused : (w : Tables) (r : Refusal) → Reads s t u v w (R.Refused r) → (c : List ℕ) (q : Written) → RefusedWith r b c q → WritesNumbers A s v w b c q
-    numbers-refused w r reads c q answer = subst (WritesNumbers A s v w b c) (sym (answer .is)) (by reads)
-      where
-        by : Reads s t u v w (R.Refused r) → WritesNumbers A s v w b c (Refused r)
-        by (inl (short, e, x, y)) = inl ((λ l. short (omega arith, l .1)), e, y, answer .untouched (ap (λ (p : Refusal). p .number) e))
-        by (inr (x, l, f, y)) = inr (cells, l, answer .zero (refuses-number s v w r f), inl f)
+  pub ask-letters : {A : Automaton} {a : Numbers} {u : List ℕ} {w : Tables} {x : Refusal} → 128 ≤ length (A .table) → Reads s t u v w (R.Is a)
+      → (a .k ≡ A .k → ⊥) → x ≡ refusal 4 0 → Asks A s v w (K.Refused x)
+  ask-letters cells (h, l, (σ, f, e, g), z) differ is =
+      inr (record { cells = cells; long = l }, NamedRefuse.by-letters σ f (λ same. differ (e .k ∙ sym (letters σ) ∙ same)) is z)
 
-    module _ (w : Tables) (a : Numbers) (reads : Reads s t u v w (R.Is a)) where
-      σ : Sheet
-      σ = reads .2 .0
+  pub ask-numbers : (A : Automaton) {a : Numbers} {u : List ℕ} {w : Tables} → 128 ≤ length (A .table) → Reads s t u v w (R.Is a)
+      → a .k ≡ A .k → (x : Tables) (r : Checked) → Checks A w x r → Asks A s v x r
+  ask-numbers A cells (h, l, (σ, f, e, g), z) same x (K.Refused y) (inl (short, i, j)) =
+      absurd (short (record { cells = cells; long = subst Long (sym z) (long-cleared v l) }))
+  ask-numbers A cells (h, l, (σ, f, e, g), z) same x (K.Refused y) (inr (i, refuse)) =
+      let cleared-refuse = refuse-cleared A v x y (subst (λ (z : Tables). NumbersRefuse A z x y) z refuse) in
+      inr (record { cells = cells; long = l }, NamedRefuse.by-numbers σ f (letters σ ∙ sym (e .k) ∙ same) cleared-refuse)
+  ask-numbers A cells (h, l, (σ, f, e, g), z) same x K.Free (i, fits, free, j) = (
+    record { cells = cells; long = l },
+    (σ, record { names = f; letters = letters σ ∙ sym (e .k) ∙ same; fits = fits; free = free }),
+    j ∙ ap clearedTables z ∙ tables-twice v,
+  )
 
-      accepted : Accepted s σ
-      unfolding σ
-      accepted = reads .2 .1
+module _ {A : Automaton} {s : List ℕ} {v w : Tables} where
+  pub numbers-refused : {b c : List ℕ} {x : Refusal} {r : Written} → Asks A s v w (K.Refused x) → RefusedWith x b c r → WritesNumbers A s v w b c r
+  numbers-refused (inl (short, e, z)) answer =
+      WritesNumbers.short short (answer .is ∙ ap Refused e) z (answer .untouched (ap (λ (p : Refusal). p .number) e))
+  numbers-refused (inr (l, f)) answer = WritesNumbers.refused l _ f (answer .is) (answer .zero (named-number f))
 
-      k : a .k ≡ σ .k
-      unfolding σ
-      k = reads .2 .2 .k ∙ sym (letters s (reads .2 .0) (reads .2 .1 .file))
-
-      -- "then a differing k is 4, line 0"
-      pub numbers-letters : (a .k ≡ A .k → ⊥) → (c : List ℕ) (q : Written) → RefusedWith (refusal 4 0) b c q → WritesNumbers A s v w b c q
-      numbers-letters differ c q answer =
-          subst (WritesNumbers A s v w b c) (sym (answer .is))
-          (inr (cells, reads .1, answer .zero (λ e. omega arith), inr (σ, accepted, inl ((λ e. differ (k ∙ e)), refl, reads .3))))
-
-      module _ (same : a .k ≡ A .k) (x : Tables) where
-        kept : σ .k ≡ A .k
-        kept = sym k ∙ same
-
-        lengths : Lengths A w
-        lengths = record { cells = cells; long = subst Long (sym (reads .3)) (long-cleared v (reads .1)) }
-
-        -- "then the questions on the numbers"
-        pub numbers-completes : (c : List ℕ) (r : Written) → Completes A s w x b c r → WritesNumbers A s v x b c r
-        numbers-completes c r (inl (q, inl (short, e, y), f, z)) = absurd (short lengths)
-        numbers-completes c r (inl (q, inr (l, refuse), f, z)) =
-            subst (WritesNumbers A s v x b c) (sym f)
-            (inr (cells, reads .1, z, inr (σ, accepted, inr (inl (kept, refuse-cleared A v x q (subst (λ (y : Tables). NumbersRefuse A y x q) (reads .3) refuse))))))
-        numbers-completes c r (inr (checks, finishes)) = by r (finishes σ (accepted .file) kept)
-          where
-            clear : x ≡ clearedTables v
-            clear = checks .3 ∙ ap clearedTables (reads .3) ∙ tables-twice v
-
-            by : (r : Written) → Finishes (written A (σ .names)) b c r → WritesNumbers A s v x b c r
-            by (Refused r) (l, e, z) = inr (cells, reads .1, z, inr (σ, accepted, inr (inr (kept, checks .1, checks .2, l, e, clear))))
-            by (Bytes n) (e, l, z) = (cells, reads .1, (σ, accepted, kept, checks .1, checks .2, e, l, z), clear)
-
--- the questions on numbers, and the text with the names in rows
-module _ (A : Automaton) (s : List ℕ) (w x : Tables) (b c : List ℕ) where
-  pub complete-refused : (q : Refusal) → Checks A w x (K.Refused q) → c ≡ cleared b → Completes A s w x b c (Refused q)
-  complete-refused q checks z = inl (q, checks, refl, z)
-
-  module _ (checks : Checks A w x K.Free) (rows : List ℕ) where
-    pub complete-asks : 192 ≤ length rows → Writable A rows
-    complete-asks h = record { states = omega (arith, checks .1 .range); letters = omega (arith, checks .1 .range); table = checks .0 .cells; rows = h }
-
-    pub complete-finishes : (letters : File) → LettersRead s rows letters → (r : Written) → Finishes (rowsText A rows) b c r → Completes A s w x b c r
-    complete-finishes letters read r f =
-        inr (checks, λ σ file same. subst (λ (text : List ℕ). Finishes text b c r) (numbers-text s σ file A rows (letters-hold s rows letters read σ file) same) f)
+  pub numbers-finishes : {b c : List ℕ} {r : Written} → Asks A s v w K.Free → PutNamed A s b c r → WritesNumbers A s v w b c r
+  numbers-finishes (l, (σ, ok), z) put = WritesNumbers.asked l σ ok z (put σ (ok .names .file) (ok .letters))

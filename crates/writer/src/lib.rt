@@ -6,7 +6,7 @@ ghost use lib.Seq.{sets};
 ghost use Rattle.automaton.specs.Automaton.{automaton};
 ghost use Rattle.automaton.specs.Lent.{tables};
 ghost use Rattle.writer.specs.Write.{Writes, WritesNumbers};
-ghost use Rattle.writer.specs.Text.{Writable, rowsText, Finishes, Completes, RefusedWith};
+ghost use Rattle.writer.specs.Text.{rowsText, Writable, PutNamed, RefusedWith, Asks};
 
 pub mod lines;
 pub mod name_lines;
@@ -26,7 +26,7 @@ pub enum Written {
 
 // How many bytes the text of a sheet has.
 fn text_length(a: Numbers, table: &[u16], rows: &[u8]) -> usize
-    requires { ⌜ Writable (automaton a (now table)) (now rows) ⌝ }
+    requires { ⌜ Writable (automaton a (now table)) × (192 ≤ length (now rows)) ⌝ }
     ensures { λ r. ⌜ r ≡ length (rowsText (automaton a (now (table .entry))) (now (rows .entry))) ⌝ }
 {
     16
@@ -37,7 +37,7 @@ fn text_length(a: Numbers, table: &[u16], rows: &[u8]) -> usize
 
 // The text of a sheet.
 fn put_text(a: Numbers, table: &[u16], rows: &[u8], out: &mut [u8])
-    requires { ⌜ Writable (automaton a (now table)) (now rows) × (length (rowsText (automaton a (now table)) (now rows)) ≤ length (now out)) ⌝ }
+    requires { ⌜ Writable (automaton a (now table)) × (192 ≤ length (now rows)) × (length (rowsText (automaton a (now table)) (now rows)) ≤ length (now out)) ⌝ }
     ensures { λ _. ⌜ now (out .exit) ≡ sets (now (out .entry)) 0 (rowsText (automaton a (now (table .entry))) (now (rows .entry))) ⌝ }
 {
     lines::put_head(out, 0, a.n, a.k);
@@ -47,21 +47,24 @@ fn put_text(a: Numbers, table: &[u16], rows: &[u8], out: &mut [u8])
     text::put_bytes(out, end, b"END\n");
 }
 
-// The last question, whether the output is long enough, and the text with zeros behind it.
-fn finish(a: Numbers, table: &[u16], rows: &[u8], out: &mut [u8]) -> Written
-    requires { ⌜ Writable (automaton a (now table)) (now rows) ⌝ }
-    ensures { λ r. ⌜ Finishes (rowsText (automaton a (now (table .entry))) (now (rows .entry))) (now (out .entry)) (now (out .exit)) r ⌝ }
+// The last question, whether the output is long enough, and the text with zeros behind it. The names are those of a sheet file.
+fn finish(a: Numbers, table: &[u16], names: &[u8], out: &mut [u8]) -> Written
+    requires { ⌜ Writable (automaton a (now table)) ⌝ }
+    ensures { λ r. ⌜ PutNamed (automaton a (now (table .entry))) (now (names .entry)) (now (out .entry)) (now (out .exit)) r ⌝ }
 {
-    gate::clear_bytes(out);
-    let count = text_length(a, table, rows);
+    let mut rows = [0u8; 192];
+    sheet::letters::read_letters(names, &mut rows);
+    let count = text_length(a, table, &rows);
     if out.len() < count {
+        gate::clear_bytes(out);
         return Written::Refused(Refusal {
             number: 1,
             line: 0,
             length: 0,
         });
     }
-    put_text(a, table, rows, out);
+    put_text(a, table, &rows, out);
+    gate::clear_bytes(&mut out[count..]);
     Written::Bytes(count)
 }
 
@@ -90,42 +93,48 @@ pub fn write(
     let mut table = [0u16; 128];
     match sheet::read_sheet(sheet, &mut table, word, one, other) {
         Read::Refused(r) => refuse(r, out),
-        Read::Is(a) => {
-            let mut rows = [0u8; 192];
-            sheet::letters::read_letters(sheet, &mut rows);
-            finish(a, &table, &rows, out)
-        }
+        Read::Is(a) => finish(a, &table, sheet, out),
     }
 }
 
-// The questions 4, 7, 8 and 10 on numbers, then the text with the names of a sheet file that is read already.
-fn complete(
+// The questions on a sheet as numbers with a sheet file for the names: 1, that file's questions 2 to 10, a differing k (4), and the
+// questions 4, 7, 8 and 10 on the numbers.
+fn ask(
     a: Numbers,
     table: &[u16],
     names: &[u8],
     word: &mut [u16],
     one: &mut [u16],
     other: &mut [u16],
-    out: &mut [u8],
-) -> Written
-    ensures { λ r. ⌜ Completes (automaton a (now (table .entry))) (now (names .entry)) (tables (now (word .entry)) (now (one .entry)) (now (other .entry)))
-        (tables (now (word .exit)) (now (one .exit)) (now (other .exit))) (now (out .entry)) (now (out .exit)) r ⌝ }
+) -> Checked
+    ensures { λ r. ⌜ Asks (automaton a (now (table .entry))) (now (names .entry)) (tables (now (word .entry)) (now (one .entry)) (now (other .entry)))
+        (tables (now (word .exit)) (now (one .exit)) (now (other .exit))) r ⌝ }
 {
-    match walks::check(a, table, word, one, other) {
-        Checked::Refused(r) => {
-            gate::clear_bytes(out);
-            Written::Refused(r)
-        }
-        Checked::Free => {
-            let mut rows = [0u8; 192];
-            sheet::letters::read_letters(names, &mut rows);
-            finish(a, table, &rows, out)
+    if table.len() < 128 {
+        return Checked::Refused(Refusal {
+            number: 1,
+            line: 0,
+            length: 0,
+        });
+    }
+    let mut successors = [0u16; 128];
+    match sheet::read_sheet(names, &mut successors, word, one, other) {
+        Read::Refused(r) => Checked::Refused(r),
+        Read::Is(b) => {
+            if b.k != a.k {
+                return Checked::Refused(Refusal {
+                    number: 4,
+                    line: 0,
+                    length: 0,
+                });
+            }
+            walks::check(a, table, word, one, other)
         }
     }
 }
 
-// A sheet as numbers written as a file, with the names of a sheet file: question 1, that file's questions 2 to 10, a differing k (4),
-// the questions 4, 7, 8 and 10 on the numbers, and last of all whether the output is long enough.
+// A sheet as numbers written as a file, with the names of a sheet file: the questions on both, and last of all whether the output is
+// long enough.
 pub fn write_numbers(
     a: Numbers,
     table: &[u16],
@@ -138,26 +147,8 @@ pub fn write_numbers(
     ensures { λ r. ⌜ WritesNumbers (automaton a (now (table .entry))) (now (names .entry)) (tables (now (word .entry)) (now (one .entry)) (now (other .entry)))
         (tables (now (word .exit)) (now (one .exit)) (now (other .exit))) (now (out .entry)) (now (out .exit)) r ⌝ }
 {
-    if table.len() < 128 {
-        return Written::Refused(Refusal {
-            number: 1,
-            line: 0,
-            length: 0,
-        });
-    }
-    let mut successors = [0u16; 128];
-    match sheet::read_sheet(names, &mut successors, word, one, other) {
-        Read::Refused(r) => refuse(r, out),
-        Read::Is(b) => {
-            if b.k != a.k {
-                let differ = Refusal {
-                    number: 4,
-                    line: 0,
-                    length: 0,
-                };
-                return refuse(differ, out);
-            }
-            complete(a, table, names, word, one, other, out)
-        }
+    match ask(a, table, names, word, one, other) {
+        Checked::Refused(r) => refuse(r, out),
+        Checked::Free => finish(a, table, names, out),
     }
 }

@@ -1,10 +1,7 @@
--- `writer::write` meets its contract: what reading answers is handed on, and the text has the names that the rows hold. Assumes nothing.
+-- `writer::write` meets its contract: what reading answers is handed on, and then the last question's answer. Assumes nothing.
 use mathlib.Core.Path.{refl}
-use native.Mathlib.Omega.{arith}
-use denote.Ref.{now}
 use lib.ListN.{replicate}
-use Rattle.automaton.specs.Lent.{tables}
-use Rattle.writer.specs.WriteLaws.{letters-hold, write-refused, write-asks, write-finishes}
+use Rattle.writer.specs.WriteLaws.{write-refused, write-asks, write-finishes}
 use borrow.Author.Needs.{needs}
 use Rattle.writer.proofs.write.Statement.{statement}
 use Rattle.writer.proofs.write.Tie as tie
@@ -24,30 +21,13 @@ refuse-requires c κs = search needs
 enum-known-a : tie.Need-enum-known-a
 enum-known-a c = search needs
 
-slice-aggregate-read-letters : tie.Need-slice-aggregate-read-letters
-slice-aggregate-read-letters c = search needs
-
-read-letters-requires : tie.Need-read-letters-requires
-read-letters-requires c κs = search needs
-
 slice-aggregate-finish : tie.Need-slice-aggregate-finish
 slice-aggregate-finish c = search needs
 
-slice-aggregate-finish-2 : tie.Need-slice-aggregate-finish-2
-slice-aggregate-finish-2 c = search needs
-
 finish-requires : tie.Need-finish-requires
 finish-requires c κs =
-    let a = c .before .before .before .before .before .before .before .before .before .before .before .before .before .before .before .before .before .before .before .before .before .before .before .before .before .before .args in
-    let read = c .before .before .before .before .before .before .before .before .before .before .before .before .before .before .before .before .read-sheet in
-    let v = tables (now (a .word)) (now (a .one)) (now (a .other)) in
-    let w = tables (read .last .1 .1 .0) (read .last .1 .1 .1 .0) (read .last .1 .1 .1 .1 .0) in
-    let letters = c .before .before .before .before .read-letters in
-    let rows = letters .last .1 .0 in
-    let r = c .before .before .before .before .before .before .before .a .given in
-    write-asks (now (a .sheet)) (replicate 128 0) (read .last .1 .0) v w (now (a .out)) refl (r .0 .0) rows (rw (r .1) at (read .ensures))
-    (letters-hold (now (a .sheet)) rows (letters .result) (letters .ensures))
-    (omega (arith, letters .kept .1 .0))
+    let told = c .before .before .before in
+    write-asks (replicate 128 0) refl (rw (told .a .given .1) at (told .before .before .before .before .before .before .before .before .before .read-sheet .ensures))
 
 same-length : tie.Need-same-length
 same-length c = search needs
@@ -63,14 +43,9 @@ same-length-4 c = search needs
 
 returns : tie.Need-returns
 returns c =
-    let a = c .before .before .before .before .before .before .before .before .before .before .before .before .before .before .before .before .before .before .before .before .before .before .before .before .args in
-    let read = c .before .before .before .before .before .before .before .before .before .before .before .before .before .before .read-sheet in
-    let v = tables (now (a .word)) (now (a .one)) (now (a .other)) in
-    let w = tables (read .last .1 .1 .0) (read .last .1 .1 .1 .0) (read .last .1 .1 .1 .1 .0) in
-    let r = c .before .before .before .before .before .r .given in
-    let end = c .before .before .refuse in
-    write-refused (now (a .sheet)) (replicate 128 0) (read .last .1 .0) v w (now (a .out)) refl (r .0 .0) (rw (r .1) at (read .ensures))
-    (end .last .1 .0) (end .result) (end .ensures)
+    let told = c .before .before .before .before .before in
+    write-refused (replicate 128 0) refl (rw (told .r .given .1) at (told .before .before .before .before .before .before .before .before .before .read-sheet .ensures))
+    (c .before .before .refuse .ensures)
 
 same-length-5 : tie.Need-same-length-5
 same-length-5 c = search needs
@@ -86,17 +61,9 @@ same-length-8 c = search needs
 
 returns-2 : tie.Need-returns-2
 returns-2 c =
-    let a = c .before .before .before .before .before .before .before .before .before .before .before .before .before .before .before .before .before .before .before .before .before .before .before .before .before .before .before .before .before .args in
-    let read = c .before .before .before .before .before .before .before .before .before .before .before .before .before .before .before .before .before .before .before .read-sheet in
-    let v = tables (now (a .word)) (now (a .one)) (now (a .other)) in
-    let w = tables (read .last .1 .1 .0) (read .last .1 .1 .1 .0) (read .last .1 .1 .1 .1 .0) in
-    let letters = c .before .before .before .before .before .before .before .read-letters in
-    let rows = letters .last .1 .0 in
-    let r = c .before .before .before .before .before .before .before .before .before .before .a .given in
-    let end = c .before .before .finish in
-    write-finishes (now (a .sheet)) (replicate 128 0) (read .last .1 .0) v w (now (a .out)) refl (r .0 .0) rows (rw (r .1) at (read .ensures))
-    (letters-hold (now (a .sheet)) rows (letters .result) (letters .ensures))
-    (end .last .1 .1 .1 .0) (end .result) (end .ensures)
+    let told = c .before .before .before .before .before .before in
+    write-finishes (replicate 128 0) refl (rw (told .a .given .1) at (told .before .before .before .before .before .before .before .before .before .read-sheet .ensures))
+    (c .before .before .finish .ensures)
 
 pub write-spec : {M : Type 1} → statement M
 write-spec =
@@ -107,10 +74,7 @@ write-spec =
     enum-known-r
     refuse-requires
     enum-known-a
-    slice-aggregate-read-letters
-    read-letters-requires
     slice-aggregate-finish
-    slice-aggregate-finish-2
     finish-requires
     same-length
     same-length-2

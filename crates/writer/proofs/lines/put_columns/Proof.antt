@@ -1,10 +1,9 @@
 -- `writer::lines::put_columns` meets its contract: the parts are stored one behind the other. Assumes nothing.
-use Prim.Native.Nat.{suc, _+_}
-use mathlib.Core.Path.{_≡_}
 use native.Mathlib.Omega.{arith}
 use borrow.Author.Needs.{needs}
 use lib.ListN.{length-set}
-use Rattle.text.specs.Column.{column}
+use denote.Ref.{now}
+use Rattle.writer.specs.LineLaws.{columns-stored}
 use Rattle.writer.proofs.lines.put_columns.Statement.{statement}
 use Rattle.writer.proofs.lines.put_columns.Tie as tie
 
@@ -43,14 +42,10 @@ same-length c =
     (omega (arith, c .before .before .put-column3 .kept .0, c .before .before .before .before .before .before .put-column2 .kept .0, simp length-set at (c .before .before .before .before .before .before .before .before .before .before .put-column .kept .0)))
 
 returns : tie.Need-returns
-unfolding column
 returns c =
-    let at = c .before .before .before .before .before .before .before .before .before .before .before .before .before .args .at in
-    let one : at + 1 ≡ suc at = omega arith in
-    let four : at + 4 ≡ suc (suc (suc (suc at))) = omega arith in
-    let seven : at + 7 ≡ suc (suc (suc (suc (suc (suc (suc at)))))) = omega arith in
-    let ten : at + 10 ≡ suc (suc (suc (suc (suc (suc (suc (suc (suc (suc at))))))))) = omega arith in
-    cc
+    let a = c .before .before .before .before .before .before .before .before .before .before .before .before .before .args in
+    rw (c .before .before .put-column3 .ensures, c .before .before .before .before .before .before .put-column2 .ensures, c .before .before .before .before .before .before .before .before .before .before .put-column .ensures)
+    (columns-stored (now (a .out)) (a .at) (a .letter) (a .a) (a .b) (a .c))
 
 pub put-columns-spec : {M : Type 1} → statement M
 put-columns-spec =

@@ -1,11 +1,9 @@
 -- `writer::lines::put_head` meets its contract: the parts are stored one behind the other. Assumes nothing.
-use Prim.Native.Nat.{suc, _+_}
-use mathlib.Core.Path.{_≡_}
 use native.Mathlib.Omega.{arith}
 use borrow.Author.Needs.{needs}
 use lib.ListN.{length-set}
-use Rattle.text.specs.Column.{column}
-use Rattle.format.specs.Format.{headLine}
+use denote.Ref.{now}
+use Rattle.writer.specs.LineLaws.{head-stored}
 use Rattle.writer.proofs.lines.put_head.Statement.{statement}
 use Rattle.writer.proofs.lines.put_head.Tie as tie
 
@@ -39,13 +37,10 @@ same-length c =
     (omega (arith, c .before .before .put-column2 .kept .0, c .before .before .before .before .before .before .put-column .kept .0, c .before .before .before .before .before .before .before .before .before .before .put-bytes .kept .0))
 
 returns : tie.Need-returns
-unfolding column headLine
 returns c =
-    let at = c .before .before .before .before .before .before .before .before .before .before .before .before .before .before .args .at in
-    let five : at + 5 ≡ suc (suc (suc (suc (suc at)))) = omega arith in
-    let eight : at + 8 ≡ suc (suc (suc (suc (suc (suc (suc (suc at))))))) = omega arith in
-    let eleven : at + 11 ≡ suc (suc (suc (suc (suc (suc (suc (suc (suc (suc (suc at)))))))))) = omega arith in
-    cc
+    let a = c .before .before .before .before .before .before .before .before .before .before .before .before .before .before .args in
+    rw (c .before .before .put-column2 .ensures, c .before .before .before .before .before .before .put-column .ensures, c .before .before .before .before .before .before .before .before .before .before .put-bytes .ensures)
+    (head-stored (now (a .out)) (a .at) (a .n) (a .k))
 
 pub put-head-spec : {M : Type 1} → statement M
 put-head-spec =

@@ -1,21 +1,20 @@
 -- `writer::transition_lines::count_transitions` meets its contract. The loop's invariant: what is counted and what is left make all transitions.
 -- Assumes nothing.
-use Prim.Native.Nat.{_+_, _-_, _≤_, _<_}
+use Prim.Native.Nat.{_+_, _-_}
 use mathlib.Core.Path.{_≡_, sym, ap, _∙_}
 use native.Mathlib.Omega.{arith}
 use native.Mathlib.Nat.{zero-add}
 use borrow.Author.Needs.{needs}
 use denote.Ref.{now}
 use lib.ListN.{length}
-use Rattle.writer.specs.Places.{places, transitionsFrom, At}
-use Rattle.writer.specs.PlacesLaws.{place-last, place-next}
+use Rattle.writer.specs.Places.{places, transitionsFrom, Stop}
+use Rattle.writer.specs.PlacesLaws.{count-next, count-last}
 use Rattle.writer.specs.LengthLaws.{transitionsOf-most}
 use Rattle.writer.proofs.transition_lines.count_transitions.Statement.{statement}
 use Rattle.writer.proofs.transition_lines.count_transitions.Tie as tie
 
 abbrev Inv-loop : tie.InvT-loop
-Inv-loop table count₀ i₀ count i =
-    (i ≤ places) × (i < places → At table i) × (count + length (transitionsFrom table i) ≡ length (transitionsFrom table 0))
+Inv-loop table count₀ i₀ count i = Stop table i × (count + length (transitionsFrom table i) ≡ length (transitionsFrom table 0))
 
 abbrev μ-loop : tie.MeasureT-loop
 μ-loop table count₀ i₀ count i = places - i
@@ -26,7 +25,7 @@ next-place-requires c κs = search needs
 loop-holds : tie.Need-loop-holds Inv-loop μ-loop
 loop-holds c =
     let first = c .next-place .ensures in
-    (first .most, first .there, zero-add _ ∙ sym (ap length (first .none-before)))
+    (first .stop, zero-add _ ∙ sym (ap length (first .none-before)))
 
 add-count : tie.Need-add-count Inv-loop μ-loop
 add-count c = omega (arith, transitionsOf-most (now (c .before .before .before .before .args .table)) places 0)
@@ -42,15 +41,13 @@ loop-less c = search needs
 
 loop-again : tie.Need-loop-again Inv-loop μ-loop
 loop-again c =
-    let l = c .before .before .loop in
     let first = c .next-place2 .ensures in
-    let next = ap length (place-next (now (c .before .before .before .before .before .args .table)) (l .i) (c .next-place2 .result) (omega arith) (l .inv .1 (omega arith)) first) in
-    (first .most, first .there, omega arith)
+    let next = count-next (c .before .before .loop .inv .0) (omega arith) first in
+    (first .stop, omega arith)
 
 returns : tie.Need-returns Inv-loop μ-loop
 returns c =
-    let l = c .before .loop in
-    let none = ap length (place-last (now (c .before .before .before .before .args .table)) (l .i) (omega arith)) in
+    let none = count-last (c .before .loop .inv .0) (omega arith) in
     omega arith
 
 pub count-transitions-spec : {M : Type 1} → statement M

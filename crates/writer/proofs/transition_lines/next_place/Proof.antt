@@ -48,7 +48,11 @@ contains-requires c κs = search needs
 returns : tie.Need-returns Inv-loop μ-loop
 returns c =
     let l = c .before .before .before .before .before .loop in
-    record { from = omega arith; most = omega arith; none-before = l .inv .2; there = λ _. eqb-true _ _ (sym (c .before .contains .ensures) ∙ c .if2 .taken) }
+    record {
+      from = omega arith;
+      stop = record { most = omega arith; there = λ _. eqb-true _ _ (sym (c .before .contains .ensures) ∙ c .if2 .taken) };
+      none-before = l .inv .2;
+    }
 
 add-i-2 : tie.Need-add-i-2 Inv-loop μ-loop
 add-i-2 c = search needs
@@ -66,7 +70,7 @@ loop-again-2 c =
 returns-2 : tie.Need-returns-2 Inv-loop μ-loop
 returns-2 c =
     let l = c .before .loop in
-    record { from = omega arith; most = omega arith; none-before = l .inv .2; there = λ h. absurd (omega arith) }
+    record { from = omega arith; stop = record { most = omega arith; there = λ h. absurd (omega arith) }; none-before = l .inv .2 }
 
 pub next-place-spec : {M : Type 1} → statement M
 next-place-spec =
