@@ -19,7 +19,7 @@ fn name_line(s: &[u8], at: usize, l: usize) -> Ending
     requires { ⌜ at < 2 ^ 30 ⌝ }
     ensures { λ r. ⌜ (r ≡ nameLineAt (now (s .entry)) at l) × nameFits (length (now (s .entry))) (at + 5) r ⌝ }
 {
-    if text::byte_at(s, at) != 78 {
+    if text::reader::opening(s, at) != 78 {
         return Ending::Bad;
     }
     let Number::Is(v) = text::number_at(s, at + 1) else {

@@ -14,7 +14,7 @@ fn state_line(s: &[u8], at: usize, q: usize) -> StateLine
     requires { ⌜ at < 2 ^ 30 ⌝ }
     ensures { λ r. ⌜ (r ≡ stateLineAt (now (s .entry)) at q) × FlagsFit r ⌝ }
 {
-    if text::byte_at(s, at) != 83 {
+    if text::reader::opening(s, at) != 83 {
         return StateLine::Bad;
     }
     if text::byte_at(s, at + 10) != 10 {

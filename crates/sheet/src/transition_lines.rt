@@ -96,7 +96,7 @@ pub fn read_transitions(
     let mut line = first;
     let mut at = start;
     let mut least = 0;
-    while text::byte_at(s, at) == 84 {
+    while text::reader::opening(s, at) == 84 {
         let TransitionLine::Is(from, letter, to) = transition_line(s, at, n, k, least) else {
             return Transitions::Refused(Refusal {
                 number: 8,

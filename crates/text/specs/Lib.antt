@@ -3,11 +3,9 @@ pub mod Column
 pub mod Bytes
 pub mod Number
 pub mod Word
-pub mod Line
 pub mod ChoiceLaws
 pub mod BytesLaws
 pub mod ColumnLaws
 pub mod WordLaws
 pub mod NumberLaws
-pub mod LineLaws
 pub mod SetsLaws

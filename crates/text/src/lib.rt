@@ -1,4 +1,4 @@
-// The bytes of the files: numbers in columns, fixed words, the ends of lines.
+// The bytes of the files: numbers in columns, fixed words.
 ghost use mathlib.Core.Path.{_≡_};
 ghost use Prim.Native.Nat.{_+_, _<_, _≤_, _^_};
 ghost use lib.ListN.{getD, length};
@@ -6,7 +6,6 @@ ghost use lib.Seq.{sets};
 ghost use Rattle.text.specs.Column.{digitByte, column};
 ghost use Rattle.text.specs.Number.{digitOf, numberOf, numberAt};
 ghost use Rattle.text.specs.Word.{startsAt};
-ghost use Rattle.text.specs.Line.{lineAt};
 
 pub mod reader; // reader.rt: a reader that carries a file and the next unread byte
 
@@ -14,14 +13,6 @@ pub mod reader; // reader.rt: a reader that carries a file and the next unread b
 pub enum Number {
     Is(usize),
     Bad,
-}
-
-// Where a line ends.
-pub enum Line {
-    // The position of its LF.
-    Ends(usize),
-    // No LF is left.
-    Open,
 }
 
 // The byte at a position, and 0 past the end.
@@ -93,20 +84,6 @@ pub fn starts_at(s: &[u8], at: usize, word: &[u8]) -> bool
         i += 1;
     }
     true
-}
-
-// Where the line that goes on at `at` ends.
-pub fn line_end(s: &[u8], at: usize) -> Line
-    ensures { λ r. ⌜ r ≡ lineAt (now (s .entry)) at ⌝ }
-{
-    let mut i = at;
-    while i < s.len() {
-        if s[i] == 10 {
-            return Line::Ends(i);
-        }
-        i += 1;
-    }
-    Line::Open
 }
 
 // 10 to the power w.

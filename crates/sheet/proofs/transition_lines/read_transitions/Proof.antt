@@ -25,7 +25,7 @@ abbrev μ-loop : tie.MeasureT-loop
 
 -- in a turn a T stands at the place, which so lies within the file
 a-T : (c : tie.Then1 Inv-loop μ-loop) → getD (now (c .before .before .before .before .before .args .s)) (c .before .before .loop .at) 0 ≡ 84
-a-T c = sym (c .before .byte-at .ensures) ∙ c .if1 .taken
+a-T c = sym (c .before .opening .ensures) ∙ c .if1 .taken
 
 inside : (c : tie.Then1 Inv-loop μ-loop) → c .before .before .loop .at < length (now (c .before .before .before .before .before .args .s))
 inside c = within (now (c .before .before .before .before .before .args .s)) (c .before .before .loop .at) (omega (arith, a-T c))
@@ -42,8 +42,8 @@ loop-holds c =
     let z : length (now (a .s)) + 1 + a .first - a .first ≡ length (now (a .s)) + 1 = omega arith in
     (omega arith, omega arith, omega arith, refl, refl, rw z)
 
-byte-at-requires : tie.Need-byte-at-requires Inv-loop μ-loop
-byte-at-requires c κs = search needs
+opening-requires : tie.Need-opening-requires Inv-loop μ-loop
+opening-requires c κs = search needs
 
 transition-line-requires : tie.Need-transition-line-requires Inv-loop μ-loop
 transition-line-requires c κs = omega (arith, inside c)
@@ -146,7 +146,7 @@ returns-2 c =
     let e =
     sym
     (transitions-end s (a .n) (a .k) (l .line) (l .at) (l .least) (take 128 (l .table)) f (length s + 1 + a .first - l .line) (omega arith)
-    (λ e. c .before .if1 .left (c .before .before .byte-at .ensures ∙ e))) ∙
+    (λ e. c .before .if1 .left (c .before .before .opening .ensures ∙ e))) ∙
     l .inv .5 in
     rw (← e)
     (end-fills s (l .line) (l .at) (take 128 (l .table)) (drop 128 (now (a .table))) (l .table) (c .end-line .result) (c .end-line .ensures)
@@ -159,7 +159,7 @@ read-transitions-spec =
     Inv-loop
     μ-loop
     loop-holds
-    byte-at-requires
+    opening-requires
     transition-line-requires
     enum-known-from
     enum-told
