@@ -2,8 +2,6 @@
 use Prim.Native.Nat.{ℕ, suc, _+_, _-_, _≤_, _<_}
 use mathlib.Core.Path.{_≡_, sym, _∙_, ap}
 use mathlib.Core.List.{List, [], _∷_, _++_}
-use mathlib.Core.Bool.{Bool, true, false}
-use lib.Dec.{eqb}
 use lib.ListN.{length, take, drop, set}
 use lib.Seq.{take-suc-set, drop-set-lt, drop-drop}
 use borrow.Author.Tests.{lt-ltb, le-ltb}
@@ -13,9 +11,6 @@ use Rattle.names.specs.Scan.{nameEndAt}
 use Rattle.names.specs.declared.Ending.the-variants as E
 use Rattle.gate.specs.Gate.{refusal}
 use Rattle.gate.specs.declared.Refusal.{Refusal}
-use Rattle.text.specs.Choice.{choose}
-use Rattle.text.specs.Word.{startsAt}
-use Rattle.format.specs.Format.{endLine}
 use Rattle.sheet.specs.declared.Place.{Place}
 use Rattle.sheet.specs.Parse.{Phase, refused, passed, andThen}
 use Rattle.sheet.specs.Rows.{Holds}
@@ -26,7 +21,9 @@ use Rattle.plan.specs.declared.Planned.{Planned}
 use Rattle.plan.specs.declared.Planned.the-variants as P
 use Rattle.plan.specs.Plan.{LengthsRight}
 use Rattle.plan.specs.Parse.{Lettered, lettered, letterFrom, letterLineAt, lettersAt, endAt, Contents, contents, afterHead}
-use Rattle.plan.specs.Answers.{headAnswer, LengthsFit, LettersRead, endAnswer, PlanRead}
+use Rattle.plan.specs.Answers.{headAnswer, LengthsFit, LettersRead, planned, PlanRead}
+use Rattle.sheet.specs.PhaseAnswers.{endAnswer}
+use Rattle.sheet.specs.EndLaws.{end-same}
 
 -- ONE LINE
 module _ (names : List (List ℕ)) (p : List ℕ) (at : ℕ) where
@@ -85,7 +82,7 @@ module _ (letters : List ℕ) (i l : ℕ) (h : i < length letters) where
   behind first e = drop-set-lt (i + 1) letters i l (omega arith) ∙ (sym (drop-drop 1 i letters) ∙ (ap (drop 1) e ∙ drop-drop 1 i first))
 
 -- the lengths of a plan that is read are those of its first line
-pub ends-fit : (z : Lengths) → LengthsRight (z .lead) (z .cycle) → (w : Phase (List ℕ)) → LengthsFit (endAnswer z w)
+pub ends-fit : (z : Lengths) → LengthsRight (z .lead) (z .cycle) → (w : Phase (List ℕ)) → LengthsFit (planned z (endAnswer w))
 ends-fit z h (refused number line) = tt
 ends-fit z h (passed letters) = h
 
@@ -107,22 +104,17 @@ module _ (names : List (List ℕ)) (p t u : List ℕ) where
     letters-refused (refused number line) r e = let f : r ≡ refusal number line = cc in ap P.Refused f
     letters-refused (passed y) r e = absurd (let g = e .0 in let o : _≡_ {A = ℕ} 0 1 = cc in omega arith)
 
-    -- the end does not depend on the letters
-    end-read : (y : Lettered) (r : Planned) → u ≡ y .letters ++ drop (z .lead + z .cycle) t → r ≡ endAnswer z (endAt p (lettered [] (y .at) (y .line)))
+    end-read : (y : Lettered) (r : Planned) → u ≡ y .letters ++ drop (z .lead + z .cycle) t → r ≡ planned z (endAnswer (endAt p (lettered [] (y .at) (y .line))))
         → PlanRead (andThen (endAt p y) (λ letters. passed (contents z letters))) t u r
     unfolding endAt
-    end-read y r buffer e = by (startsAt p (y .at) endLine) (eqb (length p) (y .at + 4)) e
-      where
-        by : (a c : Bool) → r ≡ endAnswer z (choose a (choose c (passed []) (refused 12 (y .line + 1))) (refused 12 (y .line)))
-            → PlanRead (andThen (choose a (choose c (passed (y .letters)) (refused 12 (y .line + 1))) (refused 12 (y .line))) (λ letters. passed (contents z letters))) t u r
-        by false c e = e
-        by true false e = e
-        by true true e = (e, buffer)
+    end-read y r buffer e =
+        end-same 12 p (y .line) (y .at) [] (y .letters)
+        (λ v w. r ≡ planned z (endAnswer v) → PlanRead (andThen w (λ letters. passed (contents z letters))) t u r) (λ n l e. e) (λ e. (e, buffer)) e
 
     pub letters-read : (w : Phase Lettered) (place : Place) (r : Planned) → LettersRead w (z .lead + z .cycle) t u (A.Are place)
-        → r ≡ endAnswer z (endAt p (lettered [] (place .at) (place .line))) → PlanRead (afterLetters w) t u r
+        → r ≡ planned z (endAnswer (endAt p (lettered [] (place .at) (place .line)))) → PlanRead (afterLetters w) t u r
     letters-read (refused number line) place r h e = absurd (let o : _≡_ {A = ℕ} 0 1 = cc in omega arith)
     letters-read (passed y) place r h e =
         let g = h .0 in
         let f : place ≡ record { at = y .at; line = y .line } = cc in
-        end-read y r (h .1) (e ∙ ap (λ (q : Place). endAnswer z (endAt p (lettered [] (q .at) (q .line)))) f)
+        end-read y r (h .1) (e ∙ ap (λ (q : Place). planned z (endAnswer (endAt p (lettered [] (q .at) (q .line))))) f)

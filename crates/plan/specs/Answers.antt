@@ -5,6 +5,8 @@ use mathlib.Core.List.{List, _++_}
 use lib.ListN.{drop}
 use Rattle.gate.specs.Gate.{refusal}
 use Rattle.sheet.specs.Parse.{Phase, refused, passed}
+use Rattle.sheet.specs.declared.End.{End}
+use Rattle.sheet.specs.declared.End.the-variants as E
 use Rattle.plan.specs.declared.Lengths.{Lengths}
 use Rattle.plan.specs.declared.LetterLine.{LetterLine}
 use Rattle.plan.specs.declared.LetterLine.the-variants as L
@@ -40,9 +42,10 @@ abbrev pub LettersRead : Phase Lettered → ℕ → List ℕ → List ℕ → Le
 LettersRead (refused number line) count t u r = r ≡ A.Refused (refusal number line)
 LettersRead (passed y) count t u r = (r ≡ A.Are (record { at = y .at; line = y .line })) × (u ≡ y .letters ++ drop count t)
 
-abbrev pub endAnswer : Lengths → Phase (List ℕ) → Planned
-endAnswer z (refused number line) = P.Refused (refusal number line)
-endAnswer z (passed letters) = P.Is z
+-- the answer of a plan of lengths z, by that of its last line
+abbrev pub planned : Lengths → End → Planned
+planned z (E.Refused r) = P.Refused r
+planned z E.Reached = P.Is z
 
 -- the answer of a plan, and the buffer
 abbrev pub PlanRead : Phase Contents → List ℕ → List ℕ → Planned → Type 0

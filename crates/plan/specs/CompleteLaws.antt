@@ -2,19 +2,16 @@
 -- reading is a plan's letters exactly if the file is that plan, and a refusal exactly if the file has that fault. Assumes nothing.
 use Prim.Native.Nat.{ℕ, suc, _+_, _-_, _<_}
 use mathlib.Core.Path.{_≡_, refl, sym, ap, subst, _∙_}
-use mathlib.Core.Bool.{Bool, true, false}
-use mathlib.Core.List.{List, [], _∷_, _++_, map}
-use lib.ListN.{length, take, drop, length-append, length-drop}
+use mathlib.Core.List.{List, [], _++_, map}
+use lib.ListN.{length, take, drop, length-append}
 use lib.Seq.{take-append-seam, drop-append-seam}
-use borrow.Author.Tests.{eq-eqb, ne-eqb}
 use native.Mathlib.Omega.{arith}
 use Rattle.text.specs.BytesLaws.{stretch-rest}
 use Rattle.text.specs.Column.{column}
-use Rattle.text.specs.Word.{startsAt}
-use Rattle.text.specs.WordLaws.{starts-word, starts-is}
 use Rattle.names.specs.Name.{compose}
 use Rattle.format.specs.Format.{Sheet, NamesRight, endLine}
 use Rattle.sheet.specs.Parse.{refused, passed, andThen}
+use Rattle.sheet.specs.EndLaws.{end-missing, end-behind, end-read}
 use Rattle.plan.specs.Plan.{planHead, nameLines, PlanIs, Above, Faulty}
 use Rattle.plan.specs.Parse.{lengths, lettered, lettersAt, endAt, contents, afterHead, planOf}
 use Rattle.plan.specs.HeadLaws.{head-right, head-range, head-form}
@@ -67,41 +64,20 @@ module _ (σ : Sheet) (all : length (σ .names) ≡ σ .k) (right : NamesRight [
     unfolding endAt
     no-end due f =
         let (behind, text, goes) = end-due due in
-        let s : startsAt p behind endLine ≡ false = by behind text (startsAt p behind endLine) refl in
-        goes ∙ simp s
-      where
-        by : (behind : ℕ) → drop behind p ≡ rest → (t : Bool) → startsAt p behind endLine ≡ t → t ≡ false
-        by behind text true e = absurd (f (drop (behind + 4) p) (sym text ∙ starts-is p behind endLine refl e))
-        by behind text false e = refl
+        goes ∙ simp (end-missing p behind 12 (2 + length names) (above .letters) (λ after e. f after (sym text ∙ e)))
 
-    -- END is there
-    module _ (after : List ℕ) (ends : rest ≡ endLine ++ after) where
-      end-there : (behind : ℕ) → drop behind p ≡ rest → (startsAt p behind endLine ≡ true) × (length p ≡ behind + 4 + length after)
-      end-there behind text =
-          let e : drop behind p ≡ endLine ++ after = text ∙ ends in
-          let d = length-drop behind p in
-          let l = ap length e in
-          (starts-word p behind endLine after e, omega arith)
+    not-last : (after : List ℕ) → rest ≡ endLine ++ after → length names ≡ lead + cycle → (after ≡ [] → ⊥) → planOf composed p ≡ refused 12 (3 + length names)
+    unfolding endAt
+    not-last after ends due some =
+        let (behind, text, goes) = end-due due in
+        let n : 2 + length names + 1 ≡ 3 + length names = omega arith in
+        goes ∙ simp (end-behind p behind 12 (2 + length names) (above .letters) after (text ∙ ends) some, n)
 
-      not-last : length names ≡ lead + cycle → (after ≡ [] → ⊥) → planOf composed p ≡ refused 12 (3 + length names)
-      unfolding endAt
-      not-last due some =
-          let (behind, text, goes) = end-due due in
-          let (s, l) = end-there behind text in
-          let n : 2 + length names + 1 ≡ 3 + length names = omega arith in
-          goes ∙ simp (s, ne-eqb (length p) (behind + 4) (λ e. more-behind after some (omega arith)), n)
-        where
-          more-behind : (r : List ℕ) → (r ≡ [] → ⊥) → length r ≡ 0 → ⊥
-          more-behind [] f e = f refl
-          more-behind (b ∷ r) f e = omega arith
-
-      is-last : length names ≡ lead + cycle → after ≡ [] → planOf composed p ≡ passed (contents (lengths lead cycle) (above .letters))
-      unfolding endAt
-      is-last due none =
-          let (behind, text, goes) = end-due due in
-          let (s, l) = end-there behind text in
-          let z = ap length none in
-          goes ∙ simp (s, eq-eqb (length p) (behind + 4) (omega arith))
+    is-last : rest ≡ endLine → length names ≡ lead + cycle → planOf composed p ≡ passed (contents (lengths lead cycle) (above .letters))
+    unfolding endAt
+    is-last ends due =
+        let (behind, text, goes) = end-due due in
+        goes ∙ simp (end-read p behind 12 (2 + length names) (above .letters) (text ∙ ends))
 
   -- A FAULT is the refusal
   pub fault-read : (p : List ℕ) (number line : ℕ) → Faulty σ p number line → planOf composed p ≡ refused number line
@@ -119,8 +95,8 @@ module _ (σ : Sheet) (all : length (σ .names) ≡ σ .k) (right : NamesRight [
   pub plan-read : (p lead cycle : List ℕ) → PlanIs σ p lead cycle → planOf composed p ≡ passed (contents (lengths (length lead) (length cycle)) (lead ++ cycle))
   plan-read p lead cycle h =
       is-last p (length lead) (length cycle) (h .names) endLine
-      (record { range = h .range; letters = lead ++ cycle; known = h .known; text = h .text }) [] refl
-      (sym (known-length σ (h .known)) ∙ length-append lead cycle) refl
+      (record { range = h .range; letters = lead ++ cycle; known = h .known; text = h .text }) refl
+      (sym (known-length σ (h .known)) ∙ length-append lead cycle)
 
   -- So a file has one fault, one plan, and not both
   pub one-fault : (p : List ℕ) (n l m k : ℕ) → Faulty σ p n l → Faulty σ p m k → (n ≡ m) × (l ≡ k)

@@ -2,16 +2,15 @@
 -- composed. That this is what Plan describes is a theorem. A byte past the end is 0, and 0 stands in no line.
 use Prim.Native.Nat.{ℕ, zero, suc, _+_}
 use mathlib.Core.List.{List, [], _∷_, _++_}
-use lib.ListN.{length, getD}
-use lib.Dec.{ltb, eqb}
+use lib.ListN.{length}
+use lib.Dec.{ltb}
 use Rattle.text.specs.Choice.{choose}
-use Rattle.text.specs.Bytes.{lf, stretch}
-use Rattle.text.specs.Number.{numberAt}
-use Rattle.text.specs.Word.{startsAt}
+use Rattle.text.specs.Bytes.{stretch}
 use Rattle.names.specs.Name.{compose}
 use Rattle.names.specs.Scan.{nameEndAt}
-use Rattle.format.specs.Format.{endLine}
-use Rattle.sheet.specs.Parse.{Phase, refused, passed, andThen, withNumber, withEnding, letterOf}
+use Rattle.text.specs.Pair.{firstLine}
+use Rattle.sheet.specs.Parse as S
+use Rattle.sheet.specs.Parse.{Phase, refused, passed, andThen, withEnding, letterOf}
 use Rattle.plan.specs.declared.Lengths.{Lengths}
 use Rattle.plan.specs.declared.LetterLine.{LetterLine}
 use Rattle.plan.specs.declared.LetterLine.the-variants as L
@@ -32,12 +31,7 @@ lengthsOf lead cycle =
 
 -- "Is each plan line of its form? No: 12.": PLAN, lead-in length, cycle length, LF
 unfoldable pub headOf : List ℕ → Phase Lengths
-headOf p =
-    choose (startsAt p 0 planWord)
-    (withNumber (numberAt p 4)
-    (λ lead. withNumber (numberAt p 7) (λ cycle. choose (eqb (getD p 10 0) lf) (lengthsOf lead cycle) (refused 12 1)) (refused 12 1))
-    (refused 12 1))
-    (refused 12 1)
+headOf p = firstLine p planWord lengthsOf (refused 12 1)
 
 -- THE NAME LINES
 
@@ -75,10 +69,7 @@ lettersAt names p line at letters (suc todo) =
 
 -- "`END`", "What follows `END` is a fault of the line after it: .. 12 in a plan."
 unfoldable pub endAt : List ℕ → Lettered → Phase (List ℕ)
-endAt p y =
-    choose (startsAt p (y .at) endLine)
-    (choose (eqb (length p) (y .at + 4)) (passed (y .letters)) (refused 12 (y .line + 1)))
-    (refused 12 (y .line))
+endAt p y = S.endAt 12 p (y .line) (y .at) (y .letters)
 
 -- THE WHOLE FILE
 

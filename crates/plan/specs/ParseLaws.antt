@@ -1,19 +1,13 @@
 -- A file read from the top is a plan file of Plan or has its fault: the phases, one after the other. Assumes nothing.
 use Prim.Native.Nat.{ℕ, suc, _+_, _-_, _≤_}
 use mathlib.Core.Path.{_≡_, refl, sym, ap, subst, _∙_}
-use mathlib.Core.Bool.{Bool, true, false}
-use mathlib.Core.List.{List, [], _++_, map, append-nil}
-use lib.ListN.{length, take, drop, length-take, length-drop, take-append-drop, drop-of-length-le}
-use lib.Dec.{eqb}
-use borrow.Author.Tests.{eqb-true, eqb-false}
+use mathlib.Core.List.{List, [], _++_, map}
+use lib.ListN.{length, take, drop, length-take, length-drop, take-append-drop}
 use native.Mathlib.Omega.{arith}
-use Rattle.text.specs.Choice.{choose}
-use Rattle.text.specs.ChoiceLaws.{true-is-not-false}
-use Rattle.text.specs.Word.{startsAt}
-use Rattle.text.specs.WordLaws.{starts-word, starts-is}
 use Rattle.names.specs.Name.{compose}
 use Rattle.format.specs.Format.{Sheet, endLine}
 use Rattle.sheet.specs.Parse.{Phase, refused, passed, andThen}
+use Rattle.sheet.specs.EndLaws.{end-outcome}
 use Rattle.plan.specs.declared.Lengths.{Lengths}
 use Rattle.plan.specs.Plan.{planHead, nameLines, mostPlan, LengthsRight, Known, none, more, PlanIs, Above, Faulty}
 use Rattle.plan.specs.Parse.{Lettered, lettersAt, endAt, Contents, contents, headOf, afterHead, planOf}
@@ -55,20 +49,8 @@ module _ (σ : Sheet) (p : List ℕ) (size : length p ≤ mostPlan) (z : Lengths
     above-end : Above σ p (z .lead) (z .cycle) (h .names) (drop (y .at) p)
     above-end = record { range = range; letters = h .letters; known = h .known; text = head ∙ rw (h .text) refl }
 
-    end-text : startsAt p (y .at) endLine ≡ true → drop (y .at) p ≡ endLine ++ drop (y .at + 4) p
-    end-text e = starts-is p (y .at) endLine refl e
-
-    at-end : startsAt p (y .at) endLine ≡ true → y .at + 4 ≤ length p
-    at-end e =
-        let l = length-drop (y .at) p in
-        let m = ap length (end-text e) in
-        omega arith
-
-    behind-end : startsAt p (y .at) endLine ≡ true → length p ≡ y .at + 4 → drop (y .at) p ≡ endLine
-    behind-end e l = end-text e ∙ (ap (λ (r : List ℕ). endLine ++ r) (drop-of-length-le p {i = y .at + 4} (omega arith)) ∙ append-nil endLine)
-
-    is-plan : startsAt p (y .at) endLine ≡ true → length p ≡ y .at + 4 → Means σ p (passed (contents z (y .letters)))
-    is-plan e l =
+    is-plan : drop (y .at) p ≡ endLine → Means σ p (passed (contents z (y .letters)))
+    is-plan e =
         let n : length (y .letters) ≡ z .lead + z .cycle = ap length (h .are) ∙ (known-length σ (h .known) ∙ h .count) in
         let a : length (take (z .lead) (y .letters)) ≡ z .lead = simp length-take (omega arith) in
         let b : length (drop (z .lead) (y .letters)) ≡ z .cycle = simp length-drop (omega arith) in (
@@ -78,27 +60,20 @@ module _ (σ : Sheet) (p : List ℕ) (size : length p ≤ mostPlan) (z : Lengths
             range = rw (a, b) range;
             names = h .names;
             known = subst (Known σ (h .names)) (sym (take-append-drop (z .lead) (y .letters) ∙ h .are)) (h .known);
-            text = rw (a, b) (head ∙ ap (λ (r : List ℕ). planHead (z .lead) (z .cycle) ++ r) (h .text ∙ ap (λ (r : List ℕ). nameLines (h .names) ++ r) (behind-end e l)));
+            text = rw (a, b) (head ∙ ap (λ (r : List ℕ). planHead (z .lead) (z .cycle) ++ r) (h .text ∙ ap (λ (r : List ℕ). nameLines (h .names) ++ r) e));
           },
         )
 
     end-means : Means σ p (andThen (endAt p y) (λ letters. passed (contents z letters)))
     unfolding endAt
-    end-means = by (startsAt p (y .at) endLine) (eqb (length p) (y .at + 4)) refl refl
-      where
-        by : (s t : Bool) → startsAt p (y .at) endLine ≡ s → eqb (length p) (y .at + 4) ≡ t
-            → Means σ p (andThen (choose s (choose t (passed (y .letters)) (refused 12 (y .line + 1))) (refused 12 (y .line))) (λ letters. passed (contents z letters)))
-        by false t e f =
-            subst (Faulty σ p 12) (sym (h .next))
-            (Faulty.end (z .lead) (z .cycle) (h .names) (drop (y .at) p) above-end (h .count)
-            (λ after g. true-is-not-false (sym (starts-word p (y .at) endLine after g) ∙ e)))
-        by true false e f =
-            let l : 3 + length (h .names) ≡ y .line + 1 = omega (arith, h .next) in
-            subst (Faulty σ p 12) l
-            (Faulty.behind (z .lead) (z .cycle) (h .names) (drop (y .at + 4) p)
-            (subst (Above σ p (z .lead) (z .cycle) (h .names)) (end-text e) above-end) (h .count)
-            (λ g. (let m = at-end e in let k = ap length g in let d = length-drop (y .at + 4) p in eqb-false (length p) (y .at + 4) f (omega arith))))
-        by true true e f = is-plan e (eqb-true (length p) (y .at + 4) f)
+    end-means =
+        end-outcome p (y .at) 12 (y .line) (y .letters) (λ w. Means σ p (andThen w (λ letters. passed (contents z letters))))
+        (λ none. subst (Faulty σ p 12) (sym (h .next)) (Faulty.end (z .lead) (z .cycle) (h .names) (drop (y .at) p) above-end (h .count) none))
+        (λ after e some.
+        (let l : 3 + length (h .names) ≡ y .line + 1 = omega (arith, h .next) in
+        subst (Faulty σ p 12) l
+        (Faulty.behind (z .lead) (z .cycle) (h .names) after (subst (Above σ p (z .lead) (z .cycle) (h .names)) e above-end) (h .count) some)))
+        is-plan
 
   letters-mean : (w : Phase Lettered) → LettersOutcome σ p 2 11 [] todo w → Means σ p (andThen w (λ y. andThen (endAt p y) (λ letters. passed (contents z letters))))
   letters-mean (refused number line) h = letters-refuse number line h

@@ -5,7 +5,7 @@ ghost use Rattle.plan.specs.Answers.{headAnswer, LengthsFit};
 use super::Lengths;
 use super::Planned;
 use gate::Refusal;
-use text::Number;
+use text::Pair;
 
 // The lengths, or else question 13.
 fn lengths(lead: usize, cycle: usize) -> Planned
@@ -40,14 +40,8 @@ pub fn read_head(p: &[u8]) -> Planned
     if !text::starts_at(p, 0, b"PLAN") {
         return Planned::Refused(bad);
     }
-    let Number::Is(lead) = text::number_at(p, 4) else {
-        return Planned::Refused(bad);
-    };
-    let Number::Is(cycle) = text::number_at(p, 7) else {
-        return Planned::Refused(bad);
-    };
-    if text::byte_at(p, 10) != 10 {
-        return Planned::Refused(bad);
+    match text::pair_at(p, 4) {
+        Pair::Are(lead, cycle) => lengths(lead, cycle),
+        Pair::Bad => Planned::Refused(bad),
     }
-    lengths(lead, cycle)
 }

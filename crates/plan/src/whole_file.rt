@@ -4,40 +4,28 @@ ghost use mathlib.Core.List.{[]};
 ghost use Prim.Native.Nat.{_<_, _≤_, _^_};
 ghost use lib.ListN.{length};
 ghost use Rattle.format.specs.Format.{Sheet};
+ghost use Rattle.sheet.specs.PhaseAnswers.{endAnswer};
 ghost use Rattle.plan.specs.Plan.{mostPlan};
 ghost use Rattle.plan.specs.Parse.{lettered, endAt};
-ghost use Rattle.plan.specs.Answers.{endAnswer, LengthsFit};
+ghost use Rattle.plan.specs.Answers.{planned, LengthsFit};
 ghost use Rattle.plan.specs.Read.{NamesIn, Reads};
 use super::Lengths;
 use super::Letters;
 use super::Planned;
 use super::first_line::read_head;
 use super::name_lines::read_letters;
-use gate::Refusal;
+use sheet::End;
 use sheet::Place;
 
-// The last line of a plan of lengths z: END, with nothing after it.
+// The last line of a plan of lengths z.
 fn end_line(p: &[u8], z: Lengths, place: Place) -> Planned
     requires { ⌜ (place .at < 2 ^ 30) × (place .line < 2 ^ 30) ⌝ }
-    ensures { λ r. ⌜ r ≡ endAnswer z (endAt (now (p .entry)) (lettered [] (place .at) (place .line))) ⌝ }
+    ensures { λ r. ⌜ r ≡ planned z (endAnswer (endAt (now (p .entry)) (lettered [] (place .at) (place .line)))) ⌝ }
 {
-    let at = place.at;
-    let line = place.line;
-    if !text::starts_at(p, at, b"END\n") {
-        return Planned::Refused(Refusal {
-            number: 12,
-            line,
-            length: 0,
-        });
+    match sheet::last_line::end_line(p, 12, place.line, place.at) {
+        End::Refused(r) => Planned::Refused(r),
+        End::Reached => Planned::Is(z),
     }
-    if p.len() != at + 4 {
-        return Planned::Refused(Refusal {
-            number: 12,
-            line: line + 1,
-            length: 0,
-        });
-    }
-    Planned::Is(z)
 }
 
 // The plan, over the letters whose composed names the first k rows hold; the row behind them is written.

@@ -21,7 +21,7 @@ use Rattle.sheet.specs.declared.Sizes.{Sizes}
 use Rattle.sheet.specs.declared.Sets.{Sets}
 use Rattle.sheet.specs.declared.File.the-variants as F
 use Rattle.sheet.specs.declared.States.the-variants as Q
-use Rattle.sheet.specs.declared.Transitions.the-variants as D
+use Rattle.sheet.specs.declared.End.the-variants as E
 
 -- A TABLE OF ZEROS: the 128 sets, and the rest
 module _ (t : List ℕ) (zeros : t ≡ cleared t) (long : 128 ≤ length t) where
@@ -60,13 +60,13 @@ module _ (p : Phase Sets) (next : Sets → Phase Contents) where
 module _ (z : Sizes) (y : Named) (q : Sets) where
   pub transitions-refuse :
       (p : Phase (List ℕ)) (t u rest v : List ℕ) (r : Refusal) →
-      Fills p rest v (D.Refused r) → u ≡ cleared t → NumbersRead (andThen p (λ table. passed (contents z y q table))) t u (F.Refused r)
+      Fills p rest v (E.Refused r) → u ≡ cleared t → NumbersRead (andThen p (λ table. passed (contents z y q table))) t u (F.Refused r)
   transitions-refuse (refused number line) t u rest v r e h = (cc, h)
   transitions-refuse (passed table) t u rest v r e h = absurd (let d = e .0 in let z : _≡_ {A = ℕ} 0 1 = cc in omega arith)
 
   pub transitions-pass :
       (p : Phase (List ℕ)) (t u rest : List ℕ) →
-      Fills p rest u D.Done → rest ≡ replicate (length t - 128) 0 →
+      Fills p rest u E.Reached → rest ≡ replicate (length t - 128) 0 →
       NumbersRead (andThen p (λ table. passed (contents z y q table))) t u
       (F.Is (record { n = z .n; k = z .k; initial = q .initial; recurring = q .recurring }))
   transitions-pass (refused number line) t u rest e h = absurd (let z : _≡_ {A = ℕ} 0 1 = cc in omega arith)

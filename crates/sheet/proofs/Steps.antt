@@ -2,16 +2,12 @@
 use Prim.Native.Nat.{ℕ, suc, _+_, _-_, _*_, _^_, _<_, _≤_}
 use mathlib.Core.Path.{_≡_, sym, _∙_, ap}
 use mathlib.Core.List.{List, [], _∷_, _++_}
-use mathlib.Core.Bool.{Bool, true, false}
-use lib.Dec.{eqb}
 use lib.ListN.{length, getD}
 use lib.Pow.{pow-add}
 use native.Mathlib.Nat.{one-mul, mul-le-mul-right}
 use native.Mathlib.Omega.{arith}
 use borrow.Author.Tests.{eq-eqb, ne-eqb}
-use Rattle.text.specs.Choice.{choose}
-use Rattle.text.specs.Word.{startsAt}
-use Rattle.format.specs.Format.{place, entered, endLine}
+use Rattle.format.specs.Format.{place, entered}
 use Rattle.sheet.specs.Parse.{refused, passed, stateLineAt, statesAt, transitionLineAt, transitionsAt, endAt, Span, span, nameLineAt, letterOf, namesAt}
 use Rattle.text.specs.Bytes.{stretch}
 use Rattle.names.specs.Name.{compose}
@@ -20,9 +16,10 @@ use Rattle.sheet.specs.Rows.{Holds}
 use Rattle.sheet.specs.Spelling.{lineBelow}
 use Rattle.names.specs.declared.Ending.the-variants as E
 use Rattle.sheet.specs.declared.StateLine.the-variants as S
-use Rattle.sheet.specs.PhaseAnswers.{transitionsAnswer, Fills}
+use Rattle.sheet.specs.PhaseAnswers.{endAnswer, Fills}
+use Rattle.sheet.specs.EndLaws.{end-same}
 use Rattle.sheet.specs.declared.TransitionLine.the-variants as T
-use Rattle.sheet.specs.declared.Transitions.{Transitions}
+use Rattle.sheet.specs.declared.End.{End}
 
 -- a flag times a number is at most the number
 pub flag-part : (a b : ℕ) → a ≤ 1 → a * b ≤ b
@@ -71,24 +68,15 @@ module _ (s : List ℕ) (n k line at least : ℕ) (table : List ℕ) (f g : ℕ)
   unfolding transitionsAt
   transitions-bad t e = rw h (simp (eq-eqb _ _ t, e))
 
-  pub transitions-end : (getD s at 0 ≡ 84 → ⊥) → transitionsAt s n k line at least table g ≡ endAt s line at table
+  pub transitions-end : (getD s at 0 ≡ 84 → ⊥) → transitionsAt s n k line at least table g ≡ endAt 9 s line at table
   unfolding transitionsAt
   transitions-end t = rw h (simp (ne-eqb _ _ t))
 
--- the answer of the last line does not depend on the table
 pub end-fills :
-    (s : List ℕ) (line at : ℕ) (t rest table : List ℕ) (r : Transitions) →
-    r ≡ transitionsAnswer (endAt s line at []) → table ≡ t ++ rest → Fills (endAt s line at t) rest table r
-unfolding endAt
-end-fills s line at t rest table r e same = cases (startsAt s at endLine) (eqb (length s) (at + 4)) e
-  where
-    cases :
-        (b c : Bool) →
-        r ≡ transitionsAnswer (choose b (choose c (passed []) (refused 9 (line + 1))) (refused 9 line)) →
-        Fills (choose b (choose c (passed t) (refused 9 (line + 1))) (refused 9 line)) rest table r
-    cases true true e = (e, same)
-    cases true false e = e
-    cases false c e = e
+    (s : List ℕ) (line at : ℕ) (t rest table : List ℕ) (r : End) →
+    r ≡ endAnswer (endAt 9 s line at []) → table ≡ t ++ rest → Fills (endAt 9 s line at t) rest table r
+end-fills s line at t rest table r e same =
+    end-same 9 s line at [] t (λ p q. r ≡ endAnswer p → Fills q rest table r) (λ n l e. e) (λ e. (e, same)) e
 
 -- the name lines as far as they are read: the next one is line `line`, stands at `at` and is of letter l
 pub record NamesSoFar (s : List ℕ) (k : ℕ) (rows : List ℕ) (line at l : ℕ) : Type 0 where

@@ -6,6 +6,7 @@ pub mod Spelling
 pub mod PhaseAnswers
 pub mod Answers
 pub mod FieldLaws
+pub mod EndLaws
 pub mod LetterLaws
 pub mod HeadLaws
 pub mod NameLaws

@@ -26,7 +26,7 @@ use Rattle.format.specs.FormatLaws.{name-length}
 use Rattle.sheet.specs.Parse.{Phase, refused, passed, withEnding, Span, span, Named, nameLineAt, letterOf, namesAt}
 use Rattle.text.specs.BytesLaws.{stretch-rest, stretch-is}
 use Rattle.sheet.specs.LetterLaws.{distinct-letter, letter-distinct}
-use Rattle.sheet.specs.FieldLaws.{test-true, some-number, byte-is, column-of}
+use Rattle.text.specs.PairLaws.{test-true, some-number, byte-is, column-of}
 
 -- ONE LINE
 

@@ -6,11 +6,10 @@ use mathlib.Core.Bool.{Bool, true, false}
 use lib.ListN.{length, getD, replicate}
 use lib.Dec.{ltb, eqb}
 use Rattle.text.specs.Choice.{choose}
-use Rattle.text.specs.Bytes.{lf, space, stretch}
-use Rattle.text.specs.Number.{numberAt}
+use Rattle.text.specs.Bytes.{space, stretch}
+use Rattle.text.specs.Number.{numberAt, withNumber}
+use Rattle.text.specs.Pair.{pairAt, withPair, firstLine}
 use Rattle.text.specs.Word.{startsAt}
-use Rattle.text.specs.declared.Number.{Number}
-use Rattle.text.specs.declared.Number.the-variants as N
 use Rattle.names.specs.Name.{compose}
 use Rattle.names.specs.Scan.{nameEndAt}
 use Rattle.names.specs.declared.Ending.{Ending}
@@ -33,11 +32,6 @@ abbrev pub andThen : {A B : Type 0} → Phase A → (A → Phase B) → Phase B
 andThen (refused number line) next = refused number line
 andThen (passed a) next = next a
 
--- what to do with a number that was read, and what where there is none
-abbrev pub withNumber : {A : Type 0} → Number → (ℕ → A) → A → A
-withNumber (N.Is v) go bad = go v
-withNumber N.Bad go bad = bad
-
 -- THE FIRST LINE
 
 -- "Are n and k in range? No: 4."
@@ -51,12 +45,7 @@ rangesOf n k =
 
 -- "Is the first sheet line of its form? No: 3.": SHEET, n, k, LF
 unfoldable pub headOf : List ℕ → Phase Sizes
-headOf s =
-    choose (startsAt s 0 sheetWord)
-    (withNumber (numberAt s 5)
-    (λ n. withNumber (numberAt s 8) (λ k. choose (eqb (getD s 11 0) lf) (rangesOf n k) (refused 3 1)) (refused 3 1))
-    (refused 3 1))
-    (refused 3 1)
+headOf s = firstLine s sheetWord rangesOf (refused 3 1)
 
 -- THE NAME LINES
 
@@ -121,15 +110,8 @@ namesAt s line at names spans (suc todo) =
 unfoldable pub stateLineAt : List ℕ → ℕ → ℕ → StateLine
 stateLineAt s at q =
     choose (eqb (getD s at 0) 83)
-    (choose (eqb (getD s (at + 10) 0) lf)
     (withNumber (numberAt s (at + 1))
-    (λ v. choose (eqb v q)
-    (withNumber (numberAt s (at + 4))
-    (λ i. choose (ltb 1 i) S.Bad
-    (withNumber (numberAt s (at + 7)) (λ r. choose (ltb 1 r) S.Bad (S.Is i r)) S.Bad))
-    S.Bad)
-    S.Bad)
-    S.Bad)
+    (λ v. choose (eqb v q) (withPair (pairAt s (at + 4)) (λ i r. choose (ltb 1 i) S.Bad (choose (ltb 1 r) S.Bad (S.Is i r))) S.Bad) S.Bad)
     S.Bad)
     S.Bad
 
@@ -162,28 +144,22 @@ transitionOf n k least from letter to =
 -- the line of a transition, behind its T
 unfoldable pub transitionLineAt : List ℕ → ℕ → ℕ → ℕ → ℕ → TransitionLine
 transitionLineAt s at n k least =
-    choose (eqb (getD s (at + 10) 0) lf)
-    (withNumber (numberAt s (at + 1))
-    (λ from. withNumber (numberAt s (at + 4))
-    (λ letter. withNumber (numberAt s (at + 7)) (λ to. transitionOf n k least from letter to) T.Bad)
-    T.Bad)
-    T.Bad)
-    T.Bad
+    withNumber (numberAt s (at + 1)) (λ from. withPair (pairAt s (at + 4)) (λ letter to. transitionOf n k least from letter to) T.Bad) T.Bad
 
 abbrev pub withTransition : {A : Type 0} → TransitionLine → (Transition → A) → A → A
 withTransition (T.Is from letter to) go bad = go (record { from = from; letter = letter; to = to })
 withTransition T.Bad go bad = bad
 
--- "Is `END` last? No: 9.", "What follows `END` is a fault of the line after it"
-unfoldable pub endAt : List ℕ → ℕ → ℕ → List ℕ → Phase (List ℕ)
-endAt s line at table =
-    choose (startsAt s at endLine) (choose (eqb (length s) (at + 4)) (passed table) (refused 9 (line + 1))) (refused 9 line)
+-- "Is `END` last? No: 9.", "What follows `END` is a fault of the line after it": `number` is 9 in a sheet and 12 in a plan
+unfoldable pub endAt : ℕ → List ℕ → ℕ → ℕ → List ℕ → Phase (List ℕ)
+endAt number s line at done =
+    choose (startsAt s at endLine) (choose (eqb (length s) (at + 4)) (passed done) (refused number (line + 1))) (refused number line)
 
 -- one line; `go` says what comes after a transition
 -- "a line beginning with T answers to question 8, any other to 9"
 abbrev pub transitionStep : List ℕ → ℕ → ℕ → ℕ → ℕ → ℕ → List ℕ → (Transition → Phase (List ℕ)) → Phase (List ℕ)
 transitionStep s n k line at least table go =
-    choose (eqb (getD s at 0) 84) (withTransition (transitionLineAt s at n k least) go (refused 8 line)) (endAt s line at table)
+    choose (eqb (getD s at 0) 84) (withTransition (transitionLineAt s at n k least) go (refused 8 line)) (endAt 9 s line at table)
 
 -- the transition lines and the end: the table of successor sets. `fuel` is more than there are lines
 unfoldable pub transitionsAt : List ℕ → ℕ → ℕ → ℕ → ℕ → ℕ → List ℕ → ℕ → Phase (List ℕ)

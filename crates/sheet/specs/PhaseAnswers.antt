@@ -20,8 +20,8 @@ use Rattle.sheet.specs.declared.States.{States}
 use Rattle.sheet.specs.declared.States.the-variants as Q
 use Rattle.sheet.specs.declared.TransitionLine.{TransitionLine}
 use Rattle.sheet.specs.declared.TransitionLine.the-variants as T
-use Rattle.sheet.specs.declared.Transitions.{Transitions}
-use Rattle.sheet.specs.declared.Transitions.the-variants as D
+use Rattle.sheet.specs.declared.End.{End}
+use Rattle.sheet.specs.declared.End.the-variants as E
 use Rattle.sheet.specs.Parse.{Phase, refused, passed, Named, Contents}
 use Rattle.sheet.specs.Rows.{Holds}
 use Rattle.format.specs.Format.{numbers}
@@ -61,14 +61,14 @@ abbrev pub TransitionFits : TransitionLine → Type 0
 TransitionFits (T.Is from letter to) = (from < 16) × (letter < 8) × (to < 16)
 TransitionFits T.Bad = Unit
 
-abbrev pub transitionsAnswer : Phase (List ℕ) → Transitions
-transitionsAnswer (refused number line) = D.Refused (refusal number line)
-transitionsAnswer (passed table) = D.Done
+abbrev pub endAnswer : Phase (List ℕ) → End
+endAnswer (refused number line) = E.Refused (refusal number line)
+endAnswer (passed done) = E.Reached
 
 -- the answer of the transition lines, and where they are read the table that they leave: their sets, and the rest as it was
-abbrev pub Fills : Phase (List ℕ) → List ℕ → List ℕ → Transitions → Type 0
-Fills (refused number line) rest table r = r ≡ D.Refused (refusal number line)
-Fills (passed t) rest table r = (r ≡ D.Done) × (table ≡ t ++ rest)
+abbrev pub Fills : Phase (List ℕ) → List ℕ → List ℕ → End → Type 0
+Fills (refused number line) rest table r = r ≡ E.Refused (refusal number line)
+Fills (passed t) rest table r = (r ≡ E.Reached) × (table ≡ t ++ rest)
 
 -- the numbers of a file's contents
 abbrev pub numbersOf : Contents → Numbers

@@ -8,20 +8,20 @@ use borrow.Author.Tests.{eq-eqb, eqb-true, le-ltb, ltb-false}
 use native.Mathlib.Omega.{arith}
 use native.Mathlib.Numerals.{add-one}
 use native.Mathlib.Nat.{zero-add, add-zero, suc-add}
-use Rattle.text.specs.Bytes.{lf}
 use Rattle.text.specs.Column.{column}
 use Rattle.text.specs.Number.{numberAt}
-use Rattle.text.specs.declared.Number.{Number}
 use Rattle.text.specs.declared.Number.the-variants as N
-use Rattle.text.specs.Choice.{choose}
 use Rattle.format.specs.Format.{State, stateLine, stateLines, FlagsRight, StatesRight, flagSet}
 use Rattle.format.specs.FormatLaws.{state-length}
 use Rattle.sheet.specs.declared.Sets.{Sets}
 use Rattle.sheet.specs.declared.StateLine.{StateLine}
 use Rattle.sheet.specs.declared.StateLine.the-variants as S
-use Rattle.sheet.specs.Parse.{Phase, refused, passed, withNumber, withFlags, stateLineAt, statesAt}
+use Rattle.sheet.specs.Parse.{Phase, refused, passed, withFlags, stateLineAt, statesAt}
 use Rattle.text.specs.BytesLaws.{stretch-rest}
-use Rattle.sheet.specs.FieldLaws.{test-true, test-false, some-number, Fields, fields-of, fields-is}
+use Rattle.text.specs.Pair.{pairAt}
+use Rattle.text.specs.PairLaws.{test-true, test-false, some-number, some-pair}
+use Rattle.text.specs.declared.Pair.the-variants as P
+use Rattle.sheet.specs.FieldLaws.{Fields, fields-of, fields-is}
 
 abbrev pub flags : ℕ → ℕ → State
 flags i r = record { initial = i; recurring = r }
@@ -31,48 +31,34 @@ flags i r = record { initial = i; recurring = r }
 bad-is-not : (i r : ℕ) → S.Bad ≡ S.Is i r → ⊥
 bad-is-not i r e = let z : _≡_ {A = ℕ} 0 1 = cc in omega arith
 
--- two numbers that are flags
-flags-are :
-    (v w : Number) (i r : ℕ) →
-    withNumber v (λ a. choose (ltb 1 a) S.Bad (withNumber w (λ b. choose (ltb 1 b) S.Bad (S.Is a b)) S.Bad)) S.Bad ≡ S.Is i r →
-    (v ≡ N.Is i) × (w ≡ N.Is r) × FlagsRight (flags i r)
-flags-are v w i r e =
-    let n = bad-is-not i r in
-    let e1 = some-number n v _ e in
-    let e2 = test-false n (ltb 1 (e1 .0)) _ (e1 .2) in
-    let e3 = some-number n w _ (e2 .1) in
-    let e4 = test-false n (ltb 1 (e3 .0)) (S.Is (e1 .0) (e3 .0)) (e3 .2) in
-    let f = e4 .1 in
-    let a : e1 .0 ≡ i = cc in
-    let b : e3 .0 ≡ r = cc in
-    let g = ltb-false 1 (e1 .0) (e2 .0) in
-    let h = ltb-false 1 (e3 .0) (e4 .0) in
-    (e1 .1 ∙ ap N.Is a, e3 .1 ∙ ap N.Is b, (omega arith, omega arith))
-
 module _ (s : List ℕ) (at q : ℕ) where
   pub state-line-of : (z : State) (rest : List ℕ) → q < 1000 → FlagsRight z → drop at s ≡ stateLine q z ++ rest → stateLineAt s at q ≡ S.Is (z .initial) (z .recurring)
   unfolding stateLineAt stateLine column
   state-line-of z rest hq h e =
       let f = fields-of s at 83 q (z .initial) (z .recurring) rest hq (omega arith) (omega arith) e in
-      simp (eq-eqb _ _ (f .first), eq-eqb _ _ (f .last), f .one, eq-eqb q q refl, f .two, le-ltb 1 _ (h .0), f .three, le-ltb 1 _ (h .1))
+      simp (eq-eqb _ _ (f .first), f .one, eq-eqb q q refl, f .two, le-ltb 1 _ (h .0), le-ltb 1 _ (h .1))
 
   pub state-line-is : (i r : ℕ) → stateLineAt s at q ≡ S.Is i r → FlagsRight (flags i r) × (drop at s ≡ stateLine q (flags i r) ++ drop (at + 11) s)
   unfolding stateLineAt stateLine column
   state-line-is i r e =
       let n = bad-is-not i r in
       let e1 = test-true n (eqb (getD s at 0) 83) _ e in
-      let e2 = test-true n (eqb (getD s (at + 10) 0) lf) _ (e1 .1) in
-      let e3 = some-number n (numberAt s (at + 1)) _ (e2 .1) in
-      let e4 = test-true n (eqb (e3 .0) q) _ (e3 .2) in
-      let g = flags-are (numberAt s (at + 4)) (numberAt s (at + 7)) i r (e4 .1) in
+      let e2 = some-number n (numberAt s (at + 1)) _ (e1 .1) in
+      let e3 = test-true n (eqb (e2 .0) q) _ (e2 .2) in
+      let e4 = some-pair n (pairAt s (at + 4)) _ (e3 .1) in
+      let e5 = test-false n (ltb 1 (e4 .0)) _ (e4 .3) in
+      let e6 = test-false n (ltb 1 (e4 .1)) (S.Is (e4 .0) (e4 .1)) (e5 .1) in
+      let same = e6 .1 in
+      let a : e4 .0 ≡ i = cc in
+      let b : e4 .1 ≡ r = cc in
+      let g = ltb-false 1 (e4 .0) (e5 .0) in
+      let h = ltb-false 1 (e4 .1) (e6 .0) in
       let f : Fields s at 83 q i r = record {
         first = eqb-true _ _ (e1 .0);
-        one = e3 .1 ∙ ap N.Is (eqb-true (e3 .0) q (e4 .0));
-        two = g .0;
-        three = g .1;
-        last = eqb-true _ _ (e2 .0);
+        one = e2 .1 ∙ ap N.Is (eqb-true (e2 .0) q (e3 .0));
+        two = e4 .2 ∙ rw (a, b);
       } in
-      (g .2, fields-is s at 83 q i r (omega arith) f)
+      ((omega arith, omega arith), fields-is s at 83 q i r (omega arith) f)
 
 -- THE PHASE, from state q on: the states of the lines that it read
 

@@ -1,22 +1,19 @@
 -- The transition lines and END: the phase that reads them passes or refuses as Format says, by induction along the lines.
 -- Fuel never runs out before the file does. Assumes nothing.
 use Prim.Native.Nat.{ℕ, zero, suc, _+_, _*_, _≤_}
-use mathlib.Core.Path.{_≡_, refl, sym, ap, _∙_}
+use mathlib.Core.Path.{_≡_, refl, sym, ap, subst, _∙_}
 use mathlib.Core.Bool.{Bool, true, false}
 use mathlib.Core.List.{List, [], _∷_, _++_, append-assoc}
-use lib.ListN.{length, getD, drop, length-append, length-drop, drop-of-length-le}
+use lib.ListN.{length, getD, drop, drop-of-length-le}
 use lib.Seq.{getD-drop}
 use lib.Dec.{eqb, ltb}
 use borrow.Author.Tests.{eq-eqb, ne-eqb, eqb-true, eqb-false, lt-ltb, le-ltb, ltb-true, ltb-false}
 use native.Mathlib.Omega.{arith}
+use native.Mathlib.Numerals.{add-one}
 use native.Mathlib.Nat.{zero-add, add-zero, suc-add}
-use Rattle.text.specs.Bytes.{lf}
 use Rattle.text.specs.Choice.{choose}
-use Rattle.text.specs.ChoiceLaws.{true-is-not-false}
 use Rattle.text.specs.Column.{column}
 use Rattle.text.specs.Number.{numberAt}
-use Rattle.text.specs.Word.{startsAt}
-use Rattle.text.specs.WordLaws.{starts-word, starts-is}
 use Rattle.text.specs.declared.Number.the-variants as N
 use Rattle.format.specs.Format.{Transition, transitionLine, transitionLines, endLine, place, TransitionRight, TransitionsRight, leastAfter, entered, tableOf}
 use Rattle.format.specs.FormatLaws.{transition-length}
@@ -25,7 +22,11 @@ use Rattle.sheet.specs.declared.TransitionLine.{TransitionLine}
 use Rattle.sheet.specs.declared.TransitionLine.the-variants as T
 use Rattle.sheet.specs.Parse.{Phase, refused, passed, withTransition, transitionOf, transitionLineAt, endAt, transitionsAt}
 use Rattle.text.specs.BytesLaws.{stretch-rest}
-use Rattle.sheet.specs.FieldLaws.{test-true, test-false, some-number, Fields, fields-of, fields-is}
+use Rattle.text.specs.Pair.{pairAt}
+use Rattle.text.specs.PairLaws.{test-true, test-false, some-number, some-pair}
+use Rattle.text.specs.declared.Pair.the-variants as P
+use Rattle.sheet.specs.FieldLaws.{Fields, fields-of, fields-is}
+use Rattle.sheet.specs.EndLaws.{end-outcome, end-read, end-missing, end-behind}
 
 -- ONE LINE
 
@@ -62,25 +63,17 @@ module _ (n k least : ℕ) where
     unfolding transitionLineAt transitionLine column
     transition-line-of t rest hn hk h e =
         let f = fields-of s at 84 (t .from) (t .letter) (t .to) rest (omega (arith, h .from)) (omega (arith, h .letter)) (omega (arith, h .to)) e in
-        (f .first, simp (eq-eqb _ _ (f .last), f .one, f .two, f .three) (right-of t h))
+        (f .first, simp (f .one, f .two) (right-of t h))
 
     pub transition-line-is : (f l t : ℕ) → getD s at 0 ≡ 84 → transitionLineAt s at n k least ≡ T.Is f l t →
         TransitionRight n k least (transition f l t) × (drop at s ≡ transitionLine (transition f l t) ++ drop (at + 11) s)
     unfolding transitionLineAt transitionLine column
     transition-line-is f l t first e =
         let no-bad = bad-is-not f l t in
-        let e1 = test-true no-bad (eqb (getD s (at + 10) 0) lf) _ e in
-        let e2 = some-number no-bad (numberAt s (at + 1)) _ (e1 .1) in
-        let e3 = some-number no-bad (numberAt s (at + 4)) _ (e2 .2) in
-        let e4 = some-number no-bad (numberAt s (at + 7)) _ (e3 .2) in
-        let h = right-is (e2 .0) (e3 .0) (e4 .0) f l t (e4 .2) in
-        let g : Fields s at 84 f l t = record {
-          first = first;
-          one = e2 .1 ∙ ap N.Is (h .1);
-          two = e3 .1 ∙ ap N.Is (h .2);
-          three = e4 .1 ∙ ap N.Is (h .3);
-          last = eqb-true _ _ (e1 .0);
-        } in
+        let e1 = some-number no-bad (numberAt s (at + 1)) _ e in
+        let e2 = some-pair no-bad (pairAt s (at + 4)) _ (e1 .2) in
+        let h = right-is (e1 .0) (e2 .0) (e2 .1) f l t (e2 .3) in
+        let g : Fields s at 84 f l t = record { first = first; one = e1 .1 ∙ ap N.Is (h .1); two = e2 .2 ∙ rw (h .2, h .3) } in
         (h .0, fields-is s at 84 f l t (omega arith) g)
 
 -- THE FAULTS where a transition or END is due: the rest of the file starts at line `line`
@@ -111,38 +104,19 @@ TransitionsOutcome s n k line at least table (passed p) = TransitionsPassed s n 
 first-byte : (s : List ℕ) (at : ℕ) → getD (drop at s) 0 0 ≡ getD s at 0
 first-byte s at = getD-drop at s 0 0 ∙ rw add-zero
 
--- END with something behind it is longer than END
-behind-some : (s : List ℕ) (at : ℕ) → drop at s ≡ endLine ++ drop (at + 4) s → (length s ≡ at + 4 → ⊥) → drop (at + 4) s ≡ [] → ⊥
-behind-some s at e h z =
-    let l : length (drop at s) ≡ 4 = rw z at (ap length e) in
-    h (omega (arith, length-drop at s))
-
 module _ (s : List ℕ) (n k line at least : ℕ) (table : List ℕ) where
   -- nothing of the phase is read yet
   at-once : {number at-line : ℕ} → EndFault n k least (drop at s) line number at-line → TransitionsRefused s n k line at least number at-line
   unfolding transitionLines
   at-once f = record { transitions = []; rest = drop at s; right = tt; text = refl; fault = rw add-zero f }
 
-  end-outcome : (getD s at 0 ≡ 84 → ⊥) → TransitionsOutcome s n k line at least table (endAt s line at table)
-  unfolding endAt transitionLines tableOf
-  end-outcome other = by (startsAt s at endLine) refl
-    where
-      last : (t : Bool) → eqb (length s) (at + 4) ≡ t → drop at s ≡ endLine ++ drop (at + 4) s →
-          TransitionsOutcome s n k line at least table (choose t (passed table) (refused 9 (line + 1)))
-      last true f e =
-          let l : length s ≡ at + 4 = eqb-true _ _ f in
-          let z : drop (at + 4) s ≡ [] = drop-of-length-le s {i = at + 4} (omega arith) in
-          record { transitions = []; right = tt; text = e ∙ rw z; filled = refl }
-      last false f e =
-          let l : line + 1 ≡ suc line = omega arith in
-          rw l (at-once (not-last (drop (at + 4) s) e (behind-some s at e (eqb-false _ _ f))))
-
-      by : (t : Bool) → startsAt s at endLine ≡ t →
-          TransitionsOutcome s n k line at least table (choose t (choose (eqb (length s) (at + 4)) (passed table) (refused 9 (line + 1))) (refused 9 line))
-      by true e = last (eqb (length s) (at + 4)) refl (starts-is s at endLine refl e)
-      by false e =
-          at-once (no-end (λ f. other (sym (first-byte s at) ∙ f))
-          (λ after f. true-is-not-false (sym (starts-word s at endLine after f) ∙ e)))
+  end-due : (getD s at 0 ≡ 84 → ⊥) → TransitionsOutcome s n k line at least table (endAt 9 s line at table)
+  unfolding transitionLines tableOf
+  end-due other =
+      end-outcome s at 9 line table (TransitionsOutcome s n k line at least table)
+      (λ none. at-once (no-end (λ f. other (sym (first-byte s at) ∙ f)) none))
+      (λ after e some. at-once (subst (EndFault n k least (drop at s) line 9) (sym (add-one line)) (not-last after e some)))
+      (λ e. record { transitions = []; right = tt; text = e; filled = refl })
 
 -- a line more in front
 transitions-step :
@@ -182,9 +156,9 @@ transitions-outcome s n k hn hk (suc fuel) line at least table h =
         (λ t after r f. bad-is-not (t .from) (t .letter) (t .to) (sym e ∙ transition-line-of n k least s at t after hn hk r f .1)))
 
     by : (b : Bool) → eqb (getD s at 0) 84 ≡ b → ((t : Transition) → Next t) →
-        TransitionsOutcome s n k line at least table (choose b (withTransition (transitionLineAt s at n k least) go (refused 8 line)) (endAt s line at table))
+        TransitionsOutcome s n k line at least table (choose b (withTransition (transitionLineAt s at n k least) go (refused 8 line)) (endAt 9 s line at table))
     by true e ih = line-by (eqb-true _ _ e) (transitionLineAt s at n k least) refl ih
-    by false e ih = end-outcome s n k line at least table (eqb-false _ _ e)
+    by false e ih = end-due s n k line at least table (eqb-false _ _ e)
 
 -- The other way round: along lines that are right the phase goes on, and it ends where they do
 
@@ -211,12 +185,8 @@ module _ (s : List ℕ) (n k fuel line at least : ℕ) (table : List ℕ) where
       omega arith
 
   pub transitions-end : drop at s ≡ endLine → transitionsAt s n k line at least table (suc fuel) ≡ passed table
-  unfolding transitionsAt endAt
-  transitions-end e =
-      let e1 : drop at s ≡ endLine ++ [] = e in
-      let l : length (drop at s) ≡ 4 = ap length e in
-      let l1 : length s ≡ at + 4 = omega (arith, length-drop at s) in
-      simp (ne-eqb _ _ (other-than-t [] e1), starts-word s at endLine [] e1, eq-eqb _ _ l1)
+  unfolding transitionsAt
+  transitions-end e = simp (ne-eqb _ _ (other-than-t [] e)) (end-read s at 9 line table e)
 
   transition-none : getD s at 0 ≡ 84 → ((t : Transition) (after : List ℕ) → TransitionRight n k least t → drop at s ≡ transitionLine t ++ after → ⊥) →
       transitionLineAt s at n k least ≡ T.Bad
@@ -226,26 +196,11 @@ module _ (s : List ℕ) (n k fuel line at least : ℕ) (table : List ℕ) where
       by (T.Is f l t) e = let g = transition-line-is n k least s at f l t first e in absurd (none (transition f l t) (drop (at + 11) s) (g .0) (g .1))
       by T.Bad e = refl
 
-  end-none : ((after : List ℕ) → drop at s ≡ endLine ++ after → ⊥) → startsAt s at endLine ≡ false
-  end-none none = by (startsAt s at endLine) refl
-    where
-      by : (b : Bool) → startsAt s at endLine ≡ b → b ≡ false
-      by true e = absurd (none (drop (at + 4) s) (starts-is s at endLine refl e))
-      by false e = refl
-
-  not-at-end : (after : List ℕ) → drop at s ≡ endLine ++ after → (after ≡ [] → ⊥) → length s ≡ at + 4 → ⊥
-  not-at-end after e some l =
-      let z : length (drop at s) ≡ 4 + length after = ap length e ∙ length-append endLine after in
-      some (drop-of-length-le after {i = 0} (omega (arith, length-drop at s)))
-
   pub transitions-fault : {number at-line : ℕ} → EndFault n k least (drop at s) line number at-line → transitionsAt s n k line at least table (suc fuel) ≡ refused number at-line
-  unfolding transitionsAt endAt
+  unfolding transitionsAt
   transitions-fault (wrong-transition first none) =
       let f : getD s at 0 ≡ 84 = sym (first-byte s at) ∙ first in
       simp (eq-eqb _ _ f, transition-none f none)
-  transitions-fault (no-end other none) =
-      let f : getD s at 0 ≡ 84 → ⊥ = λ g. other (first-byte s at ∙ g) in
-      simp (ne-eqb _ _ f, end-none none)
+  transitions-fault (no-end other none) = simp (ne-eqb _ _ (λ g. other (first-byte s at ∙ g))) (end-missing s at 9 line table none)
   transitions-fault (not-last after e some) =
-      let l : line + 1 ≡ suc line = omega arith in
-      simp (ne-eqb _ _ (other-than-t after e), starts-word s at endLine after e, ne-eqb _ _ (not-at-end after e some)) (ap (refused 9) l)
+      simp (ne-eqb _ _ (other-than-t after e)) (end-behind s at 9 line table after e some ∙ ap (refused 9) (add-one line))

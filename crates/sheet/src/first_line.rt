@@ -5,7 +5,7 @@ ghost use Rattle.sheet.specs.PhaseAnswers.{headAnswer, SizesFit};
 use super::Head;
 use super::Sizes;
 use gate::Refusal;
-use text::Number;
+use text::Pair;
 
 // n and k, or else question 4.
 fn ranges(n: usize, k: usize) -> Head
@@ -43,14 +43,8 @@ pub fn read_head(s: &[u8]) -> Head
     if !text::starts_at(s, 0, b"SHEET") {
         return Head::Refused(bad);
     }
-    let Number::Is(n) = text::number_at(s, 5) else {
-        return Head::Refused(bad);
-    };
-    let Number::Is(k) = text::number_at(s, 8) else {
-        return Head::Refused(bad);
-    };
-    if text::byte_at(s, 11) != 10 {
-        return Head::Refused(bad);
+    match text::pair_at(s, 5) {
+        Pair::Are(n, k) => ranges(n, k),
+        Pair::Bad => Head::Refused(bad),
     }
-    ranges(n, k)
 }

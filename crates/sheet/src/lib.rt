@@ -1,5 +1,6 @@
 // The sheet file: read, its names given and found.
 pub mod first_line;
+pub mod last_line;
 pub mod letters;
 pub mod name_lines;
 pub mod reading;
@@ -75,10 +76,10 @@ pub enum TransitionLine {
     Bad,
 }
 
-// The answer of the transition lines and the end.
-pub enum Transitions {
+// The answer of a file's last lines.
+pub enum End {
     Refused(Refusal),
-    Done,
+    Reached,
 }
 
 // The answer of a whole file on the questions 2 to 9.

@@ -8,6 +8,7 @@ use super::StateLine;
 use super::States;
 use gate::Refusal;
 use text::Number;
+use text::Pair;
 
 // The line of state q: its two flags, each 0 or 1.
 fn state_line(s: &[u8], at: usize, q: usize) -> StateLine
@@ -17,24 +18,18 @@ fn state_line(s: &[u8], at: usize, q: usize) -> StateLine
     if text::reader::opening(s, at) != 83 {
         return StateLine::Bad;
     }
-    if text::byte_at(s, at + 10) != 10 {
-        return StateLine::Bad;
-    }
     let Number::Is(v) = text::number_at(s, at + 1) else {
         return StateLine::Bad;
     };
     if v != q {
         return StateLine::Bad;
     }
-    let Number::Is(i) = text::number_at(s, at + 4) else {
+    let Pair::Are(i, r) = text::pair_at(s, at + 4) else {
         return StateLine::Bad;
     };
     if 1 < i {
         return StateLine::Bad;
     }
-    let Number::Is(r) = text::number_at(s, at + 7) else {
-        return StateLine::Bad;
-    };
     if 1 < r {
         return StateLine::Bad;
     }

@@ -2,14 +2,15 @@
 ghost use mathlib.Core.Path.{_≡_};
 ghost use Prim.Native.Nat.{_+_, _<_, _≤_, _^_};
 ghost use lib.ListN.{length, take, drop};
-ghost use mathlib.Core.List.{[]};
 ghost use Rattle.format.specs.Format.{most};
-ghost use Rattle.sheet.specs.Parse.{transitionOf, transitionLineAt, endAt, transitionsAt};
-ghost use Rattle.sheet.specs.PhaseAnswers.{TransitionFits, transitionsAnswer, Fills};
+ghost use Rattle.sheet.specs.Parse.{transitionOf, transitionLineAt, transitionsAt};
+ghost use Rattle.sheet.specs.PhaseAnswers.{TransitionFits, Fills};
+use super::End;
 use super::TransitionLine;
-use super::Transitions;
+use super::last_line::end_line;
 use gate::Refusal;
 use text::Number;
+use text::Pair;
 
 // The transition, if it is in range and not below the place `least`.
 fn transition_of(
@@ -43,41 +44,13 @@ fn transition_line(s: &[u8], at: usize, n: usize, k: usize, least: usize) -> Tra
     requires { ⌜ (at < 2 ^ 30) × (n ≤ 16) × (k ≤ 8) ⌝ }
     ensures { λ r. ⌜ (r ≡ transitionLineAt (now (s .entry)) at n k least) × TransitionFits r ⌝ }
 {
-    if text::byte_at(s, at + 10) != 10 {
-        return TransitionLine::Bad;
-    }
     let Number::Is(from) = text::number_at(s, at + 1) else {
         return TransitionLine::Bad;
     };
-    let Number::Is(letter) = text::number_at(s, at + 4) else {
-        return TransitionLine::Bad;
-    };
-    let Number::Is(to) = text::number_at(s, at + 7) else {
+    let Pair::Are(letter, to) = text::pair_at(s, at + 4) else {
         return TransitionLine::Bad;
     };
     transition_of(n, k, least, from, letter, to)
-}
-
-// The last line: END, with nothing after it.
-fn end_line(s: &[u8], line: usize, at: usize) -> Transitions
-    requires { ⌜ (line < 2 ^ 30) × (at < 2 ^ 30) ⌝ }
-    ensures { λ r. ⌜ r ≡ transitionsAnswer (endAt (now (s .entry)) line at []) ⌝ }
-{
-    if !text::starts_at(s, at, b"END\n") {
-        return Transitions::Refused(Refusal {
-            number: 9,
-            line,
-            length: 0,
-        });
-    }
-    if s.len() != at + 4 {
-        return Transitions::Refused(Refusal {
-            number: 9,
-            line: line + 1,
-            length: 0,
-        });
-    }
-    Transitions::Done
 }
 
 // The transition lines, the first of which is line `first` and stands at `start`, and the end. Each transition goes into its set.
@@ -88,7 +61,7 @@ pub fn read_transitions(
     first: usize,
     start: usize,
     table: &mut [u16],
-) -> Transitions
+) -> End
     requires { ⌜ (length (now s) ≤ most) × (first ≤ 26) × (start ≤ 500) × (n ≤ 16) × (k ≤ 8) × (128 ≤ length (now table)) ⌝ }
     ensures { λ r. ⌜ Fills (transitionsAt (now (s .entry)) n k first start 0 (take 128 (now (table .entry))) (length (now (s .entry)) + 1))
         (drop 128 (now (table .entry))) (now (table .exit)) r ⌝ }
@@ -98,7 +71,7 @@ pub fn read_transitions(
     let mut least = 0;
     while text::reader::opening(s, at) == 84 {
         let TransitionLine::Is(from, letter, to) = transition_line(s, at, n, k, least) else {
-            return Transitions::Refused(Refusal {
+            return End::Refused(Refusal {
                 number: 8,
                 line,
                 length: 0,
@@ -110,5 +83,5 @@ pub fn read_transitions(
         line += 1;
         at += 11;
     }
-    end_line(s, line, at)
+    end_line(s, 9, line, at)
 }

@@ -7,13 +7,13 @@ ghost use Rattle.automaton.specs.Automaton.{InRange};
 ghost use Rattle.format.specs.Format.{most};
 ghost use Rattle.sheet.specs.Parse.{Named, parse, afterNames};
 ghost use Rattle.sheet.specs.PhaseAnswers.{NumbersRead, FileRead};
+use super::End;
 use super::File;
 use super::Head;
 use super::Names;
 use super::Place;
 use super::Sizes;
 use super::States;
-use super::Transitions;
 use super::first_line::read_head;
 use super::name_lines::read_names;
 use super::state_lines::read_states;
@@ -33,11 +33,11 @@ fn read_numbers(s: &[u8], z: Sizes, place: Place, table: &mut [u16]) -> File
     match read_states(s, place.line, place.at, n) {
         States::Refused(r) => File::Refused(r),
         States::Are(q) => match read_transitions(s, n, k, q.line, q.at, table) {
-            Transitions::Refused(r) => {
+            End::Refused(r) => {
                 gate::clear(table);
                 File::Refused(r)
             }
-            Transitions::Done => File::Is(Numbers {
+            End::Reached => File::Is(Numbers {
                 n,
                 k,
                 initial: q.initial,

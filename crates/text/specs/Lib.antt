@@ -2,10 +2,12 @@ pub mod Choice
 pub mod Column
 pub mod Bytes
 pub mod Number
+pub mod Pair
 pub mod Word
 pub mod ChoiceLaws
 pub mod BytesLaws
 pub mod ColumnLaws
 pub mod WordLaws
 pub mod NumberLaws
+pub mod PairLaws
 pub mod SetsLaws

@@ -25,3 +25,8 @@ numberOf a b c =
 -- the number in the three columns from `at`; a byte past the end is 0, which stands in no column
 unfoldable pub numberAt : List ℕ → ℕ → Number
 numberAt s at = numberOf (getD s at 0) (getD s (at + 1) 0) (getD s (at + 2) 0)
+
+-- what to do with a number that was read, and what where there is none
+abbrev pub withNumber : {A : Type 0} → Number → (ℕ → A) → A → A
+withNumber (Is v) go bad = go v
+withNumber Bad go bad = bad

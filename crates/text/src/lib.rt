@@ -5,6 +5,7 @@ ghost use lib.ListN.{getD, length};
 ghost use lib.Seq.{sets};
 ghost use Rattle.text.specs.Column.{digitByte, column};
 ghost use Rattle.text.specs.Number.{digitOf, numberOf, numberAt};
+ghost use Rattle.text.specs.Pair.{pairAt};
 ghost use Rattle.text.specs.Word.{startsAt};
 
 pub mod reader; // reader.rt: a reader that carries a file and the next unread byte
@@ -12,6 +13,12 @@ pub mod reader; // reader.rt: a reader that carries a file and the next unread b
 // A number that was read, or none.
 pub enum Number {
     Is(usize),
+    Bad,
+}
+
+// Two numbers that were read, or none.
+pub enum Pair {
+    Are(usize, usize),
     Bad,
 }
 
@@ -69,6 +76,23 @@ pub fn number_at(s: &[u8], at: usize) -> Number
     ensures { λ r. ⌜ r ≡ numberAt (now (s .entry)) at ⌝ }
 {
     number_of(byte_at(s, at), byte_at(s, at + 1), byte_at(s, at + 2))
+}
+
+// The two numbers that a line ends with, in three columns each from `at`.
+pub fn pair_at(s: &[u8], at: usize) -> Pair
+    requires { ⌜ at + 6 < 2 ^ 31 ⌝ }
+    ensures { λ r. ⌜ r ≡ pairAt (now (s .entry)) at ⌝ }
+{
+    let Number::Is(a) = number_at(s, at) else {
+        return Pair::Bad;
+    };
+    let Number::Is(b) = number_at(s, at + 3) else {
+        return Pair::Bad;
+    };
+    if byte_at(s, at + 6) != 10 {
+        return Pair::Bad;
+    }
+    Pair::Are(a, b)
 }
 
 // Whether a word stands at `at`.

@@ -1,53 +1,26 @@
--- The tests in the order of the definition. Assumes nothing.
-use mathlib.Core.Path.{sym, _∙_}
-use borrow.Author.Tests.{eq-eqb, ne-eqb, not-true, not-false}
+-- The answer of the last line, as a plan's. Assumes nothing.
+use mathlib.Core.Path.{sym}
 use Rattle.plan.specs.Parse.{endAt}
 use borrow.Author.Needs.{needs}
 use Rattle.plan.proofs.whole_file.end_line.Statement.{statement}
 use Rattle.plan.proofs.whole_file.end_line.Tie as tie
 
-slice-aggregate-starts-at : tie.Need-slice-aggregate-starts-at
-slice-aggregate-starts-at c = search needs
+end-line-requires : tie.Need-end-line-requires
+end-line-requires c κs = search needs
 
-starts-at-requires : tie.Need-starts-at-requires
-starts-at-requires c κs = search needs
+enum-known-r : tie.Need-enum-known-r
+enum-known-r c = search needs
+
+enum-told : tie.Need-enum-told
+enum-told c = search needs
 
 returns : tie.Need-returns
 unfolding endAt
-returns c =
-    simp (
-    sym (c .before .starts-at .ensures) ∙ not-true _ (c .if1 .taken))
-
-add-if2 : tie.Need-add-if2
-add-if2 c = search needs
-
-add-t14 : tie.Need-add-t14
-add-t14 c = search needs
+returns c = simp (sym (c .before .before .before .end-line .ensures), c .before .r .given .1)
 
 returns-2 : tie.Need-returns-2
 unfolding endAt
-returns-2 c =
-    simp (
-      sym (c .before .before .starts-at .ensures) ∙ not-false _ (c .before .if1 .left),
-      ne-eqb _ _ (c .if2 .taken),
-    )
-
-returns-3 : tie.Need-returns-3
-unfolding endAt
-returns-3 c =
-    simp (
-      sym (c .before .before .starts-at .ensures) ∙ not-false _ (c .before .if1 .left),
-      eq-eqb _ _ (c .if2 .left),
-    )
+returns-2 c = simp (sym (c .before .before .end-line .ensures), c .enum-told .given .1)
 
 pub end-line-spec : {M : Type 1} → statement M
-end-line-spec =
-    tie.close
-    (tie.spec
-    slice-aggregate-starts-at
-    starts-at-requires
-    returns
-    add-if2
-    add-t14
-    returns-2
-    returns-3)
+end-line-spec = tie.close (tie.spec end-line-requires enum-known-r enum-told returns returns-2)

@@ -1,6 +1,6 @@
 -- Each answer is what the tests passed make of the definition. Assumes nothing.
 use mathlib.Core.Path.{sym, _∙_}
-use borrow.Author.Tests.{eq-eqb, ne-eqb, not-true, not-false}
+use borrow.Author.Tests.{not-true, not-false}
 use Rattle.sheet.specs.Parse.{headOf}
 use borrow.Author.Needs.{needs}
 use Rattle.sheet.proofs.first_line.read_head.Statement.{statement}
@@ -16,45 +16,40 @@ returns : tie.Need-returns
 unfolding headOf
 returns c = (simp (sym (c .before .starts-at .ensures) ∙ not-true _ (c .if1 .taken)), tt)
 
-number-at-requires : tie.Need-number-at-requires
-number-at-requires c κs = search needs
+pair-at-requires : tie.Need-pair-at-requires
+pair-at-requires c κs = search needs
 
 enum-known-n : tie.Need-enum-known-n
 enum-known-n c = search needs
+
+ranges-requires : tie.Need-ranges-requires
+ranges-requires c κs = search needs
 
 enum-told : tie.Need-enum-told
 enum-told c = search needs
 
 returns-2 : tie.Need-returns-2
 unfolding headOf
-returns-2 c = (simp (sym (c .before .before .before .before .starts-at .ensures) ∙ not-false _ (c .before .before .before .if1 .left), sym (c .before .before .number-at .ensures), c .enum-told .given .1), tt)
-
-number-at-requires-2 : tie.Need-number-at-requires-2
-number-at-requires-2 c κs = search needs
-
-enum-known-k : tie.Need-enum-known-k
-enum-known-k c = search needs
-
-enum-told-2 : tie.Need-enum-told-2
-enum-told-2 c = search needs
+returns-2 c = (
+  simp (
+    sym (c .before .before .before .before .before .before .starts-at .ensures) ∙ not-false _ (c .before .before .before .before .before .if1 .left),
+    sym (c .before .before .before .before .pair-at .ensures),
+    c .before .before .n .given .1,
+    sym (c .ranges .ensures .0),
+  ),
+  c .ranges .ensures .1,
+)
 
 returns-3 : tie.Need-returns-3
 unfolding headOf
-returns-3 c = (simp (sym (c .before .before .before .before .before .before .before .before .starts-at .ensures) ∙ not-false _ (c .before .before .before .before .before .before .before .if1 .left), sym (c .before .before .before .before .before .before .number-at .ensures), c .before .before .before .before .n .given .1, sym (c .before .before .number-at2 .ensures), c .enum-told2 .given .1), tt)
-
-byte-at-requires : tie.Need-byte-at-requires
-byte-at-requires c κs = search needs
-
-returns-4 : tie.Need-returns-4
-unfolding headOf
-returns-4 c = (simp (sym (c .before .before .before .before .before .before .before .before .before .before .before .starts-at .ensures) ∙ not-false _ (c .before .before .before .before .before .before .before .before .before .before .if1 .left), sym (c .before .before .before .before .before .before .before .before .before .number-at .ensures), c .before .before .before .before .before .before .before .n .given .1, sym (c .before .before .before .before .before .number-at2 .ensures), c .before .before .before .k .given .1, sym (c .before .byte-at .ensures), ne-eqb _ _ (c .if2 .taken)), tt)
-
-ranges-requires : tie.Need-ranges-requires
-ranges-requires c κs = search needs
-
-returns-5 : tie.Need-returns-5
-unfolding headOf
-returns-5 c = (simp (sym (c .before .before .before .before .before .before .before .before .before .before .before .before .starts-at .ensures) ∙ not-false _ (c .before .before .before .before .before .before .before .before .before .before .before .if1 .left), sym (c .before .before .before .before .before .before .before .before .before .before .number-at .ensures), c .before .before .before .before .before .before .before .before .n .given .1, sym (c .before .before .before .before .before .before .number-at2 .ensures), c .before .before .before .before .k .given .1, sym (c .before .before .byte-at .ensures), eq-eqb _ _ (c .before .if2 .left), sym (c .ranges .ensures .0)), c .ranges .ensures .1)
+returns-3 c = (
+  simp (
+    sym (c .before .before .before .before .starts-at .ensures) ∙ not-false _ (c .before .before .before .if1 .left),
+    sym (c .before .before .pair-at .ensures),
+    c .enum-told .given .1,
+  ),
+  tt,
+)
 
 pub read-head-spec : {M : Type 1} → statement M
 read-head-spec =
@@ -63,15 +58,9 @@ read-head-spec =
     slice-aggregate-starts-at
     starts-at-requires
     returns
-    number-at-requires
+    pair-at-requires
     enum-known-n
+    ranges-requires
     enum-told
     returns-2
-    number-at-requires-2
-    enum-known-k
-    enum-told-2
-    returns-3
-    byte-at-requires
-    returns-4
-    ranges-requires
-    returns-5)
+    returns-3)

@@ -6,7 +6,7 @@ use denote.Ref.{now}
 use lib.ListN.{length, take, drop, replicate}
 use Rattle.sheet.specs.Parse.{statesAt, transitionsAt, afterStates}
 use Rattle.sheet.specs.PhaseAnswers.{Fills}
-use Rattle.sheet.specs.declared.Transitions.the-variants as D
+use Rattle.sheet.specs.declared.End.the-variants as E
 use Rattle.sheet.proofs.FileLaws.{sets-zero, rest-zero, states-refuse, states-pass, transitions-refuse, transitions-pass}
 use borrow.Author.Needs.{needs}
 use Rattle.sheet.proofs.whole_file.read_numbers.Statement.{statement}
@@ -60,7 +60,7 @@ returns-2 c y here there =
     let f = c .before .before .before .before .before .before .before .before .before .read-transitions .ensures in
     let v = c .before .before .before .before .before .before .before .before .before .read-transitions .last .1 .1 .1 .1 .1 .0 in
     let r = c .before .before .before .before .before .r2 .given .0 .0 in
-    let w : Fills (transitionsAt s (a .z .n) (a .z .k) (q .line) (q .at) 0 (take 128 t) (length s + 1)) (drop 128 t) v (D.Refused r) =
+    let w : Fills (transitionsAt s (a .z .n) (a .z .k) (q .line) (q .at) 0 (take 128 t) (length s + 1)) (drop 128 t) v (E.Refused r) =
     rw (c .before .before .before .before .before .r2 .given .1) at f in
     let same : length v ≡ length t = c .before .before .before .before .before .before .before .before .before .read-transitions .kept .1 .1 .1 .1 .1 .0 in
     rw (there, here, e)
@@ -81,7 +81,7 @@ returns-3 c y here there =
     let e = states-pass p (afterStates s (a .z) y) q (sym (c .before .before .before .before .before .before .before .q .given .1) ∙ c .before .before .before .before .before .before .before .before .before .read-states .ensures .0) in
     let f = c .before .before .before .before .read-transitions .ensures in
     let v = c .before .before .before .before .read-transitions .last .1 .1 .1 .1 .1 .0 in
-    let w : Fills (transitionsAt s (a .z .n) (a .z .k) (q .line) (q .at) 0 (take 128 t) (length s + 1)) (drop 128 t) v D.Done =
+    let w : Fills (transitionsAt s (a .z .n) (a .z .k) (q .line) (q .at) 0 (take 128 t) (length s + 1)) (drop 128 t) v E.Reached =
     rw (c .enum-told .given .1) at f in
     rw (there, here, e)
     (transitions-pass (a .z) y q (transitionsAt s (a .z .n) (a .z .k) (q .line) (q .at) 0 (replicate 128 0) (length s + 1)) t v (drop 128 t)

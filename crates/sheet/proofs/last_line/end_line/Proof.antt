@@ -3,8 +3,8 @@ use mathlib.Core.Path.{sym, _∙_}
 use borrow.Author.Tests.{eq-eqb, ne-eqb, not-true, not-false}
 use Rattle.sheet.specs.Parse.{endAt}
 use borrow.Author.Needs.{needs}
-use Rattle.sheet.proofs.transition_lines.end_line.Statement.{statement}
-use Rattle.sheet.proofs.transition_lines.end_line.Tie as tie
+use Rattle.sheet.proofs.last_line.end_line.Statement.{statement}
+use Rattle.sheet.proofs.last_line.end_line.Tie as tie
 
 slice-aggregate-starts-at : tie.Need-slice-aggregate-starts-at
 slice-aggregate-starts-at c = search needs
@@ -19,8 +19,8 @@ returns c = simp (sym (c .before .starts-at .ensures) ∙ not-true _ (c .if1 .ta
 add-if2 : tie.Need-add-if2
 add-if2 c = search needs
 
-add-t12 : tie.Need-add-t12
-add-t12 c = search needs
+add-t13 : tie.Need-add-t13
+add-t13 c = search needs
 
 returns-2 : tie.Need-returns-2
 unfolding endAt
@@ -38,6 +38,6 @@ end-line-spec =
     starts-at-requires
     returns
     add-if2
-    add-t12
+    add-t13
     returns-2
     returns-3)
