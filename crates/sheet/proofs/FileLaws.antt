@@ -41,20 +41,15 @@ module _ (t : List ℕ) (zeros : t ≡ cleared t) (long : 128 ≤ length t) wher
       drop-at (replicate 128 0) (replicate (length t - 128) 0) 128 (length-replicate {A = ℕ} 128 0)
 
 -- THE STATE LINES
-module _ (p : Phase Sets) (next : Sets → Phase Contents) where
-  pub states-refuse : (t u : List ℕ) (r : Refusal) → Q.Refused r ≡ statesAnswer p → u ≡ cleared t → NumbersRead (andThen p next) t u (F.Refused r)
-  states-refuse t u r e h = cases p e
-    where
-      cases : (p : Phase Sets) → Q.Refused r ≡ statesAnswer p → NumbersRead (andThen p next) t u (F.Refused r)
-      cases (refused number line) e = (cc, h)
-      cases (passed q) e = absurd (let z : _≡_ {A = ℕ} 0 1 = cc in omega arith)
+pub states-refuse :
+    (p : Phase Sets) (next : Sets → Phase Contents) (t u : List ℕ) (r : Refusal) →
+    Q.Refused r ≡ statesAnswer p → u ≡ cleared t → NumbersRead (andThen p next) t u (F.Refused r)
+states-refuse (refused number line) next t u r e h = (cc, h)
+states-refuse (passed q) next t u r e h = absurd (let z : _≡_ {A = ℕ} 0 1 = cc in omega arith)
 
-  pub states-pass : (q : Sets) → Q.Are q ≡ statesAnswer p → andThen p next ≡ next q
-  states-pass q e = cases p e
-    where
-      cases : (p : Phase Sets) → Q.Are q ≡ statesAnswer p → andThen p next ≡ next q
-      cases (refused number line) e = absurd (let z : _≡_ {A = ℕ} 0 1 = cc in omega arith)
-      cases (passed q′) e = let g : q′ ≡ q = cc in ap next g
+pub states-pass : (p : Phase Sets) (next : Sets → Phase Contents) (q : Sets) → Q.Are q ≡ statesAnswer p → andThen p next ≡ next q
+states-pass (refused number line) next q e = absurd (let z : _≡_ {A = ℕ} 0 1 = cc in omega arith)
+states-pass (passed q′) next q e = let g : q′ ≡ q = cc in ap next g
 
 -- THE TRANSITION LINES, the last phase
 module _ (z : Sizes) (y : Named) (q : Sets) where
@@ -73,21 +68,15 @@ module _ (z : Sizes) (y : Named) (q : Sets) where
   transitions-pass (passed table) t u rest e h = (refl, e .1 ∙ ap (λ (x : List ℕ). table ++ x) h)
 
 -- THE FIRST LINE
-module _ (p : Phase Sizes) (next : Sizes → Phase Contents) where
-  pub head-refuse :
-      (t u rows : List ℕ) (r : Refusal) → H.Refused r ≡ headAnswer p → u ≡ cleared t → FileRead (andThen p next) t u rows (F.Refused r)
-  head-refuse t u rows r e h = cases p e
-    where
-      cases : (p : Phase Sizes) → H.Refused r ≡ headAnswer p → FileRead (andThen p next) t u rows (F.Refused r)
-      cases (refused number line) e = (cc, h)
-      cases (passed z) e = absurd (let z : _≡_ {A = ℕ} 0 1 = cc in omega arith)
+pub head-refuse :
+    (p : Phase Sizes) (next : Sizes → Phase Contents) (t u rows : List ℕ) (r : Refusal) →
+    H.Refused r ≡ headAnswer p → u ≡ cleared t → FileRead (andThen p next) t u rows (F.Refused r)
+head-refuse (refused number line) next t u rows r e h = (cc, h)
+head-refuse (passed z) next t u rows r e h = absurd (let z : _≡_ {A = ℕ} 0 1 = cc in omega arith)
 
-  pub head-pass : (z : Sizes) → H.Is z ≡ headAnswer p → andThen p next ≡ next z
-  head-pass z e = cases p e
-    where
-      cases : (p : Phase Sizes) → H.Is z ≡ headAnswer p → andThen p next ≡ next z
-      cases (refused number line) e = absurd (let z : _≡_ {A = ℕ} 0 1 = cc in omega arith)
-      cases (passed z′) e = let g : z′ ≡ z = cc in ap next g
+pub head-pass : (p : Phase Sizes) (next : Sizes → Phase Contents) (z : Sizes) → H.Is z ≡ headAnswer p → andThen p next ≡ next z
+head-pass (refused number line) next z e = absurd (let z : _≡_ {A = ℕ} 0 1 = cc in omega arith)
+head-pass (passed z′) next z e = let g : z′ ≡ z = cc in ap next g
 
 -- THE NAME LINES
 pub names-refuse :

@@ -20,7 +20,7 @@ use Rattle.sheet.specs.SpellingLaws.{spelling-is}
 pub whole-stretch : (x : List ℕ) → stretch x 0 (length x) ≡ x
 whole-stretch x = rw sub-zero (take-length x)
 
-module _ (s rows : List ℕ) (a : Numbers) (h : LettersOf s rows a) where
+module _ {s rows : List ℕ} {a : Numbers} (h : LettersOf s rows a) where
   pub letters-are : a .k ≡ h .sheet .k
   unfolding numbers
   letters-are = h .are .k

@@ -1,8 +1,9 @@
 -- One step of each definition that a loop goes along. Assumes nothing.
 use Prim.Native.Nat.{ℕ, suc, _+_, _-_, _*_, _^_, _<_, _≤_}
-use mathlib.Core.Path.{_≡_, sym, _∙_, ap}
+use mathlib.Core.Path.{_≡_, sym, _∙_, ap, subst}
 use mathlib.Core.List.{List, [], _∷_, _++_}
-use lib.ListN.{length, getD}
+use lib.ListN.{length, getD, length-append}
+use lib.Seq.{sets}
 use lib.Pow.{pow-add}
 use native.Mathlib.Nat.{one-mul, mul-le-mul-right}
 use native.Mathlib.Omega.{arith}
@@ -12,7 +13,11 @@ use Rattle.sheet.specs.Parse.{refused, passed, stateLineAt, statesAt, tr
 use Rattle.text.specs.Bytes.{stretch}
 use Rattle.names.specs.Name.{compose}
 use Rattle.names.specs.Scan.{nameEndAt}
-use Rattle.sheet.specs.Rows.{Holds}
+use Rattle.names.specs.Row.{padded}
+use Rattle.names.specs.NameLaws.{composed-name}
+use Rattle.sheet.specs.Rows.{Holds, FirstLike}
+use Rattle.sheet.specs.RowsLaws.{letter-is, holds-more, name-found}
+use Rattle.sheet.specs.NameLaws.{name-line-is}
 use Rattle.sheet.specs.Spelling.{lineBelow}
 use Rattle.names.specs.declared.Ending.the-variants as E
 use Rattle.sheet.specs.declared.StateLine.the-variants as S
@@ -86,38 +91,47 @@ pub record NamesSoFar (s : List ℕ) (k : ℕ) (rows : List ℕ) (line at l : �
   pub goes : namesAt s line at names spans (k - l) ≡ namesAt s 2 12 [] [] k
   pub holds : Holds names rows
 
--- THE NAME LINES: those of `names` are read, of k
-module _ (s : List ℕ) (line at l : ℕ) (names : List (List ℕ)) (spans : List Span) (k : ℕ) (n : length names ≡ l) (h : l < k) where
-  pub names-bad : nameLineAt s at l ≡ E.Bad → namesAt s line at names spans (k - l) ≡ refused 5 line
+-- THE NAME LINES: l of k are read
+module _ {s : List ℕ} {k : ℕ} {rows : List ℕ} {line at l : ℕ} (z : NamesSoFar s k rows line at l) where
+  pub names-bad : l < k → nameLineAt s at l ≡ E.Bad → namesAt s 2 12 [] [] k ≡ refused 5 line
   unfolding namesAt
-  names-bad b =
+  names-bad h b =
       let m : k - l ≡ suc (k - (l + 1)) = omega arith in
-      rw m (simp (n, b))
+      sym (z .goes) ∙ rw m (simp (z .count, b))
 
-  module _ (e : ℕ) (b : nameLineAt s at l ≡ E.At e) where
-    pub names-twice :
-        (letterOf names (compose (stretch s (at + 5) e)) ≡ l → ⊥) → namesAt s line at names spans (k - l) ≡ refused 6 line
-    unfolding namesAt
-    names-twice d =
-        let m : k - l ≡ suc (k - (l + 1)) = omega arith in
-        rw m (simp (n, b, ne-eqb _ _ d))
+  pub names-done : k ≤ l → namesAt s 2 12 [] [] k ≡ passed (record { names = z .names; spans = z .spans; at = at; line = line })
+  unfolding namesAt
+  names-done h =
+      let m : k - l ≡ 0 = omega arith in
+      sym (z .goes) ∙ rw m
 
-    pub names-good :
-        letterOf names (compose (stretch s (at + 5) e)) ≡ l →
-        namesAt s line at names spans (k - l) ≡
-        namesAt s (line + 1) (e + 1) (names ++ (compose (stretch s (at + 5) e) ∷ [])) (spans ++ (span (at + 5) e ∷ [])) (k - (l + 1))
-    unfolding namesAt
-    names-good d =
-        let m : k - l ≡ suc (k - (l + 1)) = omega arith in
-        rw m (simp (n, b, eq-eqb _ _ d))
+-- a name stands in the row behind those before it, and row r is the first that is like it
+pub record NameRead (s : List ℕ) (k : ℕ) (rows : List ℕ) (line l e r : ℕ) : Type 0 where
+  pub twice : (r ≡ l → ⊥) → namesAt s 2 12 [] [] k ≡ refused 6 line
+  pub more : r ≡ l → NamesSoFar s k rows (line + 1) (e + 1) (l + 1)
 
-pub names-done :
-    (s : List ℕ) (line at l : ℕ) (names : List (List ℕ)) (spans : List Span) (k : ℕ) → k ≤ l →
-    namesAt s line at names spans (k - l) ≡ passed (record { names = names; spans = spans; at = at; line = line })
+pub name-read :
+    {s : List ℕ} {k : ℕ} {rows v : List ℕ} {line at l e r : ℕ} →
+    NamesSoFar s k rows line at l → l < k → nameLineAt s at l ≡ E.At e → 24 * l + 24 ≤ length rows →
+    v ≡ sets rows (24 * l) (padded (compose (stretch s (at + 5) e))) → FirstLike v l r → NameRead s k v line l e r
 unfolding namesAt
-names-done s line at l names spans k h =
-    let m : k - l ≡ 0 = omega arith in
-    rw m
+name-read {s} {k} {rows} {v} {line} {at} {l} {e} {r} z h b fits stored like =
+    let x = compose (stretch s (at + 5) e) in
+    let name = composed-name (stretch s (at + 5) e) (name-line-is s at l e b .is-name) in
+    let letter : letterOf (z .names) x ≡ r =
+    letter-is (z .names) x r
+    (name-found (z .names) rows l x (z .count) fits (z .holds) name r (subst (λ (v : List ℕ). FirstLike v l r) stored like)) in
+    let m : k - l ≡ suc (k - (l + 1)) = omega arith in
+    record {
+      twice = λ d. sym (z .goes) ∙ rw m (simp (z .count, b, ne-eqb _ _ (λ i. d (sym letter ∙ i))));
+      more = λ d. record {
+        names = z .names ++ (x ∷ []);
+        spans = z .spans ++ (span (at + 5) e ∷ []);
+        count = simp length-append (omega (arith, z .count));
+        goes = sym (rw m (simp (z .count, b, eq-eqb _ _ (letter ∙ d)))) ∙ z .goes;
+        holds = subst (λ (v : List ℕ). Holds (z .names ++ (x ∷ [])) v) (sym stored) (holds-more (z .names) rows l x (z .count) fits (z .holds) name);
+      };
+    }
 
 -- A NAME LINE found again: `left` lines are to be passed
 module _ (s : List ℕ) (at left : ℕ) where

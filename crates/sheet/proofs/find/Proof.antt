@@ -23,6 +23,13 @@ letters c = rw (c .before .a .given .1) at (c .before .before .before .before .r
 is-one : (c : tie.Else1) → IsName (now (c .before .before .before .before .before .before .before .before .before .before .args .name))
 is-one c = c .before .is-name .ensures .0 (not-false _ (c .if1 .left))
 
+-- the rows were searched for it
+first : (c : tie.After-letter-of) → FirstName (map compose (letters (c .before .before .before .before) .sheet .names)) (compose (now (c .before .before .before .before .before .before .before .before .before .before .before .before .args .name))) (c .letter-of .result)
+first c =
+    let h = letters (c .before .before .before .before) in
+    let whole = whole-stretch (now (c .before .before .before .before .before .before .before .before .before .before .before .before .args .name)) in
+    rw whole at (c .letter-of .ensures (map compose (h .sheet .names)) (h .all) (h .holds) (rw whole (is-one (c .before .before))) .0)
+
 slice-aggregate-read-letters : tie.Need-slice-aggregate-read-letters
 slice-aggregate-read-letters c = search needs
 
@@ -40,13 +47,11 @@ is-name-requires c κs = search needs
 
 returns : tie.Need-returns
 returns c =
-    let a = c .before .before .before .before .before .before .before .before .before .before .args in
     let h = letters (c .before .before) in
     inr (
       h .sheet,
       h .file,
-      no-name (now (a .sheet)) (c .before .before .before .before .before .before .read-letters .last .1 .0) (c .before .before .before .a .given .0 .0) h (now (a .name))
-          (λ is. true-is-not-false (sym (c .before .is-name .ensures .1 is) ∙ not-true _ (c .if1 .taken))),
+      no-name h (now (c .before .before .before .before .before .before .before .before .before .before .args .name)) (λ is. true-is-not-false (sym (c .before .is-name .ensures .1 is) ∙ not-true _ (c .if1 .taken))),
       refl,
     )
 
@@ -66,32 +71,16 @@ returns-2 c = inl (rw (c .before .r .given .1) at (c .before .before .before .be
 
 returns-3 : tie.Need-returns-3
 returns-3 c =
-    let a = c .before .before .before .before .before .before .before .before .before .before .before .before .before .before .args in
-    let name = now (a .name) in
     let h = letters (c .before .before .before .before .before .before) in
-    let is = is-one (c .before .before .before .before) in
-    let whole = whole-stretch name in
-    let r = c .before .before .letter-of .result in
-    let f : FirstName (map compose (h .sheet .names)) (compose name) r =
-    rw whole at
-    (c .before .before .letter-of .ensures (map compose (h .sheet .names)) (h .all) (h .holds) (rw whole is) .0) in
-    (h .sheet, h .file, letter-found (now (a .sheet)) (c .before .before .before .before .before .before .before .before .before .before .read-letters .last .1 .0) (c .before .before .before .before .before .before .before .a .given .0 .0) h name is r f (c .if2 .taken))
+    (h .sheet, h .file, letter-found h (now (c .before .before .before .before .before .before .before .before .before .before .before .before .before .before .args .name)) (is-one (c .before .before .before .before)) (c .before .before .letter-of .result) (first (c .before .before)) (c .if2 .taken))
 
 returns-4 : tie.Need-returns-4
 returns-4 c =
-    let a = c .before .before .before .before .before .before .before .before .before .before .before .before .before .before .args in
-    let name = now (a .name) in
     let h = letters (c .before .before .before .before .before .before) in
-    let is = is-one (c .before .before .before .before) in
-    let whole = whole-stretch name in
-    let r = c .before .before .letter-of .result in
-    let f : FirstName (map compose (h .sheet .names)) (compose name) r =
-    rw whole at
-    (c .before .before .letter-of .ensures (map compose (h .sheet .names)) (h .all) (h .holds) (rw whole is) .0) in
     inr (
       h .sheet,
       h .file,
-      letter-nowhere (now (a .sheet)) (c .before .before .before .before .before .before .before .before .before .before .read-letters .last .1 .0) (c .before .before .before .before .before .before .before .a .given .0 .0) h name is r f (c .if2 .left),
+      letter-nowhere h (now (c .before .before .before .before .before .before .before .before .before .before .before .before .before .before .args .name)) (is-one (c .before .before .before .before)) (c .before .before .letter-of .result) (first (c .before .before)) (c .if2 .left),
       refl,
     )
 

@@ -44,17 +44,11 @@ returns c =
 returns-2 : tie.Need-returns-2
 returns-2 c =
     let a = c .before .before .before .before .before .before .before .before .before .before .args in
-    let z = c .before .before .before .before .before .before .before .read-letters in
-    let s = now (a .sheet) in
-    subst (λ (x : List ℕ). NameIs s (a .letter) x) (sym (c .spelled .ensures))
-    (name-given s (z .last .1 .0) (c .before .before .before .before .a .given .0 .0) (letters (c .before .before .before)) (a .letter) (c .before .if1 .taken))
+    subst (λ (x : List ℕ). NameIs (now (a .sheet)) (a .letter) x) (sym (c .spelled .ensures))
+    (name-given (letters (c .before .before .before)) (a .letter) (c .before .if1 .taken))
 
 returns-3 : tie.Need-returns-3
-returns-3 c =
-    let a = c .before .before .before .before .before .before .before .before .before .before .args in
-    let z = c .before .before .before .before .before .before .before .read-letters in
-    NameIs.nothing 14 0
-    (no-letter (now (a .sheet)) (z .last .1 .0) (c .before .before .before .before .a .given .0 .0) (letters (c .before .before .before)) (a .letter) (c .before .if1 .left)) refl
+returns-3 c = NameIs.nothing 14 0 (no-letter (letters (c .before .before .before)) (c .before .before .before .before .before .before .before .before .before .before .args .letter) (c .before .if1 .left)) refl
 
 pub name-spec : {M : Type 1} → statement M
 name-spec =

@@ -32,16 +32,12 @@ returns c =
 
 returns-2 : tie.Need-returns-2
 returns-2 c =
-    let a = c .before .before .before .before .before .before .before .before .before .args in
     let h = letters (c .before .before) in
-    let k = letters-are (now (a .sheet)) (c .before .before .before .before .before .before .read-letters .last .1 .0) (c .before .before .before .a .given .0 .0) h in
+    let k = letters-are h in
     NumberIs.named (h .sheet) (h .file) (omega arith) refl
 
 returns-3 : tie.Need-returns-3
-returns-3 c =
-    let a = c .before .before .before .before .before .before .before .before .before .args in
-    NumberIs.refused 14 0
-    (no-letter (now (a .sheet)) (c .before .before .before .before .before .before .read-letters .last .1 .0) (c .before .before .before .a .given .0 .0) (letters (c .before .before)) (a .letter) (c .if1 .left)) refl
+returns-3 c = NumberIs.refused 14 0 (no-letter (letters (c .before .before)) (c .before .before .before .before .before .before .before .before .before .args .letter) (c .if1 .left)) refl
 
 pub name-number-spec : {M : Type 1} → statement M
 name-number-spec =

@@ -1,23 +1,15 @@
 -- The loop's invariant: what is left of the definition, from the place and the names reached, is the whole of it; the rows hold these names.
 -- Assumes nothing.
-use Prim.Native.Nat.{ℕ, _+_, _-_, _*_, _≤_, _<_}
-use mathlib.Core.Path.{_≡_, refl, sym, _∙_, subst}
-use mathlib.Core.List.{List, [], _∷_, _++_}
+use Prim.Native.Nat.{_+_, _-_, _*_, _≤_, _<_}
+use mathlib.Core.Path.{_≡_, refl, sym, _∙_}
+use mathlib.Core.List.{[]}
 use native.Mathlib.Omega.{arith}
 use native.Mathlib.Nat.{sub-zero}
 use denote.Ref.{now}
-use lib.ListN.{length, length-append}
-use lib.Seq.{sets}
-use Rattle.text.specs.Bytes.{stretch}
-use Rattle.names.specs.Name.{compose}
-use Rattle.names.specs.Row.{padded}
-use Rattle.names.specs.NameLaws.{composed-name}
+use lib.ListN.{length}
 use Rattle.names.specs.declared.Ending.the-variants as E
-use Rattle.sheet.specs.Parse.{span, nameLineAt, letterOf}
-use Rattle.sheet.specs.Rows.{Holds, FirstLike}
-use Rattle.sheet.specs.RowsLaws.{letter-is, holds-more, name-found}
-use Rattle.sheet.specs.NameLaws.{name-line-is}
-use Rattle.sheet.proofs.Steps.{NamesSoFar, names-bad, names-twice, names-good, names-done}
+use Rattle.sheet.specs.Parse.{nameLineAt}
+use Rattle.sheet.proofs.Steps.{NamesSoFar, names-bad, names-done, NameRead, name-read}
 use borrow.Author.Needs.{needs}
 use Rattle.sheet.proofs.name_lines.read_names.Statement.{statement}
 use Rattle.sheet.proofs.name_lines.read_names.Tie as tie
@@ -44,6 +36,16 @@ inside :
     (start < end) × (end ≤ start + 24) × (end < length (now (c .before .before .before .before .before .before .before .before .args .s)))
 inside c = rw (c .before .e .given .1) at (c .before .before .before .name-line .ensures .1)
 
+-- the name is in its row
+read :
+    (c : tie.After-first-like Inv-loop μ-loop) →
+    let l = c .before .before .before .before .before .before .before .before .before .before .before .loop in
+    let a = c .before .before .before .before .before .before .before .before .before .before .before .before .before .before .args in
+    NameRead (now (a .s)) (a .k) (c .before .before .before .before .compose-into .last .1 .1 .1 .0) (l .line) (l .l) (c .before .before .before .before .before .before .before .e .given .0 .0) (c .first-like .result)
+read c =
+    name-read (c .before .before .before .before .before .before .before .before .before .before .before .loop .inv .4) (omega arith) (ends (c .before .before .before .before .before .before)) (omega arith)
+    (c .before .before .before .before .compose-into .ensures .0) (c .first-like .ensures)
+
 loop-holds : tie.Need-loop-holds Inv-loop μ-loop
 loop-holds c = (
   omega arith,
@@ -68,14 +70,7 @@ same-length c = c .before .before .before .before .loop .inv .3
 returns : tie.Need-returns Inv-loop μ-loop
 returns c =
     let l = c .before .before .before .before .loop in
-    let a = c .before .before .before .before .before .before .before .args in
-    let z = l .inv .4 in
-    let e =
-    sym
-    (names-bad (now (a .s)) (l .line) (l .at) (l .l) (z .names) (z .spans) (a .k) (z .count) (omega arith)
-    (sym (c .before .before .name-line .ensures .0) ∙ c .enum-told .given .1)) ∙
-    z .goes in
-    rw (← e) refl
+    rw (names-bad (l .inv .4) (omega arith) (sym (c .before .before .name-line .ensures .0) ∙ c .enum-told .given .1)) refl
 
 add-compose-into : tie.Need-add-compose-into Inv-loop μ-loop
 add-compose-into c = omega arith
@@ -97,29 +92,7 @@ same-length-2 : tie.Need-same-length-2 Inv-loop μ-loop
 same-length-2 c = c .before .before .before .before .before .compose-into .kept .1 .1 .1 .0 ∙ c .before .before .before .before .before .before .before .before .before .before .before .before .loop .inv .3
 
 returns-2 : tie.Need-returns-2 Inv-loop μ-loop
-returns-2 c =
-    let l = c .before .before .before .before .before .before .before .before .before .before .before .before .loop in
-    let a = c .before .before .before .before .before .before .before .before .before .before .before .before .before .before .before .args in
-    let s = now (a .s) in
-    let z = l .inv .4 in
-    let w = inside (c .before .before .before .before .before .before .before) in
-    let k = c .before .before .before .before .before .before .before .before .e .given .0 .0 in
-    let x = compose (stretch s (l .at + 5) k) in
-    let line = ends (c .before .before .before .before .before .before .before) in
-    let name = composed-name (stretch s (l .at + 5) k) (name-line-is s (l .at) (l .l) k line .is-name) in
-    let fits : 24 * l .l + 24 ≤ length (l .rows) = omega arith in
-    let v = c .before .before .before .before .before .compose-into .last .1 .1 .1 .0 in
-    let stored : v ≡ sets (l .rows) (24 * l .l) (padded x) = c .before .before .before .before .before .compose-into .ensures .0 in
-    let r = c .before .first-like .result in
-    let letter : letterOf (z .names) x ≡ r =
-    letter-is (z .names) x r
-    (name-found (z .names) (l .rows) (l .l) x (z .count) fits (z .holds) name r
-    (subst (λ (v : List ℕ). FirstLike v (l .l) r) stored (c .before .first-like .ensures))) in
-    let e =
-    sym
-    (names-twice s (l .line) (l .at) (l .l) (z .names) (z .spans) (a .k) (z .count) (omega arith) k line (λ d. c .if1 .taken (sym letter ∙ d))) ∙
-    z .goes in
-    rw (← e) refl
+returns-2 c = rw (read (c .before) .twice (c .if1 .taken)) refl
 
 add-line : tie.Need-add-line Inv-loop μ-loop
 add-line c = omega arith
@@ -136,35 +109,12 @@ loop-less c = omega arith
 loop-again : tie.Need-loop-again Inv-loop μ-loop
 loop-again c =
     let l = c .before .before .before .before .before .before .before .before .before .before .before .before .loop in
-    let a = c .before .before .before .before .before .before .before .before .before .before .before .before .before .before .before .args in
-    let s = now (a .s) in
-    let z = l .inv .4 in
-    let w = inside (c .before .before .before .before .before .before .before) in
-    let k = c .before .before .before .before .before .before .before .before .e .given .0 .0 in
-    let x = compose (stretch s (l .at + 5) k) in
-    let line = ends (c .before .before .before .before .before .before .before) in
-    let name = composed-name (stretch s (l .at + 5) k) (name-line-is s (l .at) (l .l) k line .is-name) in
-    let fits : 24 * l .l + 24 ≤ length (l .rows) = omega arith in
-    let v = c .before .before .before .before .before .compose-into .last .1 .1 .1 .0 in
-    let stored : v ≡ sets (l .rows) (24 * l .l) (padded x) = c .before .before .before .before .before .compose-into .ensures .0 in
-    let r = c .before .first-like .result in
-    let letter : letterOf (z .names) x ≡ r =
-    letter-is (z .names) x r
-    (name-found (z .names) (l .rows) (l .l) x (z .count) fits (z .holds) name r
-    (subst (λ (v : List ℕ). FirstLike v (l .l) r) stored (c .before .first-like .ensures))) in (
+    let w = inside (c .before .before .before .before .before .before .before) in (
       omega arith,
       omega arith,
       omega arith,
       c .before .before .before .before .before .compose-into .kept .1 .1 .1 .0 ∙ l .inv .3,
-      record {
-        names = z .names ++ (x ∷ []);
-        spans = z .spans ++ (span (l .at + 5) k ∷ []);
-        count = simp length-append (omega (arith, z .count));
-        goes =
-            sym (names-good s (l .line) (l .at) (l .l) (z .names) (z .spans) (a .k) (z .count) (omega arith) k line (letter ∙ c .if1 .left)) ∙ z .goes;
-        holds =
-            subst (λ (v : List ℕ). Holds (z .names ++ (x ∷ [])) v) (sym stored) (holds-more (z .names) (l .rows) (l .l) x (z .count) fits (z .holds) name);
-      },
+      read (c .before) .more (c .if1 .left),
     )
 
 same-length-3 : tie.Need-same-length-3 Inv-loop μ-loop
@@ -173,10 +123,8 @@ same-length-3 c = c .before .loop .inv .3
 returns-3 : tie.Need-returns-3 Inv-loop μ-loop
 returns-3 c =
     let l = c .before .loop in
-    let a = c .before .before .before .before .args in
     let z = l .inv .4 in
-    let e = sym (names-done (now (a .s)) (l .line) (l .at) (l .l) (z .names) (z .spans) (a .k) (omega arith)) ∙ z .goes in
-    rw (← e) (refl, omega arith, omega arith, omega (arith, z .count), z .holds)
+    rw (names-done z (omega arith)) (refl, omega arith, omega arith, omega (arith, z .count), z .holds)
 
 pub read-names-spec : {M : Type 1} → statement M
 read-names-spec =
