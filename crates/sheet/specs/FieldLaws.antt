@@ -6,10 +6,10 @@ use lib.ListN.{getD, drop}
 use native.Mathlib.Omega.{arith}
 use Rattle.text.specs.Column.{column}
 use Rattle.text.specs.Number.{numberAt}
-use Rattle.text.specs.NumberLaws.{number-is}
+use Rattle.text.specs.NumberLaws.{column-of, number-is}
 use Rattle.text.specs.Pair.{pairAt}
-use Rattle.text.specs.PairLaws.{byte-is, column-of, twoNumbers, pair-of, pair-is}
-use Rattle.text.specs.WordLaws.{goes-on}
+use Rattle.text.specs.PairLaws.{twoNumbers, pair-of, pair-is}
+use Rattle.text.specs.WordLaws.{byte-is, goes-on}
 use Rattle.text.specs.declared.Number.the-variants as N
 use Rattle.text.specs.declared.Pair.the-variants as P
 

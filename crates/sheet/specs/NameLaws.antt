@@ -26,7 +26,9 @@ use Rattle.format.specs.FormatLaws.{name-length}
 use Rattle.sheet.specs.Parse.{Phase, refused, passed, withEnding, Span, span, Named, nameLineAt, letterOf, namesAt}
 use Rattle.text.specs.BytesLaws.{stretch-rest, stretch-is}
 use Rattle.sheet.specs.LetterLaws.{distinct-letter, letter-distinct}
-use Rattle.text.specs.PairLaws.{test-true, some-number, byte-is, column-of}
+use Rattle.text.specs.ChoiceLaws.{test-true}
+use Rattle.text.specs.NumberLaws.{some-number, column-of}
+use Rattle.text.specs.WordLaws.{byte-is}
 
 -- ONE LINE
 

@@ -1,9 +1,9 @@
 -- A file read from the top is the sheet file of Format or has its fault: the phases, one after the other. Assumes nothing.
 use Prim.Native.Nat.{ℕ, suc, _+_, _≤_}
-use mathlib.Core.Path.{_≡_, refl, sym, ap, subst, _∙_}
+use mathlib.Core.Path.{_≡_, refl, sym, subst, _∙_}
 use mathlib.Core.Bool.{Bool, true, false}
 use mathlib.Core.List.{List, [], _++_, map, append-assoc}
-use lib.ListN.{length, getD, drop, replicate, List·getD-map}
+use lib.ListN.{length, drop, replicate}
 use lib.Dec.{ltb}
 use borrow.Author.Tests.{ltb-true, ltb-false}
 use native.Mathlib.Omega.{arith}
@@ -14,7 +14,7 @@ use Rattle.automaton.specs.Automaton.{InRange}
 use Rattle.format.specs.Format.{State, Transition, Sheet, headLine, stateLine, FlagsRight, nameLines, stateLines, transitionLines, endLine, lines, leastAfter, most, FileIs, Above, NameDue, StateDue, EndDue, lineDue, Faulty, numbers}
 use Rattle.sheet.specs.declared.Sizes.{Sizes}
 use Rattle.sheet.specs.declared.Sets.{Sets}
-use Rattle.sheet.specs.Parse.{Phase, refused, passed, andThen, headOf, span, Named, namesAt, statesAt, transitionsAt, Contents, contents, afterHead, afterNames, afterStates, parse}
+use Rattle.sheet.specs.Parse.{Phase, refused, passed, andThen, headOf, Named, namesAt, statesAt, transitionsAt, Contents, contents, afterHead, afterNames, afterStates, parse}
 use Rattle.sheet.specs.HeadLaws.{HeadOutcome, head-outcome}
 use Rattle.sheet.specs.NameLaws.{spelled, NameFault, wrong-name, known-name, NamesOutcome, NamesRefused, NamesPassed, names-outcome}
 use Rattle.sheet.specs.StateLaws.{StatesOutcome, StatesRefused, StatesPassed, states-outcome}
@@ -181,12 +181,3 @@ parse-accepts s c e = subst (Means s) e (parse-means s)
 
 pub parse-refuses : (s : List ℕ) (number line : ℕ) → parse s ≡ refused number line → Faulty s number line
 parse-refuses s number line e = subst (Means s) e (parse-means s)
-
--- the name of a letter: where it stands, and composed
-module _ (s : List ℕ) (σ : Sheet) (c : Contents) (h : AreContents s σ c) (l : ℕ) where
-  pub name-stands : spelled s (getD (c .spans) l (span 0 0)) ≡ getD (σ .names) l []
-  name-stands = sym (List·getD-map (spelled s) (c .spans) l (span 0 0)) ∙ ap (λ (names : List (List ℕ)). getD names l []) (h .spans)
-
-  pub name-composed : getD (c .names) l [] ≡ compose (getD (σ .names) l [])
-  unfolding compose
-  name-composed = ap (λ (names : List (List ℕ)). getD names l []) (h .names) ∙ List·getD-map compose (σ .names) l []

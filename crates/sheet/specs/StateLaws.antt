@@ -19,7 +19,9 @@ use Rattle.sheet.specs.declared.StateLine.the-variants as S
 use Rattle.sheet.specs.Parse.{Phase, refused, passed, withFlags, stateLineAt, statesAt}
 use Rattle.text.specs.BytesLaws.{stretch-rest}
 use Rattle.text.specs.Pair.{pairAt}
-use Rattle.text.specs.PairLaws.{test-true, test-false, some-number, some-pair}
+use Rattle.text.specs.ChoiceLaws.{test-true, test-false}
+use Rattle.text.specs.NumberLaws.{some-number}
+use Rattle.text.specs.PairLaws.{some-pair}
 use Rattle.text.specs.declared.Pair.the-variants as P
 use Rattle.sheet.specs.FieldLaws.{Fields, fields-of, fields-is}
 

@@ -29,6 +29,16 @@ pub neither : (t u : Bool) → choose t false u ≡ true → (t ≡ false) × (u
 neither true u e = absurd (true-is-not-false (sym e))
 neither false u e = (refl, e)
 
+-- a test that did not lead to `bad`
+module _ {A : Type 0} {bad y : A} (other : bad ≡ y → ⊥) where
+  pub test-true : (t : Bool) (x : A) → choose t x bad ≡ y → (t ≡ true) × (x ≡ y)
+  test-true true x e = (refl, e)
+  test-true false x e = absurd (other e)
+
+  pub test-false : (t : Bool) (x : A) → choose t bad x ≡ y → (t ≡ false) × (x ≡ y)
+  test-false true x e = absurd (other e)
+  test-false false x e = (refl, e)
+
 -- a test on what a call gave, said of what that is
 pub eqb-yes : {a r h : ℕ} → a ≡ r → r ≡ h → eqb a h ≡ true
 eqb-yes {a} {r} {h} p q = eq-eqb a h (p ∙ q)

@@ -1,17 +1,18 @@
 -- What is written in three columns is read back, and what is read is what is written there. Assumes nothing.
 use Prim.Native.Nat.{ℕ, _+_, _/_, _%_, _<_}
 use mathlib.Core.Path.{_≡_, refl, sym, _∙_, ap}
-use mathlib.Core.Bool.{Bool, true, false}
+use mathlib.Core.Bool.{true}
 use mathlib.Core.List.{List, _++_}
 use lib.ListN.{length, getD, drop}
 use borrow.Author.Tests.{eq-eqb, eqb-true}
 use native.Mathlib.Omega.{arith}
-use Rattle.text.specs.Choice.{choose}
+use Rattle.text.specs.ChoiceLaws.{test-true}
+use Rattle.text.specs.BytesLaws.{stretch-rest}
 use Rattle.text.specs.Column.{digitByte, column}
 use Rattle.text.specs.ColumnLaws.{digit-of, digit-small, column-no-zero, column-length}
 use Rattle.text.specs.Word.{startsAt}
 use Rattle.text.specs.WordLaws.{starts-is, goes-on}
-use Rattle.text.specs.Number.{digitOf, valueOf, numberOf, numberAt}
+use Rattle.text.specs.Number.{digitOf, valueOf, numberOf, numberAt, withNumber}
 use Rattle.text.specs.declared.Number.{Number}
 use Rattle.text.specs.declared.Number.the-variants.{Is, Bad}
 
@@ -40,9 +41,17 @@ number-column s rest at v h e =
     let c′ : getD s (at + 2) 0 ≡ digitByte 0 v = ap (λ (n : ℕ). getD s n 0) (sym two) ∙ c .0 in
     rw (a .0, b .0, c′) (read-written v h)
 
-pick-is : (t : Bool) (x : Number) (v : ℕ) → choose t x Bad ≡ Is v → (t ≡ true) × (x ≡ Is v)
-pick-is true x v p = (refl, p)
-pick-is false x v p = absurd (let z : _≡_ {A = ℕ} 0 1 = cc in omega arith)
+-- "(3)": three columns, and what stands behind them
+pub column-of : (s : List ℕ) (at v : ℕ) (rest : List ℕ) → v < 1000 → drop at s ≡ column 3 v ++ rest → (numberAt s at ≡ Is v) × (drop (at + 3) s ≡ rest)
+column-of s at v rest h e = (number-column s rest at v h e, rw (column-length 3 v) at (stretch-rest s at (column 3 v) rest e))
+
+bad-is-not : (v : ℕ) → Bad ≡ Is v → ⊥
+bad-is-not v e = let z : _≡_ {A = ℕ} 0 1 = cc in omega arith
+
+-- a number that did not lead to `bad`
+pub some-number : {A : Type 0} {bad y : A} → (bad ≡ y → ⊥) → (w : Number) (go : ℕ → A) → withNumber w go bad ≡ y → (v : ℕ) × (w ≡ Is v) × (go v ≡ y)
+some-number other (Is v) go e = (v, refl, e)
+some-number other Bad go e = absurd (other e)
 
 value-small : (a b c : ℕ) → valueOf a b c < 1000
 unfolding valueOf
@@ -53,9 +62,9 @@ pub read-is-written :
     (a b c v : ℕ) → numberOf a b c ≡ Is v → (v < 1000) × (a ≡ digitByte 2 v) × (b ≡ digitByte 1 v) × (c ≡ digitByte 0 v)
 unfolding numberOf
 read-is-written a b c v p =
-    let p1 = pick-is _ _ v p in
-    let p2 = pick-is _ _ v (p1 .1) in
-    let p3 = pick-is _ _ v (p2 .1) in
+    let p1 = test-true (bad-is-not v) _ _ p in
+    let p2 = test-true (bad-is-not v) _ _ (p1 .1) in
+    let p3 = test-true (bad-is-not v) _ _ (p2 .1) in
     let e1 : a ≡ digitByte 2 (valueOf a b c) = eqb-true _ _ (p1 .0) in
     let e2 : b ≡ digitByte 1 (valueOf a b c) = eqb-true _ _ (p2 .0) in
     let e3 : c ≡ digitByte 0 (valueOf a b c) = eqb-true _ _ (p3 .0) in
@@ -79,10 +88,3 @@ number-is s at v e =
     let w = read-is-written _ _ _ v e in
     let l : length (column 3 v) ≡ 3 = column-length 3 v in
     (w .0, starts-is s at (column 3 v) (column-no-zero 3 v) (starts-column s at v (w .1) (w .2) (w .3)) ∙ rw l)
-
--- where no number is read, none is written
-pub no-number : (s rest : List ℕ) (at v : ℕ) → numberAt s at ≡ Bad → v < 1000 → drop at s ≡ column 3 v ++ rest → ⊥
-no-number s rest at v b h e =
-    let a = number-column s rest at v h e in
-    let z : _≡_ {A = ℕ} 0 1 = cc in
-    omega arith

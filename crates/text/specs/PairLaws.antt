@@ -4,54 +4,28 @@ use mathlib.Core.Path.{_≡_, refl, sym, _∙_, ap}
 use mathlib.Core.Bool.{Bool, true, false}
 use mathlib.Core.List.{List, _∷_, _++_}
 use lib.ListN.{length, getD, drop}
-use lib.Seq.{drop-cons}
 use lib.Dec.{eqb}
 use borrow.Author.Tests.{eq-eqb, eqb-true}
 use native.Mathlib.Omega.{arith}
-use native.Mathlib.Numerals.{add-one}
 use native.Mathlib.Nat.{zero-add}
 use Rattle.text.specs.Choice.{choose}
+use Rattle.text.specs.ChoiceLaws.{test-true}
 use Rattle.text.specs.Bytes.{lf}
 use Rattle.text.specs.BytesLaws.{stretch-rest}
 use Rattle.text.specs.Column.{column}
-use Rattle.text.specs.ColumnLaws.{column-length}
-use Rattle.text.specs.Number.{numberAt, withNumber}
-use Rattle.text.specs.NumberLaws.{number-column, number-is}
+use Rattle.text.specs.Number.{numberAt}
+use Rattle.text.specs.NumberLaws.{some-number, column-of, number-is}
 use Rattle.text.specs.Pair.{pairAt, withPair, firstLine}
 use Rattle.text.specs.Word.{startsAt, noZero}
-use Rattle.text.specs.WordLaws.{within, goes-on, starts-word, starts-is, no-word}
-use Rattle.text.specs.declared.Number.{Number}
+use Rattle.text.specs.WordLaws.{byte-is, goes-on, starts-word, starts-is, no-word}
 use Rattle.text.specs.declared.Number.the-variants as N
 use Rattle.text.specs.declared.Pair.{Pair}
 use Rattle.text.specs.declared.Pair.the-variants.{Are, Bad}
 
--- A test or a number that did not lead to `bad`
-module _ {A : Type 0} {bad y : A} (other : bad ≡ y → ⊥) where
-  pub test-true : (t : Bool) (x : A) → choose t x bad ≡ y → (t ≡ true) × (x ≡ y)
-  test-true true x e = (refl, e)
-  test-true false x e = absurd (other e)
-
-  pub test-false : (t : Bool) (x : A) → choose t bad x ≡ y → (t ≡ false) × (x ≡ y)
-  test-false true x e = absurd (other e)
-  test-false false x e = (refl, e)
-
-  pub some-number : (w : Number) (go : ℕ → A) → withNumber w go bad ≡ y → (v : ℕ) × (w ≡ N.Is v) × (go v ≡ y)
-  some-number (N.Is v) go e = (v, refl, e)
-  some-number N.Bad go e = absurd (other e)
-
-  pub some-pair : (w : Pair) (go : ℕ → ℕ → A) → withPair w go bad ≡ y → (a : ℕ) × (b : ℕ) × (w ≡ Are a b) × (go a b ≡ y)
-  some-pair (Are a b) go e = (a, b, refl, e)
-  some-pair Bad go e = absurd (other e)
-
-module _ (s : List ℕ) (at : ℕ) where
-  pub byte-is : (b : ℕ) → 0 < b → getD s at 0 ≡ b → drop at s ≡ b ∷ drop (at + 1) s
-  byte-is b h e =
-      let l : at < length s = within s at (omega arith) in
-      drop-cons s at 0 l ∙ rw (e, add-one)
-
-  -- "(3)": three columns, and what stands behind them
-  pub column-of : (v : ℕ) (rest : List ℕ) → v < 1000 → drop at s ≡ column 3 v ++ rest → (numberAt s at ≡ N.Is v) × (drop (at + 3) s ≡ rest)
-  column-of v rest h e = (number-column s rest at v h e, rw (column-length 3 v) at (stretch-rest s at (column 3 v) rest e))
+-- two numbers that did not lead to `bad`
+pub some-pair : {A : Type 0} {bad y : A} → (bad ≡ y → ⊥) → (w : Pair) (go : ℕ → ℕ → A) → withPair w go bad ≡ y → (a : ℕ) × (b : ℕ) × (w ≡ Are a b) × (go a b ≡ y)
+some-pair other (Are a b) go e = (a, b, refl, e)
+some-pair other Bad go e = absurd (other e)
 
 -- the end of a line of numbers, and what stands behind it
 abbrev pub twoNumbers : ℕ → ℕ → List ℕ → List ℕ
@@ -92,25 +66,21 @@ module _ (s word : List ℕ) where
   abbrev pub NoFirst : Type 0
   NoFirst = (a b : ℕ) (rest : List ℕ) → a < 1000 → b < 1000 → s ≡ word ++ twoNumbers a b rest → ⊥
 
+  pair-there : (a b : ℕ) (rest : List ℕ) → a < 1000 → b < 1000 → s ≡ word ++ twoNumbers a b rest → pairAt s (length word) ≡ Are a b
+  pair-there a b rest ha hb e = rw zero-add at (pair-of s (0 + length word) a b rest ha hb (stretch-rest s 0 word (twoNumbers a b rest) e))
+
   module _ {A : Type 0} (go : ℕ → ℕ → A) (bad : A) where
     pub first-right : (a b : ℕ) (rest : List ℕ) → a < 1000 → b < 1000 → s ≡ word ++ twoNumbers a b rest → firstLine s word go bad ≡ go a b
-    first-right a b rest ha hb e =
-        let f = pair-of s (0 + length word) a b rest ha hb (stretch-rest s 0 word (twoNumbers a b rest) e) in
-        simp (starts-word s 0 word (twoNumbers a b rest) e, rw zero-add at f)
+    first-right a b rest ha hb e = simp (starts-word s 0 word (twoNumbers a b rest) e, pair-there a b rest ha hb e)
 
     -- what is so where there is no such line, and where there is one, is so of what is read
     pub first-outcome : (P : A → Type 0) → noZero word ≡ true → (NoFirst → P bad)
         → ((a b : ℕ) → a < 1000 → b < 1000 → s ≡ word ++ twoNumbers a b (drop (length word + 7) s) → P (go a b)) → P (firstLine s word go bad)
     first-outcome P z none some = by (startsAt s 0 word) (pairAt s (length word)) refl refl
       where
-        no-pair : pairAt s (length word) ≡ Bad → NoFirst
-        no-pair e a b rest ha hb t =
-            let f = rw zero-add at (pair-of s (0 + length word) a b rest ha hb (stretch-rest s 0 word (twoNumbers a b rest) t)) in
-            bad-is-not s (length word) a b (sym e ∙ f)
-
         by : (t : Bool) (w : Pair) → startsAt s 0 word ≡ t → pairAt s (length word) ≡ w → P (choose t (withPair w go bad) bad)
         by false w e f = none (λ a b rest ha hb g. no-word s 0 word (twoNumbers a b rest) e g)
-        by true Bad e f = none (no-pair f)
+        by true Bad e f = none (λ a b rest ha hb g. bad-is-not s (length word) a b (sym f ∙ pair-there a b rest ha hb g))
         by true (Are a b) e f =
             let w = pair-is s (length word) a b f in
             some a b (w .0) (w .1) (starts-is s 0 word z e ∙ rw (zero-add, w .2))

@@ -39,6 +39,11 @@ pub within : (s : List ℕ) (at : ℕ) → 0 < getD s at 0 → at < length s
 within s at h =
     ⊎-elim (λ (l : at < length s). l) (λ (l : length s ≤ at). absurd (omega (arith, List·getD-eq-default s 0 l))) (lt-or-ge at (length s))
 
+pub byte-is : (s : List ℕ) (at b : ℕ) → 0 < b → getD s at 0 ≡ b → drop at s ≡ b ∷ drop (at + 1) s
+byte-is s at b h e =
+    let l : at < length s = within s at (omega arith) in
+    drop-cons s at 0 l ∙ rw (e, add-one)
+
 -- what a file goes on with at a place
 pub goes-on : (s : List ℕ) (at b : ℕ) (rest : List ℕ) → drop at s ≡ b ∷ rest → (getD s at 0 ≡ b) × (drop (at + 1) s ≡ rest)
 goes-on s at b rest e = (
