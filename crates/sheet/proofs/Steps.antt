@@ -9,7 +9,7 @@ use native.Mathlib.Nat.{one-mul, mul-le-mul-right}
 use native.Mathlib.Omega.{arith}
 use borrow.Author.Tests.{eq-eqb, ne-eqb}
 use Rattle.format.specs.Format.{place, entered}
-use Rattle.sheet.specs.Parse.{refused, passed, stateLineAt, statesAt, transitionLineAt, transitionsAt, endAt, Span, span, nameLineAt, letterOf, namesAt}
+use Rattle.sheet.specs.Parse.{refused, passed, stateLineAt, statesAt, transitionLineAt, transitionsAt, endAt, nameLineAt, letterOf, namesAt}
 use Rattle.text.specs.Bytes.{stretch}
 use Rattle.names.specs.Name.{compose}
 use Rattle.names.specs.Scan.{nameEndAt}
@@ -86,20 +86,19 @@ end-fills s line at t rest table r e same =
 -- the name lines as far as they are read: the next one is line `line`, stands at `at` and is of letter l
 pub record NamesSoFar (s : List ℕ) (k : ℕ) (rows : List ℕ) (line at l : ℕ) : Type 0 where
   pub names : List (List ℕ)
-  pub spans : List Span
   pub count : length names ≡ l
-  pub goes : namesAt s line at names spans (k - l) ≡ namesAt s 2 12 [] [] k
+  pub goes : namesAt s line at names (k - l) ≡ namesAt s 2 12 [] k
   pub holds : Holds names rows
 
 -- THE NAME LINES: l of k are read
 module _ {s : List ℕ} {k : ℕ} {rows : List ℕ} {line at l : ℕ} (z : NamesSoFar s k rows line at l) where
-  pub names-bad : l < k → nameLineAt s at l ≡ E.Bad → namesAt s 2 12 [] [] k ≡ refused 5 line
+  pub names-bad : l < k → nameLineAt s at l ≡ E.Bad → namesAt s 2 12 [] k ≡ refused 5 line
   unfolding namesAt
   names-bad h b =
       let m : k - l ≡ suc (k - (l + 1)) = omega arith in
       sym (z .goes) ∙ rw m (simp (z .count, b))
 
-  pub names-done : k ≤ l → namesAt s 2 12 [] [] k ≡ passed (record { names = z .names; spans = z .spans; at = at; line = line })
+  pub names-done : k ≤ l → namesAt s 2 12 [] k ≡ passed (record { names = z .names; at = at; line = line })
   unfolding namesAt
   names-done h =
       let m : k - l ≡ 0 = omega arith in
@@ -107,7 +106,7 @@ module _ {s : List ℕ} {k : ℕ} {rows : List ℕ} {line at l : ℕ} (z : Names
 
 -- a name stands in the row behind those before it, and row r is the first that is like it
 pub record NameRead (s : List ℕ) (k : ℕ) (rows : List ℕ) (line l e r : ℕ) : Type 0 where
-  pub twice : (r ≡ l → ⊥) → namesAt s 2 12 [] [] k ≡ refused 6 line
+  pub twice : (r ≡ l → ⊥) → namesAt s 2 12 [] k ≡ refused 6 line
   pub more : r ≡ l → NamesSoFar s k rows (line + 1) (e + 1) (l + 1)
 
 pub name-read :
@@ -126,7 +125,6 @@ name-read {s} {k} {rows} {v} {line} {at} {l} {e} {r} z h b fits stored like =
       twice = λ d. sym (z .goes) ∙ rw m (simp (z .count, b, ne-eqb _ _ (λ i. d (sym letter ∙ i))));
       more = λ d. record {
         names = z .names ++ (x ∷ []);
-        spans = z .spans ++ (span (at + 5) e ∷ []);
         count = simp length-append (omega (arith, z .count));
         goes = sym (rw m (simp (z .count, b, eq-eqb _ _ (letter ∙ d)))) ∙ z .goes;
         holds = subst (λ (v : List ℕ). Holds (z .names ++ (x ∷ [])) v) (sym stored) (holds-more (z .names) rows l x (z .count) fits (z .holds) name);

@@ -45,11 +45,11 @@ module _ (s : List ℕ) (σ : Sheet) (rest : List ℕ) (above : Above s σ rest)
   parse-head = simp (le-ltb most (length s) (above .size), head-right s (σ .n) (σ .k) behind-head (above .right .range) text)
 
   -- behind the names
-  names-here : (todo : ℕ) → length (σ .names) ≤ σ .k → NamesAlong s behind-names (σ .names) todo 2 12 [] []
+  names-here : (todo : ℕ) → length (σ .names) ≤ σ .k → NamesAlong s behind-names (σ .names) todo 2 12 []
   unfolding behind-head
   names-here todo h =
       let r : σ .k ≤ 8 = above .right .range .3 in
-      names-along s behind-names (σ .names) todo 2 12 [] [] (omega arith) (above .right .names) from-names
+      names-along s behind-names (σ .names) todo 2 12 [] (omega arith) (above .right .names) from-names
 
   -- a fault where a name is due
   pub name-found : NameDue σ → {number : ℕ} → NameFault (σ .names) rest number → parse s ≡ refused number (lineDue σ)
@@ -61,25 +61,25 @@ module _ (s : List ℕ) (σ : Sheet) (rest : List ℕ) (above : Above s σ rest)
       let a = names-here (suc m) (omega arith) in
       let t : drop (a .behind) s ≡ rest = a .text ∙ rw (due .states, due .transitions) in
       let k : σ .k ≡ length (σ .names) + suc m = omega arith in
-      let phase : namesAt s 2 12 [] [] (σ .k) ≡ refused number (2 + length (σ .names)) =
-      ap (namesAt s 2 12 [] []) k ∙ (a .goes ∙ names-fault s (2 + length (σ .names)) (a .behind) (σ .names) (a .spans-then) m (omega arith) (rw t fault)) in
+      let phase : namesAt s 2 12 [] (σ .k) ≡ refused number (2 + length (σ .names)) =
+      ap (namesAt s 2 12 []) k ∙ (a .goes ∙ names-fault s (2 + length (σ .names)) (a .behind) (σ .names) m (omega arith) (rw t fault)) in
       let z : length (σ .states) ≡ 0 = ap length (due .states) in
       let y : length (σ .transitions) ≡ 0 = ap length (due .transitions) in
       let l : 2 + length (σ .names) ≡ lineDue σ = omega arith in
       parse-head ∙ (ap (λ (p : Phase Named). andThen p (afterNames s sizes)) phase ∙ ap (refused number) l)
 
   module _ (all : length (σ .names) ≡ σ .k) where
-    along : NamesAlong s behind-names (σ .names) 0 2 12 [] []
+    along : NamesAlong s behind-names (σ .names) 0 2 12 []
     along = names-here 0 (omega arith)
 
     named : Named
-    named = record { names = map compose (σ .names); spans = along .spans-then; at = along .behind; line = 2 + length (σ .names) }
+    named = record { names = map compose (σ .names); at = along .behind; line = 2 + length (σ .names) }
 
     parse-names : parse s ≡ afterNames s sizes named
     unfolding sizes named namesAt
     parse-names =
         let k : σ .k ≡ length (σ .names) + 0 = omega arith in
-        let phase : namesAt s 2 12 [] [] (σ .k) ≡ passed named = ap (namesAt s 2 12 [] []) k ∙ along .goes in
+        let phase : namesAt s 2 12 [] (σ .k) ≡ passed named = ap (namesAt s 2 12 []) k ∙ along .goes in
         parse-head ∙ ap (λ (p : Phase Named). andThen p (afterNames s sizes)) phase
 
     -- behind the states

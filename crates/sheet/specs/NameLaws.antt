@@ -23,7 +23,7 @@ use Rattle.names.specs.declared.Ending.{Ending}
 use Rattle.names.specs.declared.Ending.the-variants as E
 use Rattle.format.specs.Format.{nameLine, nameLines, Distinct, NamesRight}
 use Rattle.format.specs.FormatLaws.{name-length}
-use Rattle.sheet.specs.Parse.{Phase, refused, passed, withEnding, Span, span, Named, nameLineAt, letterOf, namesAt}
+use Rattle.sheet.specs.Parse.{Phase, refused, passed, withEnding, Named, nameLineAt, letterOf, namesAt}
 use Rattle.text.specs.BytesLaws.{stretch-rest, stretch-is}
 use Rattle.sheet.specs.LetterLaws.{distinct-letter, letter-distinct}
 use Rattle.text.specs.ChoiceLaws.{test-true}
@@ -85,20 +85,15 @@ pub data NameFault (earlier : List (List ℕ)) (rest : List ℕ) : ℕ → Type 
   wrong-name : ((x after : List ℕ) → IsName x → rest ≡ nameLine (length earlier) x ++ after → ⊥) → NameFault earlier rest 5
   known-name : (x after : List ℕ) → IsName x → rest ≡ nameLine (length earlier) x ++ after → (Distinct earlier x → ⊥) → NameFault earlier rest 6
 
--- a name as it is spelled where it stands
-abbrev pub spelled : List ℕ → Span → List ℕ
-spelled s p = stretch s (p .start) (p .end)
-
 -- THE PHASE, behind earlier names: the names of the lines that it read
 
-pub record NamesPassed (s : List ℕ) (line at : ℕ) (earlier : List (List ℕ)) (spans : List Span) (todo : ℕ) (p : Named) : Type 0 where
+pub record NamesPassed (s : List ℕ) (line at : ℕ) (earlier : List (List ℕ)) (todo : ℕ) (p : Named) : Type 0 where
   pub names : List (List ℕ)
   pub right : NamesRight earlier names
   pub count : length names ≡ todo
   pub text : drop at s ≡ nameLines (length earlier) names ++ drop (p .at) s
   pub next : p .line ≡ line + length names
   pub composed : p .names ≡ map compose (earlier ++ names)
-  pub stand : map (spelled s) (p .spans) ≡ map (spelled s) spans ++ names
 
 pub record NamesRefused (s : List ℕ) (line at : ℕ) (earlier : List (List ℕ)) (todo number at-line : ℕ) : Type 0 where
   pub names : List (List ℕ)
@@ -109,17 +104,17 @@ pub record NamesRefused (s : List ℕ) (line at : ℕ) (earlier : List (List ℕ
   pub here : at-line ≡ line + length names
   pub fault : NameFault (earlier ++ names) rest number
 
-abbrev pub NamesOutcome : List ℕ → ℕ → ℕ → List (List ℕ) → List Span → ℕ → Phase Named → Type 0
-NamesOutcome s line at earlier spans todo (refused number at-line) = NamesRefused s line at earlier todo number at-line
-NamesOutcome s line at earlier spans todo (passed p) = NamesPassed s line at earlier spans todo p
+abbrev pub NamesOutcome : List ℕ → ℕ → ℕ → List (List ℕ) → ℕ → Phase Named → Type 0
+NamesOutcome s line at earlier todo (refused number at-line) = NamesRefused s line at earlier todo number at-line
+NamesOutcome s line at earlier todo (passed p) = NamesPassed s line at earlier todo p
 
 one-more : (xs : List (List ℕ)) (x : List ℕ) → length (xs ++ (x ∷ [])) ≡ suc (length xs)
 one-more xs x = length-append xs (x ∷ []) ∙ add-one (length xs)
 
-module _ (s : List ℕ) (line at : ℕ) (earlier : List (List ℕ)) (spans : List Span) (todo e : ℕ) (h : NameLine s at (length earlier) e) (d : Distinct earlier (stretch s (at + 5) e)) where
+module _ (s : List ℕ) (line at : ℕ) (earlier : List (List ℕ)) (todo e : ℕ) (h : NameLine s at (length earlier) e) (d : Distinct earlier (stretch s (at + 5) e)) where
   -- a line more in front
   names-step : (p : Phase Named) →
-      NamesOutcome s (line + 1) (e + 1) (earlier ++ (stretch s (at + 5) e ∷ [])) (spans ++ (span (at + 5) e ∷ [])) todo p → NamesOutcome s line at earlier spans (suc todo) p
+      NamesOutcome s (line + 1) (e + 1) (earlier ++ (stretch s (at + 5) e ∷ [])) todo p → NamesOutcome s line at earlier (suc todo) p
   unfolding nameLines
   names-step (passed p) g =
       let t : drop (e + 1) s ≡ nameLines (suc (length earlier)) (g .names) ++ drop (p .at) s = rw one-more at (g .text) in
@@ -130,7 +125,6 @@ module _ (s : List ℕ) (line at : ℕ) (earlier : List (List ℕ)) (spans : Lis
         text = h .text ∙ rw (t, append-assoc);
         next = omega (arith, g .next);
         composed = rw append-assoc at (g .composed);
-        stand = g .stand ∙ rw (map-append (spelled s) spans (span (at + 5) e ∷ []), append-assoc);
       }
   names-step (refused number at-line) g =
       let t : drop (e + 1) s ≡ nameLines (suc (length earlier)) (g .names) ++ g .rest = rw one-more at (g .text) in
@@ -149,21 +143,21 @@ composed-more : (earlier : List (List ℕ)) (x y : List ℕ) → y ≡ x → map
 composed-more earlier x y e = rw e (sym (map-append compose earlier (x ∷ [])))
 
 pub names-outcome :
-    (s : List ℕ) (todo line at : ℕ) (earlier : List (List ℕ)) (spans : List Span) → length earlier + todo ≤ 1000 →
-    NamesOutcome s line at earlier spans todo (namesAt s line at (map compose earlier) spans todo)
+    (s : List ℕ) (todo line at : ℕ) (earlier : List (List ℕ)) → length earlier + todo ≤ 1000 →
+    NamesOutcome s line at earlier todo (namesAt s line at (map compose earlier) todo)
 unfolding namesAt nameLines
-names-outcome s zero line at earlier spans hl =
-    record { names = []; right = tt; count = refl; text = refl; next = omega arith; composed = rw append-nil; stand = rw append-nil }
-names-outcome s (suc todo) line at earlier spans hl =
+names-outcome s zero line at earlier hl =
+    record { names = []; right = tt; count = refl; text = refl; next = omega arith; composed = rw append-nil }
+names-outcome s (suc todo) line at earlier hl =
     by (nameLineAt s at (length (map compose earlier))) refl
-    (λ e x. names-outcome s todo (line + 1) (e + 1) (earlier ++ (x ∷ [])) (spans ++ (span (at + 5) e ∷ [])) (omega (arith, one-more earlier x)))
+    (λ e x. names-outcome s todo (line + 1) (e + 1) (earlier ++ (x ∷ [])) (omega (arith, one-more earlier x)))
   where
     go : ℕ → Phase Named
-    go e = namesAt s (line + 1) (e + 1) (map compose earlier ++ (compose (stretch s (at + 5) e) ∷ [])) (spans ++ (span (at + 5) e ∷ [])) todo
+    go e = namesAt s (line + 1) (e + 1) (map compose earlier ++ (compose (stretch s (at + 5) e) ∷ [])) todo
 
     Next : ℕ → List ℕ → List (List ℕ) → Type 0
     Next e x composed =
-        NamesOutcome s (line + 1) (e + 1) (earlier ++ (x ∷ [])) (spans ++ (span (at + 5) e ∷ [])) todo (namesAt s (line + 1) (e + 1) composed (spans ++ (span (at + 5) e ∷ [])) todo)
+        NamesOutcome s (line + 1) (e + 1) (earlier ++ (x ∷ [])) todo (namesAt s (line + 1) (e + 1) composed todo)
 
     -- nothing of the phase is read yet
     at-once : {number : ℕ} → NameFault earlier (drop at s) number → NamesRefused s line at earlier (suc todo) number line
@@ -171,15 +165,15 @@ names-outcome s (suc todo) line at earlier spans hl =
 
     known : (e : ℕ) → NameLine s at (length earlier) e → (t : Bool) → eqb (letterOf (map compose earlier) (compose (stretch s (at + 5) e))) (length (map compose earlier)) ≡ t →
         ((x : List ℕ) → Next e x (map compose (earlier ++ (x ∷ [])))) →
-        NamesOutcome s line at earlier spans (suc todo) (choose t (go e) (refused 6 line))
+        NamesOutcome s line at earlier (suc todo) (choose t (go e) (refused 6 line))
     known e h true q ih =
-        names-step s line at earlier spans todo e h (letter-distinct (stretch s (at + 5) e) earlier (eqb-true _ _ q)) (go e)
+        names-step s line at earlier todo e h (letter-distinct (stretch s (at + 5) e) earlier (eqb-true _ _ q)) (go e)
         (subst (Next e (stretch s (at + 5) e)) (map-append compose earlier (stretch s (at + 5) e ∷ [])) (ih (stretch s (at + 5) e)))
     known e h false q ih =
         at-once (known-name (stretch s (at + 5) e) (drop (e + 1) s) (h .is-name) (h .text) (λ d. eqb-false _ _ q (distinct-letter (stretch s (at + 5) e) earlier d)))
 
     by : (w : Ending) → nameLineAt s at (length (map compose earlier)) ≡ w → ((e : ℕ) (x : List ℕ) → Next e x (map compose (earlier ++ (x ∷ [])))) →
-        NamesOutcome s line at earlier spans (suc todo)
+        NamesOutcome s line at earlier (suc todo)
         (withEnding w (λ e. choose (eqb (letterOf (map compose earlier) (compose (stretch s (at + 5) e))) (length (map compose earlier))) (go e) (refused 6 line)) (refused 5 line))
     by (E.At e) q ih = known e (name-line-is s at (length earlier) e (rw length-map at q)) _ refl (ih e)
     by E.Bad q ih =
@@ -195,28 +189,28 @@ name-none s at l none = by (nameLineAt s at l) refl
     by (E.At e) q = let h = name-line-is s at l e q in absurd (none (stretch s (at + 5) e) (drop (e + 1) s) (h .is-name) (h .text))
     by E.Bad q = refl
 
-module _ (s : List ℕ) (line at : ℕ) (earlier : List (List ℕ)) (spans : List Span) (todo : ℕ) (few : length earlier < 1000) where
+module _ (s : List ℕ) (line at : ℕ) (earlier : List (List ℕ)) (todo : ℕ) (few : length earlier < 1000) where
   -- the step of the phase at a line of the form
   abbrev afterName : ℕ → Phase Named
   afterName e =
       choose (eqb (letterOf (map compose earlier) (compose (stretch s (at + 5) e))) (length (map compose earlier)))
-      (namesAt s (line + 1) (e + 1) (map compose earlier ++ (compose (stretch s (at + 5) e) ∷ [])) (spans ++ (span (at + 5) e ∷ [])) todo) (refused 6 line)
+      (namesAt s (line + 1) (e + 1) (map compose earlier ++ (compose (stretch s (at + 5) e) ∷ [])) todo) (refused 6 line)
 
-  name-read : (e : ℕ) → nameLineAt s at (length earlier) ≡ E.At e → namesAt s line at (map compose earlier) spans (suc todo) ≡ afterName e
+  name-read : (e : ℕ) → nameLineAt s at (length earlier) ≡ E.At e → namesAt s line at (map compose earlier) (suc todo) ≡ afterName e
   unfolding namesAt
   name-read e h =
       let w : nameLineAt s at (length (map compose earlier)) ≡ E.At e = rw length-map h in
       simp w
 
   name-next : (x rest : List ℕ) → IsName x → Distinct earlier x → drop at s ≡ nameLine (length earlier) x ++ rest →
-      namesAt s line at (map compose earlier) spans (suc todo) ≡
-      namesAt s (line + 1) (at + 5 + length x + 1) (map compose (earlier ++ (x ∷ []))) (spans ++ (span (at + 5) (at + 5 + length x) ∷ [])) todo
+      namesAt s line at (map compose earlier) (suc todo) ≡
+      namesAt s (line + 1) (at + 5 + length x + 1) (map compose (earlier ++ (x ∷ []))) todo
   name-next x rest is d e =
       let w = name-line-of s at (length earlier) x rest few is e in
       let t : letterOf (map compose earlier) (compose (stretch s (at + 5) (at + 5 + length x))) ≡ length (map compose earlier) = rw (w .1) (distinct-letter x earlier d) in
       name-read (at + 5 + length x) (w .0) ∙ simp (eq-eqb _ _ t, composed-more earlier x (stretch s (at + 5) (at + 5 + length x)) (w .1))
 
-  pub names-fault : {number : ℕ} → NameFault earlier (drop at s) number → namesAt s line at (map compose earlier) spans (suc todo) ≡ refused number line
+  pub names-fault : {number : ℕ} → NameFault earlier (drop at s) number → namesAt s line at (map compose earlier) (suc todo) ≡ refused number line
   unfolding namesAt
   names-fault (wrong-name none) =
       let w : nameLineAt s at (length (map compose earlier)) ≡ E.Bad = rw length-map (name-none s at (length earlier) none) in
@@ -227,37 +221,35 @@ module _ (s : List ℕ) (line at : ℕ) (earlier : List (List ℕ)) (spans : Lis
       name-read (at + 5 + length x) (w .0) ∙ simp (ne-eqb _ _ t)
 
 -- where the phase stands behind the lines of some names
-pub record NamesAlong (s rest : List ℕ) (names : List (List ℕ)) (todo line at : ℕ) (earlier : List (List ℕ)) (spans : List Span) : Type 0 where
+pub record NamesAlong (s rest : List ℕ) (names : List (List ℕ)) (todo line at : ℕ) (earlier : List (List ℕ)) : Type 0 where
   pub behind : ℕ
-  pub spans-then : List Span
   pub text : drop behind s ≡ rest
-  pub goes : namesAt s line at (map compose earlier) spans (length names + todo) ≡ namesAt s (line + length names) behind (map compose (earlier ++ names)) spans-then todo
+  pub goes : namesAt s line at (map compose earlier) (length names + todo) ≡ namesAt s (line + length names) behind (map compose (earlier ++ names)) todo
 
 -- a line more in front
 along-step :
-    (s rest : List ℕ) (names : List (List ℕ)) (todo line at : ℕ) (earlier : List (List ℕ)) (spans : List Span) (x after : List ℕ) →
+    (s rest : List ℕ) (names : List (List ℕ)) (todo line at : ℕ) (earlier : List (List ℕ)) (x after : List ℕ) →
     length earlier < 1000 → IsName x → Distinct earlier x → drop at s ≡ nameLine (length earlier) x ++ after →
-    NamesAlong s rest names todo (line + 1) (at + 5 + length x + 1) (earlier ++ (x ∷ [])) (spans ++ (span (at + 5) (at + 5 + length x) ∷ [])) →
-    NamesAlong s rest (x ∷ names) todo line at earlier spans
-along-step s rest names todo line at earlier spans x after few is d e go =
+    NamesAlong s rest names todo (line + 1) (at + 5 + length x + 1) (earlier ++ (x ∷ [])) →
+    NamesAlong s rest (x ∷ names) todo line at earlier
+along-step s rest names todo line at earlier x after few is d e go =
     let l : line + 1 + length names ≡ line + suc (length names) = omega arith in
     let a : (earlier ++ (x ∷ [])) ++ names ≡ earlier ++ (x ∷ names) = append-assoc earlier (x ∷ []) names in
     record {
       behind = go .behind;
-      spans-then = go .spans-then;
       text = go .text;
-      goes = rw suc-add (name-next s line at earlier spans (length names + todo) few x after is d e ∙ (go .goes ∙ rw (l, a)));
+      goes = rw suc-add (name-next s line at earlier (length names + todo) few x after is d e ∙ (go .goes ∙ rw (l, a)));
     }
 
 pub names-along :
-    (s rest : List ℕ) (names : List (List ℕ)) (todo line at : ℕ) (earlier : List (List ℕ)) (spans : List Span) → length earlier + length names ≤ 1000 →
-    NamesRight earlier names → drop at s ≡ nameLines (length earlier) names ++ rest → NamesAlong s rest names todo line at earlier spans
+    (s rest : List ℕ) (names : List (List ℕ)) (todo line at : ℕ) (earlier : List (List ℕ)) → length earlier + length names ≤ 1000 →
+    NamesRight earlier names → drop at s ≡ nameLines (length earlier) names ++ rest → NamesAlong s rest names todo line at earlier
 unfolding nameLines
-names-along s rest [] todo line at earlier spans hl h e =
-    record { behind = at; spans-then = spans; text = e; goes = simp (zero-add, add-zero, append-nil) }
-names-along s rest (x ∷ names) todo line at earlier spans hl h e =
+names-along s rest [] todo line at earlier hl h e =
+    record { behind = at; text = e; goes = simp (zero-add, add-zero, append-nil) }
+names-along s rest (x ∷ names) todo line at earlier hl h e =
     let e1 : drop at s ≡ nameLine (length earlier) x ++ (nameLines (suc (length earlier)) names ++ rest) = rw append-assoc at e in
     let p : at + length (nameLine (length earlier) x) ≡ at + 5 + length x + 1 = omega (arith, name-length (length earlier) x) in
     let e2 : drop (at + 5 + length x + 1) s ≡ nameLines (length (earlier ++ (x ∷ []))) names ++ rest = rw one-more (rw p at (stretch-rest s at (nameLine (length earlier) x) _ e1)) in
-    along-step s rest names todo line at earlier spans x (nameLines (suc (length earlier)) names ++ rest) (omega arith) (h .0) (h .1) e1
-    (names-along s rest names todo (line + 1) (at + 5 + length x + 1) (earlier ++ (x ∷ [])) (spans ++ (span (at + 5) (at + 5 + length x) ∷ [])) (omega (arith, one-more earlier x)) (h .2) e2)
+    along-step s rest names todo line at earlier x (nameLines (suc (length earlier)) names ++ rest) (omega arith) (h .0) (h .1) e1
+    (names-along s rest names todo (line + 1) (at + 5 + length x + 1) (earlier ++ (x ∷ [])) (omega (arith, one-more earlier x)) (h .2) e2)

@@ -49,18 +49,9 @@ headOf s = firstLine s sheetWord rangesOf (refused 3 1)
 
 -- THE NAME LINES
 
--- where a name stands in the file: from `start` up to, not with, `end`, where its LF stands
-pub record Span : Type 0 where
-  pub start : ℕ
-  pub end : ℕ
-
-abbrev pub span : ℕ → ℕ → Span
-span start end = record { start = start; end = end }
-
--- what the name lines give: the names composed, where they stand, and the next line's position and number
+-- what the name lines give: the names composed, and the next line's position and number
 pub record Named : Type 0 where
   pub names : List (List ℕ)
-  pub spans : List Span
   pub at : ℕ
   pub line : ℕ
 
@@ -97,12 +88,12 @@ nameStep s line at names go =
     (λ e. choose (eqb (letterOf names (compose (stretch s (at + 5) e))) (length names)) (go e) (refused 6 line))
     (refused 5 line)
 
--- `todo` name lines, the first of which is line `line` and stands at `at`, after those of `names` and `spans`
-unfoldable pub namesAt : List ℕ → ℕ → ℕ → List (List ℕ) → List Span → ℕ → Phase Named
-namesAt s line at names spans zero = passed (record { names = names; spans = spans; at = at; line = line })
-namesAt s line at names spans (suc todo) =
+-- `todo` name lines, the first of which is line `line` and stands at `at`, after those of `names`
+unfoldable pub namesAt : List ℕ → ℕ → ℕ → List (List ℕ) → ℕ → Phase Named
+namesAt s line at names zero = passed (record { names = names; at = at; line = line })
+namesAt s line at names (suc todo) =
     nameStep s line at names
-    (λ e. namesAt s (line + 1) (e + 1) (names ++ (compose (stretch s (at + 5) e) ∷ [])) (spans ++ (span (at + 5) e ∷ [])) todo)
+    (λ e. namesAt s (line + 1) (e + 1) (names ++ (compose (stretch s (at + 5) e) ∷ [])) todo)
 
 -- THE STATE LINES
 
@@ -169,14 +160,13 @@ transitionsAt s n k line at least table (suc fuel) =
 
 -- THE WHOLE FILE
 
--- what a sheet file holds: its numbers, with the 128 successor sets, its names composed and where they stand
+-- what a sheet file holds: its numbers, with the 128 successor sets, and its names composed
 pub record Contents : Type 0 where
   pub n : ℕ
   pub k : ℕ
   pub initial : ℕ
   pub recurring : ℕ
   pub names : List (List ℕ)
-  pub spans : List Span
   pub table : List ℕ
 
 abbrev pub contents : Sizes → Named → Sets → List ℕ → Contents
@@ -186,7 +176,6 @@ contents z y q table = record {
   initial = q .initial;
   recurring = q .recurring;
   names = y .names;
-  spans = y .spans;
   table = table;
 }
 
@@ -198,7 +187,7 @@ abbrev pub afterNames : List ℕ → Sizes → Named → Phase Contents
 afterNames s z y = andThen (statesAt s (y .line) (y .at) 0 0 0 (z .n)) (afterStates s z y)
 
 abbrev pub afterHead : List ℕ → Sizes → Phase Contents
-afterHead s z = andThen (namesAt s 2 12 [] [] (z .k)) (afterNames s z)
+afterHead s z = andThen (namesAt s 2 12 [] (z .k)) (afterNames s z)
 
 -- "Is the sheet at most 24,576 bytes ..? No: 2." Then the lines
 unfoldable pub parse : List ℕ → Phase Contents

@@ -16,7 +16,7 @@ use Rattle.sheet.specs.declared.Sizes.{Sizes}
 use Rattle.sheet.specs.declared.Sets.{Sets}
 use Rattle.sheet.specs.Parse.{Phase, refused, passed, andThen, headOf, Named, namesAt, statesAt, transitionsAt, Contents, contents, afterHead, afterNames, afterStates, parse}
 use Rattle.sheet.specs.HeadLaws.{HeadOutcome, head-outcome}
-use Rattle.sheet.specs.NameLaws.{spelled, NameFault, wrong-name, known-name, NamesOutcome, NamesRefused, NamesPassed, names-outcome}
+use Rattle.sheet.specs.NameLaws.{NameFault, wrong-name, known-name, NamesOutcome, NamesRefused, NamesPassed, names-outcome}
 use Rattle.sheet.specs.StateLaws.{StatesOutcome, StatesRefused, StatesPassed, states-outcome}
 use Rattle.sheet.specs.TransitionLaws.{EndFault, wrong-transition, no-end, not-last, TransitionsOutcome, TransitionsRefused, TransitionsPassed, transitions-outcome}
 
@@ -40,7 +40,6 @@ pub record AreContents (s : List ℕ) (σ : Sheet) (c : Contents) : Type 0 where
   pub recurring : c .recurring ≡ numbers σ .recurring
   pub table : c .table ≡ numbers σ .table
   pub names : c .names ≡ map compose (σ .names)
-  pub spans : map (spelled s) (c .spans) ≡ σ .names
 
 -- WHAT READING GIVES
 abbrev pub Means : List ℕ → Phase Contents → Type 0
@@ -72,7 +71,7 @@ module _ (s : List ℕ) (size : length s ≤ most) (z : Sizes) (range : InRange 
       by (wrong-name none) = subst (Faulty s 5) l (Faulty.name σ (h .rest) above due none)
       by (known-name x after is e d) = subst (Faulty s 6) l (Faulty.twice σ (h .rest) above due x after is e d)
 
-  module _ (y : Named) (g : NamesPassed s 2 12 [] [] (z .k) y) where
+  module _ (y : Named) (g : NamesPassed s 2 12 [] (z .k) y) where
     states-refuse : (number line : ℕ) → StatesRefused s (y .line) (y .at) 0 (z .n) number line → Faulty s number line
     unfolding transitionLines
     states-refuse number line h = subst (λ (x : ℕ). Faulty s x line) (sym (h .seven)) (subst (Faulty s 7) l (Faulty.state σ (h .rest) above due none))
@@ -146,7 +145,6 @@ module _ (s : List ℕ) (size : length s ≤ most) (z : Sizes) (range : InRange 
             recurring = h .recurrings ∙ zero-add _;
             table = t .filled;
             names = g .composed;
-            spans = g .stand;
           }
 
       transitions-mean : (p : Phase (List ℕ)) → TransitionsOutcome s (z .n) (z .k) (q .line) (q .at) 0 (replicate 128 0) p → Means s (andThen p (λ table. passed (contents z y q table)))
@@ -159,13 +157,13 @@ module _ (s : List ℕ) (size : length s ≤ most) (z : Sizes) (range : InRange 
         transitions-mean q h (transitionsAt s (z .n) (z .k) (q .line) (q .at) 0 (replicate 128 0) (length s + 1))
         (transitions-outcome s (z .n) (z .k) (omega arith) (omega arith) (length s + 1) (q .line) (q .at) 0 (replicate 128 0) (omega arith))
 
-  names-mean : (p : Phase Named) → NamesOutcome s 2 12 [] [] (z .k) p → Means s (andThen p (afterNames s z))
+  names-mean : (p : Phase Named) → NamesOutcome s 2 12 [] (z .k) p → Means s (andThen p (afterNames s z))
   names-mean (refused number line) g = names-refuse number line g
   names-mean (passed y) g = states-mean y g (statesAt s (y .line) (y .at) 0 0 0 (z .n)) (states-outcome s (z .n) (y .line) (y .at) 0 0 0 (omega arith))
 
 head-means : (s : List ℕ) → length s ≤ most → (p : Phase Sizes) → HeadOutcome s p → Means s (andThen p (afterHead s))
 head-means s size (refused number line) h = h
-head-means s size (passed z) h = names-mean s size z (h .0) (h .1) (namesAt s 2 12 [] [] (z .k)) (names-outcome s (z .k) 2 12 [] [] (omega arith))
+head-means s size (passed z) h = names-mean s size z (h .0) (h .1) (namesAt s 2 12 [] (z .k)) (names-outcome s (z .k) 2 12 [] (omega arith))
 
 -- EVERY FILE is a sheet file, whose contents are read, or has a fault, which is the refusal
 pub parse-means : (s : List ℕ) → Means s (parse s)

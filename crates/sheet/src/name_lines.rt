@@ -52,7 +52,7 @@ pub fn first_like(rows: &[u8], count: usize) -> usize
 // The lines of k names, from the second line on. Each name is composed into its row.
 pub fn read_names(s: &[u8], k: usize, rows: &mut [u8]) -> Names
     requires { ⌜ (k ≤ 8) × (192 ≤ length (now rows)) ⌝ }
-    ensures { λ r. ⌜ NamesRead k (namesAt (now (s .entry)) 2 12 [] [] k) (now (rows .exit)) r ⌝ }
+    ensures { λ r. ⌜ NamesRead k (namesAt (now (s .entry)) 2 12 [] k) (now (rows .exit)) r ⌝ }
 {
     let mut line = 2;
     let mut at = 12;

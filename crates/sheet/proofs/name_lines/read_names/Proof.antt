@@ -52,7 +52,7 @@ loop-holds c = (
   omega arith,
   omega arith,
   refl,
-  record { names = []; spans = []; count = refl; goes = rw sub-zero; holds = λ l h. absurd (omega arith) },
+  record { names = []; count = refl; goes = rw sub-zero; holds = λ l h. absurd (omega arith) },
 )
 
 name-line-requires : tie.Need-name-line-requires Inv-loop μ-loop

@@ -31,10 +31,10 @@ first c =
 passes :
     (c : tie.After-known-told4) →
     let k = c .before .before .before .before .before .before .before .before .z .given .0 .0 .k in
-    Passes k (namesAt (now (c .before .before .before .before .before .before .before .before .before .before .before .before .before .before .before .args .s)) 2 12 [] [] k) (c .before .before .before .before .before .read-names .last .1 .1 .0) (c .before .place .given .0 .0)
+    Passes k (namesAt (now (c .before .before .before .before .before .before .before .before .before .before .before .before .before .before .before .args .s)) 2 12 [] k) (c .before .before .before .before .before .read-names .last .1 .1 .0) (c .before .place .given .0 .0)
 passes c =
     let k = c .before .before .before .before .before .before .before .before .z .given .0 .0 .k in
-    names-pass k (namesAt (now (c .before .before .before .before .before .before .before .before .before .before .before .before .before .before .before .args .s)) 2 12 [] [] k) (c .before .before .before .before .before .read-names .last .1 .1 .0) (c .before .place .given .0 .0)
+    names-pass k (namesAt (now (c .before .before .before .before .before .before .before .before .before .before .before .before .before .before .before .args .s)) 2 12 [] k) (c .before .before .before .before .before .read-names .last .1 .1 .0) (c .before .place .given .0 .0)
     (rw (c .before .place .given .1) at (c .before .before .before .before .before .read-names .ensures))
 
 returns : tie.Need-returns
@@ -81,7 +81,7 @@ returns-3 c =
     let s = now (a .s) in
     let z = c .before .before .before .before .before .before .before .before .z .given .0 .0 in
     rw (not-large s (c .before .before .before .before .before .before .before .before .before .before .before .if1 .left), first (c .before .before .before .before .before .before .before))
-    (names-refuse (z .k) (namesAt s 2 12 [] [] (z .k)) (afterNames s z) (now (a .table)) (now (a .table)) (c .before .before .before .before .before .read-names .last .1 .1 .0)
+    (names-refuse (z .k) (namesAt s 2 12 [] (z .k)) (afterNames s z) (now (a .table)) (now (a .table)) (c .before .before .before .before .before .read-names .last .1 .1 .0)
     (c .before .r2 .given .0 .0) (rw (c .before .r2 .given .1) at (c .before .before .before .before .before .read-names .ensures)) (c .before .before .before .before .before .before .before .before .before .before .before .before .before .before .before .pre .1))
 
 same-length-2 : tie.Need-same-length-2
