@@ -1,6 +1,7 @@
 -- The answer of the last line, as a plan's. Assumes nothing.
-use mathlib.Core.Path.{sym}
+use mathlib.Core.Path.{sym, ap, _∙_}
 use Rattle.plan.specs.Parse.{endAt}
+use Rattle.plan.specs.Answers.{planned}
 use borrow.Author.Needs.{needs}
 use Rattle.plan.proofs.whole_file.end_line.Statement.{statement}
 use Rattle.plan.proofs.whole_file.end_line.Tie as tie
@@ -16,11 +17,11 @@ enum-told c = search needs
 
 returns : tie.Need-returns
 unfolding endAt
-returns c = simp (sym (c .before .before .before .end-line .ensures), c .before .r .given .1)
+returns c = ap (planned (c .before .before .before .before .before .args .z)) (sym (c .before .r .given .1) ∙ c .before .before .before .end-line .ensures)
 
 returns-2 : tie.Need-returns-2
 unfolding endAt
-returns-2 c = simp (sym (c .before .before .end-line .ensures), c .enum-told .given .1)
+returns-2 c = ap (planned (c .before .before .before .before .args .z)) (sym (c .enum-told .given .1) ∙ c .before .before .end-line .ensures)
 
 pub end-line-spec : {M : Type 1} → statement M
 end-line-spec = tie.close (tie.spec end-line-requires enum-known-r enum-told returns returns-2)
