@@ -60,3 +60,7 @@ pub data FirstNo (A : Automaton) : ℕ → Type 0 where
   range : (InRange (A .n) (A .k) → ⊥) → FirstNo A 4
   states : InRange (A .n) (A .k) → (StatesFit A → ⊥) → FirstNo A 7
   cells : InRange (A .n) (A .k) → StatesFit A → (CellsFit A → ⊥) → FirstNo A 8
+
+-- the answer to the three: 0 where all are answered yes, else the first that is answered no
+abbrev pub Answers : Automaton → ℕ → Type 0
+Answers A number = (number ≡ 0 → Fits A) × ((number ≡ 0 → ⊥) → FirstNo A number)

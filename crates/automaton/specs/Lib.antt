@@ -3,6 +3,6 @@ pub mod Lent
 pub mod Meeting
 pub mod Reading
 pub mod Successors
+pub mod EdgeLaws
 pub mod SuccessorLaws
-pub mod Questions
 pub mod QuestionLaws

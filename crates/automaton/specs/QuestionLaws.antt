@@ -1,25 +1,12 @@
 -- The answers to questions 4, 7 and 8 exclude each other. Assumes nothing.
 use Prim.Native.Nat.{ℕ, _<_}
-use mathlib.Core.Path.{_≡_, refl, sym, subst}
-use mathlib.Core.Bool.{true, false}
+use mathlib.Core.Path.{_≡_, refl, subst}
 use native.Mathlib.Omega.{arith}
 use native.Mathlib.Decide.{decLt}
 use lib.ListN.{length, getD, List·getD-eq-default}
 use Rattle.sets.specs.Sets.{Member}
 use Rattle.sets.specs.SetLaws.{no-member}
-use Rattle.automaton.specs.Automaton.{Automaton, CellFits, CellsFit, Fits, FirstNo}
-use Rattle.automaton.specs.Questions.{Decides, Answers}
-
--- Answers of tests
-
-true-is-not-false : true ≡ false → ⊥
-true-is-not-false e = let z : _≡_ {A = ℕ} 0 1 = cc in omega arith
-
-pub decides-yes : {P : Type 0} → P → Decides true P
-decides-yes p = (λ e. p, λ e. absurd (true-is-not-false e))
-
-pub decides-no : {P : Type 0} → (P → ⊥) → Decides false P
-decides-no f = (λ e. absurd (true-is-not-false (sym e)), λ e. f)
+use Rattle.automaton.specs.Automaton.{Automaton, CellFits, CellsFit, Fits, FirstNo, Answers}
 
 -- The numbers
 

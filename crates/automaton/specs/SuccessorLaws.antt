@@ -9,7 +9,8 @@ use native.Mathlib.Numerals.{add-one}
 use lib.ListN.{getD}
 use Rattle.sets.specs.Sets.{bit, Member, unionOf}
 use Rattle.sets.specs.SetLaws.{bit-lt, bit-out, no-member, union-in, union-left, union-right, union-zero, ext-member, member-lt, small-of-within}
-use Rattle.automaton.specs.Automaton.{Automaton, Edge, Within, CellsFit, Fits}
+use Rattle.automaton.specs.Automaton.{Automaton, Edge, Fits}
+use Rattle.automaton.specs.EdgeLaws.{edge-of}
 use Rattle.automaton.specs.Successors.{given, successorsBelow, successorsOf, Successors}
 
 -- Membership, in both directions
@@ -84,20 +85,18 @@ successors-empty table l =
 
 -- Transitions
 
-pub successors-within : (A : Automaton) → CellsFit A → (l x : ℕ) → Within (A .n) (successorsOf (A .table) l x)
-successors-within A c l x r h = let (q, k, u, v) = successors-in (A .table) l x r h in c (8 * q + l) .within r v
-
-pub successors-edge : (A : Automaton) → Fits A → (l x : ℕ) → l < A .k → Within (A .n) x → (r : ℕ)
+pub successors-edge : (A : Automaton) → Fits A → (l x : ℕ) → l < A .k → (r : ℕ)
     → Member (successorsOf (A .table) l x) r ↔ ((q : ℕ) × Member x q × Edge A l q r)
-successors-edge A f l x k w r = (to, from)
+successors-edge A fits l x k r = (to, from)
   where
     to : Member (successorsOf (A .table) l x) r → (q : ℕ) × Member x q × Edge A l q r
     to h =
         let (q, j, u, v) = successors-in (A .table) l x r h in
-        (q, u, record { letter = k; from = w q u; to = v })
+        let m = fits .range .3 in
+        (q, u, edge-of A fits l q r (omega arith) v)
 
     from : ((q : ℕ) × Member x q × Edge A l q r) → Member (successorsOf (A .table) l x) r
-    from (q, u, e) = let m = f .range .1 in let j = e .from in successors-of-member (A .table) l x q r (omega arith) u (e .to)
+    from (q, u, e) = let m = fits .range .1 in let j = e .from in successors-of-member (A .table) l x q r (omega arith) u (e .to)
 
 -- The steps of the loop
 

@@ -2,8 +2,8 @@
 ghost use mathlib.Core.Path.{_≡_};
 ghost use Prim.Native.Nat.{_<_, _≤_};
 ghost use lib.ListN.{getD};
-ghost use Rattle.automaton.specs.Automaton.{automaton, InRange, Within, CellFits, CellsFit};
-ghost use Rattle.automaton.specs.Questions.{Decides, Answers};
+ghost use Rattle.gate.specs.Gate.{Decides};
+ghost use Rattle.automaton.specs.Automaton.{automaton, InRange, Within, CellFits, CellsFit, Answers};
 ghost use Rattle.automaton.specs.Successors.{successorsOf, Successors};
 
 // The numbers of an automaton apart from its successor sets: states, letters, the initial and the must-recur set.

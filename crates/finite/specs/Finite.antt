@@ -1,10 +1,9 @@
 -- Facts about numbers below a bound and about sequences of numbers, with nothing of the tool in them: finite search, pigeonholes, the first
 -- repeat of a sequence, two sequences glued into one, a sequence folded into a loop, the least value that occurs. Assumes nothing.
 use Prim.Native.Nat.{ℕ, zero, suc, _+_, _*_, _-_, _≤_, _<_, min}
-use mathlib.Core.Path.{_≡_, refl, sym, _∙_, ap}
+use mathlib.Core.Path.{_≡_, refl, sym, _∙_}
 use mathlib.Core.Logic.{_⊎_, inl, inr}
 use native.Mathlib.Omega.{arith}
-use native.Mathlib.Nat.{mul-le-mul-right}
 use native.Mathlib.Decide.{decLe, decLt, ℕ-discrete, le-ind}
 
 -- Finite search: some number below n has the property, or none has.
@@ -92,59 +91,6 @@ pigeon-rel n P h = let (a, b, l, m, e) = pigeon n f below in end a b l m e (spec
 abbrev pub FirstRepeat : (ℕ → ℕ) → ℕ → ℕ → Type 0
 FirstRepeat g a b = (a < b) × (g a ≡ g b) × ((x y : ℕ) → x < y → y < b → g x ≡ g y → ⊥)
 
-earlier? : (g : ℕ → ℕ) (b : ℕ) → Dec ((a : ℕ) × (a < b) × (g a ≡ g b))
-earlier? g b = by (find (λ a. g a ≡ g b) (λ a. ℕ-discrete (g a) (g b)) b)
-  where
-    by : ((a : ℕ) × (a < b) × (g a ≡ g b)) ⊎ ((a : ℕ) → a < b → g a ≡ g b → ⊥) → Dec ((a : ℕ) × (a < b) × (g a ≡ g b))
-    by (inl x) = yes x
-    by (inr f) = no (λ (a, l, e). f a l e)
-
--- The least number below N that has the property, if any has it.
-pub first-such : (P : ℕ → Type 0) → ((k : ℕ) → Dec (P k)) → (N : ℕ) → ((b : ℕ) × (b < N) × P b × ((y : ℕ) → y < b → P y → ⊥)) ⊎ ((k : ℕ) → k < N → P k → ⊥)
-first-such P d zero = inr (λ k l x. omega arith)
-first-such P d (suc N) = by (first-such P d N) (d N)
-  where
-    by : ((b : ℕ) × (b < N) × P b × ((y : ℕ) → y < b → P y → ⊥)) ⊎ ((k : ℕ) → k < N → P k → ⊥) → Dec (P N) → ((b : ℕ) × (b < suc N) × P b × ((y : ℕ) → y < b → P y → ⊥)) ⊎ ((k : ℕ) → k < suc N → P k → ⊥)
-    by (inl (b, l, x, f)) e = inl (b, omega arith, x, f)
-    by (inr f) (yes x) = inl (N, omega arith, x, f)
-    by (inr f) (no x) = inr (λ k l y. last k l y (ℕ-discrete k N))
-      where
-        last : (k : ℕ) → k < suc N → P k → Dec (k ≡ N) → ⊥
-        last k l y (yes e) = x (rw e at y)
-        last k l y (no e) = f k (omega arith) y
-
--- A sequence of numbers below N has its first repeat at N or before.
-pub first-repeat : (N : ℕ) (g : ℕ → ℕ) → ((k : ℕ) → g k < N) → (a : ℕ) × (b : ℕ) × (b ≤ N) × FirstRepeat g a b
-first-repeat N g h = by (first-such (λ b. (a : ℕ) × (a < b) × (g a ≡ g b)) (earlier? g) (suc N))
-  where
-    by : ((b : ℕ) × (b < suc N) × ((a : ℕ) × (a < b) × (g a ≡ g b)) × ((y : ℕ) → y < b → ((a : ℕ) × (a < y) × (g a ≡ g y)) → ⊥)) ⊎ ((k : ℕ) → k < suc N → ((a : ℕ) × (a < k) × (g a ≡ g k)) → ⊥)
-        → (a : ℕ) × (b : ℕ) × (b ≤ N) × FirstRepeat g a b
-    by (inl (b, l, (a, m, e), f)) = (a, b, omega arith, (m, e, λ x y k n z. f y n (x, k, z)))
-    by (inr f) = let (a, b, l, m, e) = pigeon N g (λ k x. h k) in absurd (f b (omega arith) (a, l, e))
-
--- A sequence has one first repeat.
-pub first-repeat-unique : (g : ℕ → ℕ) (a b a' b' : ℕ) → FirstRepeat g a b → FirstRepeat g a' b' → (a ≡ a') × (b ≡ b')
-first-repeat-unique g a b a' b' (l, e, f) (l', e', f') = by (decLt b b') (decLt b' b)
-  where
-    same : b ≡ b' → Dec (a < a') → Dec (a' < a) → (a ≡ a') × (b ≡ b')
-    same z (yes x) y = absurd (f' a a' x (omega arith) (e ∙ ap g z ∙ sym e'))
-    same z (no x) (yes y) = absurd (f a' a y (omega arith) (e' ∙ ap g (sym z) ∙ sym e))
-    same z (no x) (no y) = (omega arith, z)
-
-    by : Dec (b < b') → Dec (b' < b) → (a ≡ a') × (b ≡ b')
-    by (yes x) y = absurd (f' a b l x e)
-    by (no x) (yes y) = absurd (f a' b' l' y e')
-    by (no x) (no y) = same (omega arith) (decLt a a') (decLt a' a)
-
-pub mul-mono : (k n P : ℕ) → k ≤ n → k * P ≤ n * P
-mul-mono k n P l = mul-le-mul-right P l
-
-pub split-mul : (A a b d P : ℕ) → b ≡ a + suc d → A + a * P + suc d * P ≡ A + b * P
-split-mul A a b d P e = rw e (omega arith)
-
-pub mul-pos : (d P : ℕ) → 0 < P → 0 < suc d * P
-mul-pos d P l = omega arith
-
 -- The sequence that is f before t, and g from t on.
 pub glue : (ℕ → ℕ) → (ℕ → ℕ) → ℕ → ℕ → ℕ
 glue f g t s = pick (decLt s t) (f s) (g s)
@@ -167,7 +113,7 @@ glue-ge f g t s l = by (pick-spec (decLt s t) (f s) (g s))
 
 -- Paths: E s q r is a transition at time s from q to r.
 module _ (E : ℕ → ℕ → ℕ → Type 0) where
-  pub cast : {s t q r q' r' : ℕ} → s ≡ t → q ≡ q' → r ≡ r' → E s q r → E t q' r'
+  cast : {s t q r q' r' : ℕ} → s ≡ t → q ≡ q' → r ≡ r' → E s q r → E t q' r'
   cast {s} {t} {q} {r} {q'} {r'} a b c x = rw (← a, ← b, ← c) x
 
   -- Glued paths: f is a path before t, g is one from t on, and they agree at t.
@@ -233,6 +179,14 @@ module _ (E : ℕ → ℕ → ℕ → Type 0) where
         at t (inl (x, y)) = rw (y, ← e, ← x) (h (idx t) (inv t .1))
         at t (inr (x, y)) = rw y (h (idx t) (inv t .1))
 
+  -- A path made longer by one transition.
+  pub extend : (A u r : ℕ) (f : ℕ → ℕ) → ((s : ℕ) → A ≤ s → s < u → E s (f s) (f (suc s))) → E u (f u) r → (s : ℕ) → A ≤ s → s < suc u → E s (glue f (λ s. r) (suc u) s) (glue f (λ s. r) (suc u) (suc s))
+  extend A u r f es e s a b = by (decLt s u)
+    where
+      by : Dec (s < u) → E s (glue f (λ s. r) (suc u) s) (glue f (λ s. r) (suc u) (suc s))
+      by (yes m) = cast refl (sym (glue-lt f (λ s. r) (suc u) s (omega arith))) (sym (glue-lt f (λ s. r) (suc u) (suc s) (omega arith))) (es s a m)
+      by (no m) = let d : s ≡ u = omega arith in cast (sym d) (rw d (sym (glue-lt f (λ s. r) (suc u) u (omega arith)))) (sym (glue-ge f (λ s. r) (suc u) (suc s) (omega arith))) e
+
   -- A path traced back: where each state of each set has a predecessor in the set before, each state of the last set ends a path.
   pub trace : (Z : ℕ → ℕ → Type 0) (A : ℕ) → ((t r : ℕ) → A ≤ t → Z (suc t) r → (q : ℕ) × Z t q × E t q r) → (u : ℕ) → A ≤ u → (r : ℕ) → Z u r
       → (f : ℕ → ℕ) × (f u ≡ r) × ((s : ℕ) → A ≤ s → s ≤ u → Z s (f s)) × ((s : ℕ) → A ≤ s → s < u → E s (f s) (f (suc s)))
@@ -243,7 +197,7 @@ module _ (E : ℕ → ℕ → ℕ → Type 0) where
 
       more : (u : ℕ) → A ≤ u → ((r : ℕ) → Z u r → (f : ℕ → ℕ) × (f u ≡ r) × ((s : ℕ) → A ≤ s → s ≤ u → Z s (f s)) × ((s : ℕ) → A ≤ s → s < u → E s (f s) (f (suc s))))
           → (r : ℕ) → Z (suc u) r → (f : ℕ → ℕ) × (f (suc u) ≡ r) × ((s : ℕ) → A ≤ s → s ≤ suc u → Z s (f s)) × ((s : ℕ) → A ≤ s → s < suc u → E s (f s) (f (suc s)))
-      more u l ih r z = let (q, x, e) = back u r l z in let (f, y, zs, es) = ih q x in (glue f (λ s. r) (suc u), glue-ge f (λ s. r) (suc u) (suc u) (omega arith), sets f zs, edges q e f y es)
+      more u l ih r z = let (q, x, e) = back u r l z in let (f, y, zs, es) = ih q x in (glue f (λ s. r) (suc u), glue-ge f (λ s. r) (suc u) (suc u) (omega arith), sets f zs, extend A u r f es (rw y e))
         where
           sets : (f : ℕ → ℕ) → ((s : ℕ) → A ≤ s → s ≤ u → Z s (f s)) → (s : ℕ) → A ≤ s → s ≤ suc u → Z s (glue f (λ s. r) (suc u) s)
           sets f zs s a b = by (decLe s u)
@@ -251,21 +205,6 @@ module _ (E : ℕ → ℕ → ℕ → Type 0) where
               by : Dec (s ≤ u) → Z s (glue f (λ s. r) (suc u) s)
               by (yes m) = rw (glue-lt f (λ s. r) (suc u) s (omega arith)) (zs s a m)
               by (no m) = let e : s ≡ suc u = omega arith in rw (e, glue-ge f (λ s. r) (suc u) (suc u) (omega arith)) z
-
-          edges : (q : ℕ) → E u q r → (f : ℕ → ℕ) → f u ≡ q → ((s : ℕ) → A ≤ s → s < u → E s (f s) (f (suc s))) → (s : ℕ) → A ≤ s → s < suc u → E s (glue f (λ s. r) (suc u) s) (glue f (λ s. r) (suc u) (suc s))
-          edges q e f y es s a b = by (decLt s u)
-            where
-              by : Dec (s < u) → E s (glue f (λ s. r) (suc u) s) (glue f (λ s. r) (suc u) (suc s))
-              by (yes m) = cast refl (sym (glue-lt f (λ s. r) (suc u) s (omega arith))) (sym (glue-lt f (λ s. r) (suc u) (suc s) (omega arith))) (es s a m)
-              by (no m) = let d : s ≡ u = omega arith in cast (sym d) (sym y ∙ (rw d (sym (glue-lt f (λ s. r) (suc u) u (omega arith))))) (sym (glue-ge f (λ s. r) (suc u) (suc s) (omega arith))) e
-
-  -- A path made longer by one transition.
-  pub extend : (A u r : ℕ) (f : ℕ → ℕ) → ((s : ℕ) → A ≤ s → s < u → E s (f s) (f (suc s))) → E u (f u) r → (s : ℕ) → A ≤ s → s < suc u → E s (glue f (λ s. r) (suc u) s) (glue f (λ s. r) (suc u) (suc s))
-  extend A u r f es e s a b = by (decLt s u)
-    where
-      by : Dec (s < u) → E s (glue f (λ s. r) (suc u) s) (glue f (λ s. r) (suc u) (suc s))
-      by (yes m) = cast refl (sym (glue-lt f (λ s. r) (suc u) s (omega arith))) (sym (glue-lt f (λ s. r) (suc u) (suc s) (omega arith))) (es s a m)
-      by (no m) = let d : s ≡ u = omega arith in cast (sym d) (rw d (sym (glue-lt f (λ s. r) (suc u) u (omega arith)))) (sym (glue-ge f (λ s. r) (suc u) (suc s) (omega arith))) e
 
 -- The least value of f at a to a + d.
 unfoldable pub lowest : (ℕ → ℕ) → ℕ → ℕ → ℕ

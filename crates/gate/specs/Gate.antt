@@ -1,12 +1,22 @@
--- Document 01, "The gate questions": what a refusal is, and the conditions in which a lent table is left.
+-- Document 01, "The gate questions": what a refusal is, what an answer is, and the conditions in which a lent table is left.
 use Prim.Native.Nat.{ℕ, _-_}
+use mathlib.Core.Path.{_≡_}
+use mathlib.Core.Bool.{Bool, true, false}
 use mathlib.Core.List.{List, _++_}
-use lib.ListN.{length, replicate}
+use lib.ListN.{length, getD, replicate}
 use Rattle.gate.specs.declared.Refusal.{Refusal}
 
 -- "A refusal is the number with the line"; no number but 10 has a witness
 abbrev pub refusal : ℕ → ℕ → Refusal
 refusal number line = record { number = number; line = line; length = 0 }
+
+-- the answer to the question whether P holds
+abbrev pub Decides : Bool → Type 0 → Type 0
+Decides answer P = (answer ≡ true → P) × (answer ≡ false → P → ⊥)
+
+-- all zero
+abbrev pub Zero : List ℕ → Type 0
+Zero table = (i : ℕ) → getD table i 0 ≡ 0
 
 -- "leave the tables of that call all zero": as long as before, and zero throughout
 abbrev pub cleared : List ℕ → List ℕ

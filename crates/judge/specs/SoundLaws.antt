@@ -9,8 +9,7 @@ use lib.ListN.{length}
 use Rattle.automaton.specs.Automaton.{Automaton, Fits}
 use Rattle.automaton.specs.Meeting.{Free, Everywhere}
 use Rattle.automaton.specs.Reading.{Passes}
-use Rattle.tuple.specs.Step.{run}
-use Rattle.tuple.specs.RunLaws.{entered}
+use Rattle.tuple.specs.Step.{run, entered}
 use Rattle.tuple.specs.Demand.{demand}
 use Rattle.finite.specs.Finite.{lowest}
 use Rattle.plan.specs.Letter.{letterAt}

@@ -11,7 +11,7 @@ use lib.ListN.{length, getD, List·getD-eq-default}
 use Rattle.sets.specs.Sets.{bit}
 use Rattle.automaton.specs.Automaton.{Automaton, Edge, Fits, successorSet}
 use Rattle.automaton.specs.Meeting.{Walk, Meet, Everywhere, Free, Witness, cells}
-use Rattle.pairs.specs.Edges.{walk-in}
+use Rattle.automaton.specs.EdgeLaws.{walk-in}
 use Rattle.pairs.specs.Joining.{Joins, Backwards, meet-joins}
 use Rattle.pairs.specs.Bound.{NoneShorter, shortest-bound}
 use Rattle.known.specs.Below.{any}

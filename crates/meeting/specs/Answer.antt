@@ -1,15 +1,11 @@
 -- Document 01, question 10, "Is the sheet free of meeting walks? No: 10, with the walks", and how its answer is handed over.
 use Prim.Native.Nat.{ℕ, _≤_, _<_}
 use mathlib.Core.Path.{_≡_}
-use mathlib.Core.List.{List}
-use lib.ListN.{length, getD}
+use lib.ListN.{length}
+use Rattle.gate.specs.Gate.{Zero}
 use Rattle.automaton.specs.Automaton.{Automaton, Fits}
 use Rattle.automaton.specs.Meeting.{Free, Witness}
 use Rattle.automaton.specs.Lent.{Tables, Long, SameLengths}
-
--- all zero
-abbrev pub Zero : List ℕ → Type 0
-Zero table = (i : ℕ) → getD table i 0 ≡ 0
 
 -- the questions before are answered yes, and the tables are lent, long enough and all zero
 pub record Asked (A : Automaton) (v : Tables) : Type 0 where

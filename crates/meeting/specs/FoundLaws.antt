@@ -15,7 +15,7 @@ use Rattle.pairs.specs.Extending.{Both, both-start, both-step, both-meet}
 use Rattle.pairs.specs.Bound.{NoneShorter, shortest-136}
 use Rattle.queue.specs.Queue.{pair, origin, depth, one, other, Has}
 use Rattle.meeting.specs.Search.{Sound, AllSound, JoinsOn, Search, Found}
-use Rattle.pairs.specs.Edges.{edge-of, edge-letter, initial-lt}
+use Rattle.automaton.specs.EdgeLaws.{edge-of, edge-letter, initial-lt}
 
 module _ (A : Automaton) (fits : Fits A) (counts : ℕ) (back : Backwards A (Member counts)) (T : List ℕ) (count head : ℕ) (s : Search A counts T count head) where
   -- all pairs of depth below D are done
@@ -50,7 +50,7 @@ module _ (A : Automaton) (fits : Fits A) (counts : ℕ) (back : Backwards A (Mem
       let (u, h, j) = meet-joins A (Member counts) back w t x y m in
       none-joins D done w t x y (m .one) (m .other) u h (omega arith) j
 
-  pub search-shortest : head < count → NoneShorter A (Member counts) (suc (depth (pair T head)))
+  search-shortest : head < count → NoneShorter A (Member counts) (suc (depth (pair T head)))
   search-shortest l = none-within (depth (pair T head)) (λ i h d. at i h d (decLt i head))
     where
       at : (i : ℕ) → i < count → depth (pair T i) < depth (pair T head) → Dec (i < head) → i < head

@@ -2,17 +2,10 @@
 use Prim.Native.Nat.{ℕ}
 use mathlib.Core.Path.{_≡_, subst}
 use mathlib.Core.List.{List}
-use mathlib.Core.Logic.{_↔_}
-use Rattle.sets.specs.Sets.{Member, interOf}
-use Rattle.sets.specs.SetLaws.{some-member, no-member, inter-in, inter-of}
+use Rattle.sets.specs.Sets.{Member}
+use Rattle.sets.specs.SetLaws.{some-member, no-member}
 use Rattle.queue.specs.Queue.{one, other}
 use Rattle.meeting.specs.Search.{Common, JoinsOn}
-
-pub inter-common : (x y counts z : ℕ) → Member (interOf (interOf x y) counts) z ↔ (Member x z × Member y z × Member counts z)
-inter-common x y counts z = (
-  λ h. (let (a, b) = inter-in (interOf x y) counts z h in let (c, d) = inter-in x y z a in (c, d, b)),
-  λ (c, d, b). inter-of (interOf x y) counts z (inter-of x y z c d) b,
-)
 
 pub common-joins : (table : List ℕ) (counts e l r : ℕ) → Common table counts (one e) (other e) l r → (one e ≡ other e → ⊥) → (r ≡ 0 → ⊥) → JoinsOn table counts e l
 common-joins table counts e l r c f g =

@@ -10,9 +10,9 @@ use Rattle.sets.specs.Sets.{Member}
 use Rattle.automaton.specs.Automaton.{Automaton, Edge, Fits}
 use Rattle.automaton.specs.Lent.{tables}
 use Rattle.queue.specs.Queue.{pair, depth, one, other}
-use Rattle.pairs.specs.Edges.{edge-of}
+use Rattle.automaton.specs.EdgeLaws.{edge-of}
 use Rattle.meeting.specs.Trace.{Tail, Traced}
-use Rattle.meeting.specs.Answer.{Zero}
+use Rattle.gate.specs.Gate.{Zero}
 
 module _ (v : List ℕ) (d p z : ℕ) (h : d + 1 < length v) where
   at-last : getD (set (set v d p) (d + 1) z) d 0 ≡ p

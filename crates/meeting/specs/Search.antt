@@ -8,7 +8,7 @@ use Rattle.sets.specs.Sets.{Member}
 use Rattle.automaton.specs.Automaton.{Automaton, Edge, Fits}
 use Rattle.automaton.specs.Meeting.{Free}
 use Rattle.pairs.specs.Bound.{NoneShorter}
-use Rattle.meeting.specs.Answer.{Zero}
+use Rattle.gate.specs.Gate.{Zero}
 use Rattle.queue.specs.Queue.{pair, origin, depth, one, other, Has, Queue, AtMost, Keeps}
 
 -- p and q are initial, on the empty word
@@ -43,7 +43,7 @@ pub record Grown (A : Automaton) (T : List ℕ) (count d : ℕ) (T' : List ℕ) 
   pub most : AtMost T' count' d
 
 -- the pairs of initial states are in the queue, those whose first state is below m
-abbrev pub Begun : Automaton → List ℕ → ℕ → ℕ → Type 0
+abbrev Begun : Automaton → List ℕ → ℕ → ℕ → Type 0
 Begun A T count m = (p q : ℕ) → p < m → Member (A .initial) p → Member (A .initial) q → Has T count 0 p q
 
 -- a table with no pair in it

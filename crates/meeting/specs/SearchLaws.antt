@@ -7,7 +7,7 @@ use native.Mathlib.Decide.{decLt}
 use lib.ListN.{length}
 use Rattle.automaton.specs.Automaton.{Automaton, Fits}
 use Rattle.queue.specs.Queue.{pair, depth, one}
-use Rattle.queue.specs.Rows.{has-longer}
+use Rattle.queue.specs.RowLaws.{has-longer}
 use Rattle.meeting.specs.Search.{Grown, Started, Closed, Ready, JoinsOn, Search}
 
 pub search-start : (A : Automaton) (counts : ℕ) (T : List ℕ) (count : ℕ) → Started A T count 16 → Search A counts T count 0

@@ -9,9 +9,9 @@ use Rattle.sets.specs.Sets.{Member}
 use Rattle.sets.specs.SetLaws.{no-member}
 use Rattle.automaton.specs.Automaton.{Automaton, Fits}
 use Rattle.queue.specs.Queue.{Has, Longer, Below, Open}
-use Rattle.queue.specs.Rows.{has-longer}
+use Rattle.queue.specs.RowLaws.{has-longer}
 use Rattle.meeting.specs.Search.{Empty, Started, Guarded}
-use Rattle.pairs.specs.Edges.{initial-lt}
+use Rattle.automaton.specs.EdgeLaws.{initial-lt}
 use Rattle.meeting.specs.SoundLaws.{sound-longer}
 
 pub start-empty : (A : Automaton) (T : List ℕ) → Empty T → Started A T 0 0

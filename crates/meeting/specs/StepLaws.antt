@@ -7,9 +7,9 @@ use native.Mathlib.Omega.{arith}
 use native.Mathlib.Decide.{decLt}
 use Rattle.automaton.specs.Automaton.{Automaton, Edge, Fits, successorSet}
 use Rattle.queue.specs.Queue.{pair, depth, one, other, Has, Queue, AtMost, Longer, Below, Open}
-use Rattle.queue.specs.Rows.{has-longer}
+use Rattle.queue.specs.RowLaws.{has-longer}
 use Rattle.meeting.specs.Search.{Arrives, AllSound, Grown, Guarded, Stepped, Closed}
-use Rattle.pairs.specs.Edges.{edge-of, edge-to}
+use Rattle.automaton.specs.EdgeLaws.{edge-of, edge-to}
 use Rattle.meeting.specs.SoundLaws.{sound-longer}
 
 pub grown-none : (A : Automaton) (T : List ℕ) (count d : ℕ) → Queue T count → AllSound A T count → AtMost T count d → Grown A T count d T count

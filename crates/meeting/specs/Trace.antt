@@ -2,12 +2,16 @@
 use Prim.Native.Nat.{ℕ, suc, _/_, _≤_, _<_}
 use mathlib.Core.Path.{_≡_}
 use mathlib.Core.List.{List}
-use lib.ListN.{length, getD}
+use lib.ListN.{length, getD, set}
 use Rattle.sets.specs.Sets.{Member}
 use Rattle.automaton.specs.Automaton.{Automaton, Edge}
-use Rattle.automaton.specs.Lent.{Tables}
+use Rattle.automaton.specs.Lent.{Tables, tables}
 use Rattle.queue.specs.Queue.{pair, origin, depth, one, other}
 use Rattle.meeting.specs.Search.{AllSound}
+
+-- the tables with letter l and the states of pair e at time t
+abbrev pub noted : Tables → ℕ → ℕ → ℕ → Tables
+noted v t l e = tables (set (v .word) t l) (set (v .one) t (one e)) (set (v .other) t (other e))
 
 -- the end of a walk, from time t to d + 1, with zeros behind
 pub record Tail (A : Automaton) (d t : ℕ) (word states : List ℕ) : Type 0 where

@@ -8,10 +8,10 @@ use native.Mathlib.Decide.{ℕ-discrete}
 use lib.ListN.{length, getD, set}
 use lib.Seq.{getD-set-same, getD-set-other}
 use Rattle.automaton.specs.Automaton.{Automaton, Edge}
-use Rattle.automaton.specs.Lent.{Tables, tables}
+use Rattle.automaton.specs.Lent.{Tables}
 use Rattle.queue.specs.Queue.{pair, origin, depth, one, other}
 use Rattle.meeting.specs.Search.{Sound, AllSound, Next}
-use Rattle.meeting.specs.Trace.{Tail, Traced, Linked, Leads}
+use Rattle.meeting.specs.Trace.{noted, Tail, Traced, Linked, Leads}
 
 tail-step : (A : Automaton) (d u : ℕ) (word states : List ℕ) (l p : ℕ) → u < d → u < length word → u < length states
     → Edge A l p (getD states (suc u) 0) → Tail A d (suc u) word states → Tail A d u (set word u l) (set states u p)
@@ -26,15 +26,15 @@ tail-step A d u word states l p h hw hs e t = record {
     by s x y (no z) = rw (getD-set-other word u s l 0 z, getD-set-other states u s p 0 z, getD-set-other states u (suc s) p 0 (λ v. omega arith)) (t .goes s (omega arith) y)
 
 -- a pair at a depth above 0 comes from an earlier pair
-pub comes-from : (A : Automaton) (T : List ℕ) (i : ℕ) → 0 < depth (pair T i) → Sound A T i → Next A T i (depth (pair T i)) (one (pair T i)) (other (pair T i)) (origin T i)
+comes-from : (A : Automaton) (T : List ℕ) (i : ℕ) → 0 < depth (pair T i) → Sound A T i → Next A T i (depth (pair T i)) (one (pair T i)) (other (pair T i)) (origin T i)
 comes-from A T i h (inl f) = absurd (let z = f .deep in omega arith)
 comes-from A T i h (inr n) = n
 
 module _ (A : Automaton) (counts : ℕ) (T : List ℕ) (head d t i : ℕ) (word first second : List ℕ) (sound : AllSound A T (suc head)) (x : Traced A counts T head d t i word first second) where
-  pub trace-next : 0 < t → Next A T i t (one (pair T i)) (other (pair T i)) (origin T i)
+  trace-next : 0 < t → Next A T i t (one (pair T i)) (other (pair T i)) (origin T i)
   trace-next h = let e = x .deep in let b = x .before in subst (λ (z : ℕ). Next A T i z (one (pair T i)) (other (pair T i)) (origin T i)) e (comes-from A T i (omega arith) (sound i (omega arith)))
 
-  pub trace-step : (o e u : ℕ) → t ≡ suc u → o ≡ origin T i → e ≡ pair T (o / 8) → d < length word → d < length first → d < length second
+  trace-step : (o e u : ℕ) → t ≡ suc u → o ≡ origin T i → e ≡ pair T (o / 8) → d < length word → d < length first → d < length second
       → Traced A counts T head d u (o / 8) (set word u (o % 8)) (set first u (one e)) (set second u (other e))
   trace-step o e u z ho he hw hf hs =
       let b = x .before in
@@ -63,8 +63,7 @@ module _ (A : Automaton) (counts : ℕ) (T : List ℕ) (head d t i : ℕ) (word 
 pub linked : (A : Automaton) (T : List ℕ) (head : ℕ) → AllSound A T (suc head) → Linked T head
 linked A T head sound i l h = let n = comes-from A T i h (sound i (omega arith)) in (n .earlier, n .deep)
 
-pub leads-step : (T : List ℕ) (head d t i : ℕ) (v : Tables) (word first second : List ℕ) (o e u : ℕ) → t ≡ suc u → o ≡ origin T i → e ≡ pair T (o / 8)
-    → d < length word → d < length first → d < length second → Leads T head d t i v (tables word first second)
-    → Leads T head d u (o / 8) v (tables (set word u (o % 8)) (set first u (one e)) (set second u (other e)))
-leads-step T head d t i v word first second o e u z ho he hw hf hs g A counts sound x =
-    trace-step A counts T head d t i word first second sound (g A counts sound x) o e u z ho he hw hf hs
+pub leads-step : (T : List ℕ) (head d t i : ℕ) (v w : Tables) (o e u : ℕ) → t ≡ suc u → o ≡ origin T i → e ≡ pair T (o / 8)
+    → d < length (w .word) → d < length (w .one) → d < length (w .other) → Leads T head d t i v w → Leads T head d u (o / 8) v (noted w u (o % 8) e)
+leads-step T head d t i v w o e u z ho he hw hf hs g A counts sound x =
+    trace-step A counts T head d t i (w .word) (w .one) (w .other) sound (g A counts sound x) o e u z ho he hw hf hs

@@ -13,14 +13,14 @@ use Rattle.automaton.specs.Meeting.{Walk, Witness, cells}
 use Rattle.automaton.specs.Lent.{Tables, tables}
 use Rattle.queue.specs.Queue.{pair, depth, one, other}
 use Rattle.meeting.specs.Search.{Sound, JoinsOn, Common, Joining, Found}
-use Rattle.meeting.specs.Trace.{Tail, Traced, Leads}
+use Rattle.meeting.specs.Trace.{noted, Tail, Traced, Leads}
 use Rattle.meeting.specs.Answer.{Asked}
 use Rattle.meeting.specs.LastLetterLaws.{trace-start}
 
 whole : (A : Automaton) (d : ℕ) (word states : List ℕ) → Member (A .initial) (getD states 0 0) → Tail A d 0 word states → Walk A (cells word) (suc d) (cells states)
 whole A d word states m t = record { starts = m; goes = λ s l. t .goes s (omega arith) (omega arith) }
 
-pub traced-witness : (A : Automaton) (counts : ℕ) (T : List ℕ) (head d i : ℕ) (word first second : List ℕ) → d ≡ depth (pair T head) → Found A counts T head
+traced-witness : (A : Automaton) (counts : ℕ) (T : List ℕ) (head d i : ℕ) (word first second : List ℕ) → d ≡ depth (pair T head) → Found A counts T head
     → Traced A counts T head d 0 i word first second → Witness A (Member counts) (suc d) word first second
 traced-witness A counts T head d i word first second e f x = go (f .sound i (let b = x .before in omega arith))
   where
@@ -51,12 +51,12 @@ found-letter A counts T head e l f h j = by (decLt l 8)
     by (yes k) = k
     by (no k) = let m = f .low in absurd (j .none (f .letter) (omega arith) (subst (λ (x : ℕ). JoinsOn (A .table) counts x (f .letter)) (sym h) (f .joins)))
 
--- the tables once the last letter is written
-abbrev pub lastStep : Tables → ℕ → ℕ → ℕ → Tables
-lastStep v e l z = tables (set (v .word) (depth e) l) (set (set (v .one) (depth e) (one e)) (depth e + 1) z) (set (set (v .other) (depth e) (other e)) (depth e + 1) z)
+-- tables v with state z behind the last letter of both walks
+abbrev pub ended : Tables → ℕ → ℕ → Tables
+ended v d z = tables (v .word) (set (v .one) (d + 1) z) (set (v .other) (d + 1) z)
 
 pub witness-of : (A : Automaton) (counts : ℕ) (T : List ℕ) (head e l r z i : ℕ) (v w : Tables) → Asked A v → Found A counts T head → e ≡ pair T head
-    → Joining (A .table) counts e l → Common (A .table) counts (one e) (other e) l r → Member r z → Leads T head (depth e) 0 i (lastStep v e l z) w
+    → Joining (A .table) counts e l → Common (A .table) counts (one e) (other e) l r → Member r z → Leads T head (depth e) 0 i (ended (noted v (depth e) l e) (depth e) z) w
     → Witness A (Member counts) (depth e + 1) (w .word) (w .one) (w .other)
 witness-of A counts T head e l r z i v w a f he j c m g =
     let low = found-letter A counts T head e l f he j in

@@ -10,7 +10,7 @@ ghost use Rattle.automaton.specs.Lent.{tables};
 ghost use Rattle.meeting.specs.Answer.{Asked, Answered};
 ghost use Rattle.queue.specs.Queue.{pair, depth};
 ghost use Rattle.meeting.specs.Search.{Empty, Grown, Started, Guarded, Ready, Closed, Common, Joining, Explored, Found};
-ghost use Rattle.meeting.specs.Trace.{Traceable, Leads};
+ghost use Rattle.meeting.specs.Trace.{noted, Traceable, Leads};
 use automaton::Numbers;
 
 // The set y where p is a member of x, and else the empty set.
@@ -122,6 +122,16 @@ fn member(set: u16) -> usize
     q
 }
 
+// Letter l and the states of pair e at time t.
+fn note(word: &mut [u16], one: &mut [u16], other: &mut [u16], t: usize, l: usize, e: usize)
+    requires { ⌜ (l < 8) × (t < length (now word)) × (t < length (now one)) × (t < length (now other)) ⌝ }
+    ensures { λ _. ⌜ tables (now (word .exit)) (now (one .exit)) (now (other .exit)) ≡ noted (tables (now (word .entry)) (now (one .entry)) (now (other .entry))) t l e ⌝ }
+{
+    word[t] = l as u16;
+    one[t] = (e / 16 % 16) as u16;
+    other[t] = (e % 16) as u16;
+}
+
 // From pair head, d letters deep, back to a pair of initial states.
 fn trace(queue: &[u16], head: usize, d: usize, word: &mut [u16], one: &mut [u16], other: &mut [u16])
     requires { ⌜ Traceable (now queue) head d (tables (now word) (now one) (now other)) ⌝ }
@@ -132,11 +142,8 @@ fn trace(queue: &[u16], head: usize, d: usize, word: &mut [u16], one: &mut [u16]
     while 0 < t {
         let o = queue::number(queue, 256 + i);
         i = o / 8;
-        let e = queue::number(queue, i);
         t -= 1;
-        word[t] = (o % 8) as u16;
-        one[t] = (e / 16 % 16) as u16;
-        other[t] = (e % 16) as u16;
+        note(word, one, other, t, o % 8, queue::number(queue, i));
     }
 }
 
@@ -160,9 +167,7 @@ fn witness(
     let q = e % 16;
     let l = joining(table, counts, e);
     let z = member(common(table, counts, p, q, l)) as u16;
-    word[d] = l as u16;
-    one[d] = p as u16;
-    other[d] = q as u16;
+    note(word, one, other, d, l, e);
     one[d + 1] = z;
     other[d + 1] = z;
     trace(queue, head, d, word, one, other);

@@ -7,7 +7,7 @@ use native.Mathlib.Decide.{decLe}
 use Rattle.finite.specs.Finite.{pigeon}
 use Rattle.automaton.specs.Automaton.{Automaton, Fits}
 use Rattle.automaton.specs.Meeting.{Walk, Meet}
-use Rattle.pairs.specs.Edges.{walk-in}
+use Rattle.automaton.specs.EdgeLaws.{walk-in}
 use Rattle.pairs.specs.Triangle.{triangle, triangle-is, triangle-most, pairNumber, pair-lt, pair-same}
 use Rattle.pairs.specs.Joining.{Backwards, Joins, shorter, joins-meet, meet-joins}
 use Rattle.pairs.specs.Cutting.{cut-meet}

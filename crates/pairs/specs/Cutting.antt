@@ -4,38 +4,35 @@ use mathlib.Core.Path.{_≡_, sym, _∙_, ap, subst}
 use native.Mathlib.Omega.{arith}
 use native.Mathlib.Decide.{decLt}
 use Rattle.sets.specs.Sets.{Member}
-use Rattle.finite.specs.Finite.{glue, glue-lt, glue-ge}
+use Rattle.finite.specs.Finite.{glue, glue-lt, glue-ge, joined}
 use Rattle.automaton.specs.Automaton.{Automaton, Edge}
 use Rattle.automaton.specs.Meeting.{Walk, Meet}
 use Rattle.pairs.specs.Joining.{Joins, joins-meet}
 
 -- f before time u, and from there on what g has d places later
-abbrev pub cut : (ℕ → ℕ) → (ℕ → ℕ) → ℕ → ℕ → ℕ → ℕ
+abbrev cut : (ℕ → ℕ) → (ℕ → ℕ) → ℕ → ℕ → ℕ → ℕ
 cut f g u d = glue f (λ i. g (i + d)) u
 
 cut-late : (f g : ℕ → ℕ) (u d s i : ℕ) → u ≤ i → i + d ≡ s → cut f g u d i ≡ g s
 cut-late f g u d s i l e = glue-ge f (λ i. g (i + d)) u i l ∙ ap g e
 
-edge : {A : Automaton} {a b q q' r r' : ℕ} → a ≡ b → q ≡ q' → r ≡ r' → Edge A a q r → Edge A b q' r'
-edge a b c x = rw (← a, ← b, ← c) x
-
 -- walk x for u letters, then walk z from d letters later, where it is in the same state
-pub cut-walk : (A : Automaton) (w x z : ℕ → ℕ) (t u d : ℕ) → u + d ≤ t → x u ≡ z (u + d) → Walk A w t x → Walk A w t z → Walk A (cut w w u d) (t - d) (cut x z u d)
-cut-walk A w x z t u d l e v v' = record { starts = start (decLt 0 u); goes = λ i m. by i m (decLt i u) (decLt (suc i) u) }
+cut-walk : (A : Automaton) (w x z : ℕ → ℕ) (t u d : ℕ) → u + d ≤ t → x u ≡ z (u + d) → Walk A w t x → Walk A w t z
+    → Walk A (cut w w u d) (t - d) (cut x z u d)
+cut-walk A w x z t u d l e v v' = record {
+  starts = start (decLt 0 u);
+  goes = joined (λ s. Edge A (cut w w u d s)) x (λ i. z (i + d)) u (t - d) e
+      (λ s a. rw (glue-lt w (λ i. w (i + d)) u s a) (v .goes s (omega arith)))
+      (λ s a b.
+      let k : suc s + d ≡ suc (s + d) = omega arith in
+      rw (glue-ge w (λ i. w (i + d)) u s a, k) (v' .goes (s + d) (omega arith)));
+}
   where
     start : Dec (0 < u) → Member (A .initial) (cut x z u d 0)
     start (yes m) = rw (glue-lt x (λ i. z (i + d)) u 0 m) (v .starts)
     start (no m) =
         let o : u ≡ 0 = omega arith in
         subst (Member (A .initial)) (ap x (sym o) ∙ e ∙ ap (λ i. z (i + d)) o ∙ sym (glue-ge x (λ i. z (i + d)) u 0 (omega arith))) (v .starts)
-
-    by : (i : ℕ) → i < t - d → Dec (i < u) → Dec (suc i < u) → Edge A (cut w w u d i) (cut x z u d i) (cut x z u d (suc i))
-    by i m (yes a) (yes b) = edge (sym (glue-lt w (λ i. w (i + d)) u i a)) (sym (glue-lt x (λ i. z (i + d)) u i a)) (sym (glue-lt x (λ i. z (i + d)) u (suc i) b)) (v .goes i (omega arith))
-    by i m (yes a) (no b) =
-        let o : suc i ≡ u = omega arith in
-        edge (sym (glue-lt w (λ i. w (i + d)) u i a)) (sym (glue-lt x (λ i. z (i + d)) u i a)) (ap x o ∙ e ∙ ap (λ i. z (i + d)) (sym o) ∙ sym (glue-ge x (λ i. z (i + d)) u (suc i) (omega arith))) (v .goes i (omega arith))
-    by i m (no a) b =
-        edge (sym (glue-ge w (λ i. w (i + d)) u i (omega arith))) (sym (glue-ge x (λ i. z (i + d)) u i (omega arith))) (ap z (omega arith) ∙ sym (glue-ge x (λ i. z (i + d)) u (suc i) (omega arith))) (v' .goes (i + d) (omega arith))
 
 -- Walks x and y join after s letters; walks p and q on the same word are at time u where x and y are at time u + d.
 pub cut-meet : (A : Automaton) (Counts : ℕ → Type 0) (w p q x y : ℕ → ℕ) (s u d : ℕ) → u + d ≤ s → p u ≡ x (u + d) → q u ≡ y (u + d)

@@ -1,10 +1,9 @@
 -- Two walks on one word, made longer by one letter. Assumes nothing.
-use Prim.Native.Nat.{ℕ, suc, _<_}
-use mathlib.Core.Path.{_≡_, refl, sym, _∙_, ap, subst}
+use Prim.Native.Nat.{ℕ, suc}
+use mathlib.Core.Path.{_≡_, refl, sym, _∙_, subst}
 use native.Mathlib.Omega.{arith}
-use native.Mathlib.Decide.{decLt}
 use Rattle.sets.specs.Sets.{Member}
-use Rattle.finite.specs.Finite.{glue, glue-lt, glue-ge}
+use Rattle.finite.specs.Finite.{glue, glue-lt, glue-ge, extend}
 use Rattle.automaton.specs.Automaton.{Automaton, Edge}
 use Rattle.automaton.specs.Meeting.{Walk, Meet}
 
@@ -18,17 +17,14 @@ pub record Both (A : Automaton) (t q r : ℕ) : Type 0 where
   pub end-one : one t ≡ q
   pub end-other : other t ≡ r
 
-edge : {A : Automaton} {l m q q' r r' : ℕ} → l ≡ m → q ≡ q' → r ≡ r' → Edge A l q r → Edge A m q' r'
-edge a b c x = rw (← a, ← b, ← c) x
-
-walk-step : (A : Automaton) (w x : ℕ → ℕ) (t l z : ℕ) → Walk A w t x → Edge A l (x t) z → Walk A (glue w (λ s. l) t) (suc t) (glue x (λ s. z) (suc t))
-walk-step A w x t l z v e = record { starts = rw (glue-lt x (λ s. z) (suc t) 0 (omega arith)) (v .starts); goes = λ s h. by s h (decLt s t) }
-  where
-    by : (s : ℕ) → s < suc t → Dec (s < t) → Edge A (glue w (λ s. l) t s) (glue x (λ s. z) (suc t) s) (glue x (λ s. z) (suc t) (suc s))
-    by s h (yes m) = edge (sym (glue-lt w (λ s. l) t s m)) (sym (glue-lt x (λ s. z) (suc t) s h)) (sym (glue-lt x (λ s. z) (suc t) (suc s) (omega arith))) (v .goes s m)
-    by s h (no m) =
-        let d : t ≡ s = omega arith in
-        edge (sym (glue-ge w (λ s. l) t s (omega arith))) (ap x d ∙ sym (glue-lt x (λ s. z) (suc t) s h)) (sym (glue-ge x (λ s. z) (suc t) (suc s) (omega arith))) e
+walk-step : (A : Automaton) (w x : ℕ → ℕ) (t l z : ℕ) → Walk A w t x → Edge A l (x t) z
+    → Walk A (glue w (λ s. l) t) (suc t) (glue x (λ s. z) (suc t))
+walk-step A w x t l z v e = record {
+  starts = rw (glue-lt x (λ s. z) (suc t) 0 (omega arith)) (v .starts);
+  goes = λ s h. extend (λ s. Edge A (glue w (λ s. l) t s)) 0 t z x
+      (λ s a b. rw (glue-lt w (λ s. l) t s b) (v .goes s b))
+      (rw (glue-ge w (λ s. l) t t (omega arith)) e) s (omega arith) h;
+}
 
 -- on the empty word
 pub both-start : (A : Automaton) (q r : ℕ) → Member (A .initial) q → Member (A .initial) r → Both A 0 q r

@@ -1,4 +1,3 @@
-pub mod Edges
 pub mod Triangle
 pub mod Joining
 pub mod Extending

@@ -1,5 +1,4 @@
-pub mod Membership
 pub mod Queue
-pub mod Room
-pub mod Push
-pub mod Rows
+pub mod RoomLaws
+pub mod PushLaws
+pub mod RowLaws

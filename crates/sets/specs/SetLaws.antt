@@ -1,17 +1,15 @@
 -- The members of a set decide it, and the operations on sets are those on members. Assumes nothing.
 use Prim.Native.Nat.{ℕ, zero, suc, _+_, _-_, _*_, _/_, _%_, _^_, _≤_, _<_, min, max}
-use mathlib.Core.Path.{_≡_, refl, sym, ap, ap₂, subst, _∙_}
-use mathlib.Core.Logic.{_⊎_, inl, inr}
-use mathlib.Core.Bool.{true}
+use mathlib.Core.Path.{_≡_, refl, sym, ap, subst, _∙_}
+use mathlib.Core.Logic.{_⊎_, inl, inr, _↔_}
 use native.Mathlib.Omega.{arith}
 use native.Mathlib.Decide.{decLt, ℕ-discrete}
 use native.Mathlib.Nat.{zero-div, div-one, one-mul, div-div-eq-div-mul, pow-succ', pow-suc, mod-lt, mod-eq-of-lt, div-eq-of-lt, lt-of-lt-of-le}
 use native.Mathlib.Numerals.{one-add}
 use lib.Arith.{bin-ind, digits-lt}
 use lib.Pow.{pow-pos, pow-mono, mod-pow-add, mod-mod-pow, shl-shr, field, high, low}
-use lib.Bits.{bitAnd, bitOr, bitXor, differ, and-shr, or-shr, xor-shr, and-step, or-step, xor-step, or-lt}
-use borrow.Author.Tests.{eq-eqb, eqb-true}
-use Rattle.sets.specs.Sets.{bit, Member, setOf, unionOf, interOf, minusOf, isWithin}
+use lib.Bits.{bitAnd, bitOr, bitXor, differ, and-shr, or-shr, xor-shr, and-step, or-step, xor-step}
+use Rattle.sets.specs.Sets.{bit, Member, setOf, unionOf, interOf, minusOf}
 
 -- Bits
 
@@ -35,7 +33,7 @@ bit-union x y q =
     ap (_% 2) (or-shr x y q)
     ∙ lowest (bitOr (x / 2 ^ q) (y / 2 ^ q)) (bitOr (x / 2 ^ q / 2) (y / 2 ^ q / 2)) (max (bit x q) (bit y q)) (or-step (x / 2 ^ q) (y / 2 ^ q)) (omega arith)
 
-pub bit-inter : (x y q : ℕ) → bit (interOf x y) q ≡ min (bit x q) (bit y q)
+bit-inter : (x y q : ℕ) → bit (interOf x y) q ≡ min (bit x q) (bit y q)
 unfolding bit interOf
 bit-inter x y q =
     ap (_% 2) (and-shr x y q)
@@ -83,6 +81,9 @@ some-member = bin-ind (λ x. (x ≡ 0 → ⊥) → (q : ℕ) × Member x q) (λ 
     by x f ih (yes e) = (0, bit-first x ∙ e)
     by x f ih (no e) = let (q, h) = ih (λ g. f (omega arith)) in (suc q, bit-half x q ∙ h)
 
+pub not-empty : (x : ℕ) → (q : ℕ) × Member x q → x ≡ 0 → ⊥
+not-empty x (q, h) e = no-member q (subst (λ (z : ℕ). Member z q) e h)
+
 pub ext : (x y : ℕ) → ((q : ℕ) → bit x q ≡ bit y q) → x ≡ y
 ext = bin-ind (λ x. (y : ℕ) → ((q : ℕ) → bit x q ≡ bit y q) → x ≡ y)
     (λ y h. none y h (ℕ-discrete 0 y))
@@ -128,6 +129,13 @@ inter-in x y q h = (omega (arith, bit-inter x y q, bit-lt x q, bit-lt y q), omeg
 pub inter-of : (x y q : ℕ) → Member x q → Member y q → Member (interOf x y) q
 inter-of x y q h k = omega (arith, bit-inter x y q)
 
+-- what all three have
+pub inter-both : (x y z q : ℕ) → Member (interOf (interOf x y) z) q ↔ (Member x q × Member y q × Member z q)
+inter-both x y z q = (
+  λ h. (let (a, b) = inter-in (interOf x y) z q h in let (c, d) = inter-in x y q a in (c, d, b)),
+  λ (c, d, b). inter-of (interOf x y) z q (inter-of x y q c d) b,
+)
+
 pub minus-left : (x y q : ℕ) → Member (minusOf x y) q → Member x q
 minus-left x y q h = omega (arith, bit-minus x y q, bit-lt x q)
 
@@ -137,21 +145,31 @@ minus-not x y q h k = omega (arith, bit-minus x y q, bit-lt x q)
 pub minus-of : (x y q : ℕ) → Member x q → (Member y q → ⊥) → Member (minusOf x y) q
 minus-of x y q h k = omega (arith, bit-minus x y q, bit-out y q k)
 
-pub within-is : (x y : ℕ) → isWithin x y ≡ true → (q : ℕ) → Member x q → Member y q
-unfolding isWithin
-within-is x y e q h = by (member-dec y q)
+-- what is in x and not in the rest that y leaves of it is in y
+pub minus-else : (x y q : ℕ) → (Member (minusOf x y) q → ⊥) → Member x q → Member y q
+minus-else x y q f h = by (member-dec y q)
   where
     by : Dec (Member y q) → Member y q
-    by (yes k) = k
-    by (no k) = absurd (no-member q (subst (λ (z : ℕ). Member z q) (eqb-true (minusOf x y) 0 e) (minus-of x y q h k)))
+    by (yes m) = m
+    by (no m) = absurd (f (minus-of x y q h m))
 
-pub within-of : (x y : ℕ) → ((q : ℕ) → Member x q → Member y q) → isWithin x y ≡ true
-unfolding isWithin
-within-of x y f = eq-eqb (minusOf x y) 0 (by (ℕ-discrete (minusOf x y) 0))
-  where
-    by : Dec (minusOf x y ≡ 0) → minusOf x y ≡ 0
-    by (yes e) = e
-    by (no e) = let (q, h) = some-member (minusOf x y) e in absurd (minus-not x y q h (f q (minus-left x y q h)))
+-- Differences and unions
+
+pub zero-minus : (x : ℕ) → minusOf 0 x ≡ 0
+zero-minus x = ext (minusOf 0 x) 0 (λ q. omega (arith, bit-minus 0 x q, bit-zero q))
+
+pub minus-zero : (x : ℕ) → minusOf x 0 ≡ x
+minus-zero x = ext (minusOf x 0) x (λ q. omega (arith, bit-minus x 0 q, bit-zero q))
+
+pub minus-minus : (x y z : ℕ) → minusOf (minusOf x y) z ≡ minusOf x (unionOf y z)
+minus-minus x y z =
+    ext (minusOf (minusOf x y) z) (minusOf x (unionOf y z))
+    (λ q. omega (arith, bit-minus (minusOf x y) z q, bit-minus x y q, bit-minus x (unionOf y z) q, bit-union y z q, bit-lt x q))
+
+pub union-minus : (x y z : ℕ) → unionOf (minusOf x z) (minusOf y z) ≡ minusOf (unionOf x y) z
+union-minus x y z =
+    ext (unionOf (minusOf x z) (minusOf y z)) (minusOf (unionOf x y) z)
+    (λ q. omega (arith, bit-union (minusOf x z) (minusOf y z) q, bit-minus x z q, bit-minus y z q, bit-minus (unionOf x y) z q, bit-union x y q))
 
 -- Sets of numbers below n are the numbers below 2^n
 
@@ -166,7 +184,7 @@ member-lt x n q h e = by (decLt q n)
     by (yes l) = l
     by (no l) = absurd (let z = bit-high x n q h (omega arith) in omega arith)
 
-pub bit-mod : (x n q : ℕ) → q < n → bit (x % 2 ^ n) q ≡ bit x q
+bit-mod : (x n q : ℕ) → q < n → bit (x % 2 ^ n) q ≡ bit x q
 unfolding bit
 bit-mod x n q k =
     let e : n ≡ (n - (1 + q)) + (1 + q) = omega arith in
@@ -184,29 +202,14 @@ small-of-within x n w = subst (λ (z : ℕ). z < 2 ^ n) (ext (x % 2 ^ n) x (λ q
     at q (yes l) = bit-mod x n q l
     at q (no l) = bit-high (x % 2 ^ n) n q lower (omega arith) ∙ sym (bit-out x q (λ e. l (w q e)))
 
-pub union-lt : (x y n : ℕ) → x < 2 ^ n → y < 2 ^ n → unionOf x y < 2 ^ n
-unfolding unionOf
-union-lt x y n h k = or-lt n x y h k
-
-pub inter-lt : (x y n : ℕ) → x < 2 ^ n → interOf x y < 2 ^ n
-inter-lt x y n h = small-of-within (interOf x y) n (λ q e. member-lt x n q h (inter-in x y q e .0))
-
-pub minus-lt : (x y n : ℕ) → x < 2 ^ n → minusOf x y < 2 ^ n
-minus-lt x y n h = small-of-within (minusOf x y) n (λ q e. member-lt x n q h (minus-left x y q e))
-
 -- A set is the sum of 2^q over its members q
 
-pub setOf-lt : (n : ℕ) (f : ℕ → ℕ) → ((q : ℕ) → f q < 2) → setOf n f < 2 ^ n
+setOf-lt : (n : ℕ) (f : ℕ → ℕ) → ((q : ℕ) → f q < 2) → setOf n f < 2 ^ n
 unfolding setOf
 setOf-lt zero f h = omega arith
 setOf-lt (suc n) f h = rw pow-suc (omega (arith, digits-lt (h n) (setOf-lt n f h)))
 
-pub setOf-ext : (n : ℕ) (f g : ℕ → ℕ) → ((q : ℕ) → q < n → f q ≡ g q) → setOf n f ≡ setOf n g
-unfolding setOf
-setOf-ext zero f g h = refl
-setOf-ext (suc n) f g h = ap₂ (λ (a b : ℕ). a + b * 2 ^ n) (setOf-ext n f g (λ q k. h q (omega arith))) (h n (omega arith))
-
-pub setOf-bit : (n x : ℕ) → setOf n (bit x) ≡ x % 2 ^ n
+setOf-bit : (n x : ℕ) → setOf n (bit x) ≡ x % 2 ^ n
 unfolding setOf bit
 setOf-bit zero x = omega arith
 setOf-bit (suc n) x = rw (← one-add n, mod-pow-add) (omega (arith, setOf-bit n x))
@@ -230,6 +233,13 @@ bit-setOf (suc n) f h q k = elim (decLt q n) [ yes l ↦ below l (bit-setOf n f 
 
 pub set-is-sum : (n x : ℕ) → x < 2 ^ n → setOf n (bit x) ≡ x
 set-is-sum n x h = setOf-bit n x ∙ mod-eq-of-lt h
+
+all-16 : setOf 16 (λ q. 1) ≡ 65535
+unfolding setOf
+all-16 = refl
+
+pub all-members : (q : ℕ) → q < 16 → Member 65535 q
+all-members q l = ap (λ (x : ℕ). bit x q) (sym all-16) ∙ bit-setOf 16 (λ q. 1) (λ q. omega arith) q l
 
 -- The set whose only member is r is 2^r
 

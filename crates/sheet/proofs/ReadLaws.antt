@@ -6,14 +6,14 @@ use mathlib.Core.Logic._⊎_.{inr}
 use native.Mathlib.Omega.{arith}
 use lib.ListN.{length, take, replicate, length-set, length-replicate}
 use lib.Seq.{take-at}
-use Rattle.gate.specs.Gate.{cleared}
+use Rattle.gate.specs.Gate.{Zero, cleared}
+use Rattle.gate.specs.GateLaws.{zero-cleared}
 use Rattle.gate.specs.declared.Refusal.{Refusal}
 use Rattle.automaton.specs.Automaton.{Automaton, automaton, Fits}
 use Rattle.automaton.specs.declared.Numbers.{Numbers}
 use Rattle.automaton.specs.Meeting.{Everywhere}
 use Rattle.automaton.specs.Lent.{Tables, tables, Long, clearedTables}
-use Rattle.meeting.specs.Answer.{Zero, Asked, Answered}
-use Rattle.meeting.specs.AnswerLaws.{zero-cleared}
+use Rattle.meeting.specs.Answer.{Asked, Answered}
 use Rattle.format.specs.Format.{Sheet, Transition, entered, tableOf, numbers}
 use Rattle.format.specs.NumbersLaws.{sheet-fits}
 use Rattle.sheet.specs.Read.{AreNumbers, lentTable}

@@ -1,7 +1,7 @@
 -- docs/THEORY.md, section 3 (ii): for any endless word, with the premise LPO, there is a path through place i, and a least colour entered without end.
 use Prim.Native.Nat.{ℕ, zero, suc, _+_, _*_, _-_, _≤_, _<_}
 use mathlib.Core.Path.{_≡_, refl, sym, subst}
-use mathlib.Core.Logic.{_⊎_, inl, inr}
+use mathlib.Core.Logic.{_⊎_, inl, inr, Dec·and}
 use native.Mathlib.Omega.{arith}
 use native.Mathlib.Decide.{ℕ-discrete}
 use mathlib.Core.Bool.{Bool, true, false}
@@ -60,13 +60,8 @@ module _ (h : LPO) (n : ℕ) (E : ℕ → ℕ → ℕ → Type 0) (decE : (t q r
 
   decAlive : (d t q : ℕ) → Dec (Alive d t q)
   decAlive zero t q = yes tt
-  decAlive (suc d) t q = by (find (λ r. E t q r × Alive d (suc t) r) (λ r. both (decE t q r) (decAlive d (suc t) r)) n)
+  decAlive (suc d) t q = by (find (λ r. E t q r × Alive d (suc t) r) (λ r. Dec·and (decE t q r) (decAlive d (suc t) r)) n)
     where
-      both : {X Y : Type 0} → Dec X → Dec Y → Dec (X × Y)
-      both (yes x) (yes y) = yes (x, y)
-      both (yes x) (no y) = no (λ z. y (z .1))
-      both (no x) y = no (λ z. x (z .0))
-
       by : ((r : ℕ) × (r < n) × (E t q r × Alive d (suc t) r)) ⊎ ((r : ℕ) → r < n → E t q r × Alive d (suc t) r → ⊥)
           → Dec ((r : ℕ) × (r < n) × E t q r × Alive d (suc t) r)
       by (inl (r, l, x)) = yes (r, l, x .0, x .1)

@@ -2,7 +2,8 @@
 use Prim.Native.Nat.{ℕ, suc, _+_, _*_, _-_, _≤_, _<_}
 use mathlib.Core.Path.{_≡_, sym, _∙_, ap}
 use native.Mathlib.Omega.{arith}
-use Rattle.finite.specs.Finite.{pigeon, loop, shift, mul-mono, split-mul, mul-pos}
+use native.Mathlib.Nat.{mul-le-mul-right}
+use Rattle.finite.specs.Finite.{pigeon, loop, shift}
 use Rattle.theory.specs.Run.{Run, Path}
 use Rattle.theory.specs.Basic.{inside, lead-in}
 use Rattle.theory.specs.Even.{Through, path-inside}
@@ -31,16 +32,16 @@ module _ {n : ℕ} {E M S U W : ℕ → ℕ → ℕ → Type 0} {K : ℕ → ℕ
         (goes : (s : ℕ) → t₀ < s → s < suc t₀ + n * P → E s (f s) (f (suc s))) where
       below : (k : ℕ) → k ≤ n → f (suc t₀ + k * P) < n
       below k l =
-          let m = mul-mono k n P l in
+          let m = mul-le-mul-right P l in
           R .state (suc t₀ + k * P) i (f (suc t₀ + k * P)) (sets (suc t₀ + k * P) (omega arith) (omega arith))
 
       repeated : (a b d : ℕ) → b ≡ a + suc d → b ≤ n → f (suc t₀ + a * P) ≡ f (suc t₀ + b * P)
           → (ξ : ℕ → ℕ) × (A : ℕ) × Path E S ξ × (T ≤ A) × S A i (ξ A)
       repeated a b d e l same =
-          let m = mul-mono b n P l in
-          let sum : suc t₀ + a * P + suc d * P ≡ suc t₀ + b * P = split-mul (suc t₀) a b d P e in
+          let m = mul-le-mul-right P l in
+          let sum : suc t₀ + a * P + suc d * P ≡ suc t₀ + b * P = rw e (omega arith) in
           let (ξ, path, s) =
-          close i (suc t₀ + a * P) (suc d * P) f (omega arith) (mul-pos d P pos) (same ∙ ap f (sym sum))
+          close i (suc t₀ + a * P) (suc d * P) f (omega arith) (omega arith) (same ∙ ap f (sym sum))
           (sets (suc t₀ + a * P) (omega arith) (omega arith))
           (λ s x y. goes s (omega arith) (omega arith)) (λ s q r x. shift E B P pos again (suc d) s q r (omega arith)) in
           (ξ, suc t₀ + a * P, path, omega arith, s)

@@ -13,9 +13,10 @@ use Rattle.rows.specs.Rows.{rowAt, Found, Added}
 use Rattle.automaton.specs.Automaton.{Automaton, Fits}
 use Rattle.gate.specs.Gate.{cleared}
 use Rattle.tuple.specs.Colour.{neutral}
-use Rattle.tuple.specs.Step.{Tuple, isEmpty, unlessEmpty, closed, first, next}
+use Rattle.sets.specs.Sets.{isEmpty}
+use Rattle.tuple.specs.Step.{Tuple, unlessEmpty, closed, first, next, Formed}
 use Rattle.tuple.specs.Row.{row, tupleOf, Steps}
-use Rattle.tuple.specs.TupleLaws.{Formed, first-formed, next-formed}
+use Rattle.tuple.specs.TupleLaws.{first-formed, next-formed}
 use Rattle.tuple.specs.RowLaws.{formed-length, formed-row, row-injective, formed-steps}
 use Rattle.tracker.specs.Numbering.{tupleAt, entered, rows}
 use Rattle.tracker.specs.Explore.{step, found}

@@ -8,9 +8,9 @@ use lib.Seq.{getD-append-add}
 use Rattle.rows.specs.Rows.{rowAt}
 use Rattle.rows.specs.RowLaws.{part-at}
 use Rattle.automaton.specs.Automaton.{Automaton, Fits}
-use Rattle.tuple.specs.Step.{Tuple, setAt, first}
+use Rattle.tuple.specs.Step.{Tuple, setAt, first, Formed}
 use Rattle.tuple.specs.Row.{row}
-use Rattle.tuple.specs.TupleLaws.{Formed, first-formed, next-formed}
+use Rattle.tuple.specs.TupleLaws.{first-formed, next-formed}
 use Rattle.tuple.specs.RowLaws.{formed-length, row-set, row-colour}
 use Rattle.tracker.specs.Numbering.{tupleAt, rows}
 use Rattle.tracker.specs.NumberingLaws.{reachable-all, numbering-reachable}

@@ -6,7 +6,7 @@ use gate::Refusal;
 use sheet::Read;
 use walks::Checked;
 ghost use Rattle.automaton.specs.Automaton.{automaton, Fits};
-ghost use Rattle.automaton.specs.Questions.{Decides};
+ghost use Rattle.gate.specs.Gate.{Decides};
 ghost use Rattle.automaton.specs.Lent.{tables};
 ghost use Rattle.tracker.specs.Build.{store, RoomFits, Tracks, BuildsNumbers, Builds};
 ghost use Rattle.tracker.specs.Fill.{Enough};

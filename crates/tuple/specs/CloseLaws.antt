@@ -8,12 +8,13 @@ use native.Mathlib.Omega.{arith}
 use native.Mathlib.Decide.{decLe, decLt}
 use lib.Dec.{T}
 use lib.ListN.{length}
-use Rattle.sets.specs.Sets.{Member}
+use Rattle.sets.specs.Sets.{Member, isEmpty}
 use Rattle.sets.specs.SetLaws.{no-member}
+use Rattle.sets.specs.TestLaws.{some-of, none-of, empty-of, full-of}
 use Rattle.finite.specs.Finite.{pigeon-rel}
 use Rattle.theory.specs.Run.{Some, None}
-use Rattle.tuple.specs.Step.{isEmpty, unlessEmpty, closed, closeUp, Place, statesAt, turns}
-use Rattle.tuple.specs.PassLaws.{In, After, two, some-of, none-of, kept, own}
+use Rattle.tuple.specs.Step.{unlessEmpty, closed, closeUp, Place, statesAt, turns}
+use Rattle.tuple.specs.PassLaws.{In, After, two, kept, own}
 
 -- one more, unless the place is empty
 unfoldable pub bump : Bool → ℕ → ℕ
@@ -42,20 +43,6 @@ dec-place w j = by (two (isEmpty (statesAt w j)))
     by : T (isEmpty (statesAt w j)) ⊎ T (not (isEmpty (statesAt w j))) → Some (After w j) ⊎ None (After w j)
     by (inl e) = inr (none-of (statesAt w j) e)
     by (inr e) = inl (some-of (statesAt w j) e)
-
-pub empty-of : (x : ℕ) → None (Member x) → isEmpty x ≡ true
-empty-of x h = by (isEmpty x) (some-of x)
-  where
-    by : (b : Bool) → (T (not b) → Some (Member x)) → b ≡ true
-    by true f = refl
-    by false f = absurd (h (f tt .0) (f tt .1))
-
-full-of : (x : ℕ) → Some (Member x) → isEmpty x ≡ false
-full-of x h = by (isEmpty x) (none-of x)
-  where
-    by : (b : Bool) → (T b → None (Member x)) → b ≡ false
-    by true f = absurd (f tt (h .0) (h .1))
-    by false f = refl
 
 pub rank-some : (j : ℕ) (w : List Place) → Some (After w j) → rank (suc j) w ≡ suc (rank j w)
 unfolding rank bump

@@ -8,11 +8,12 @@ use native.Mathlib.Omega.{arith}
 use native.Mathlib.Decide.{decLe}
 use lib.Dec.{T, ltb, ltb→lt, lt→ltb}
 use lib.ListN.{length}
+use Rattle.sets.specs.TestLaws.{none-of, empty-of}
 use Rattle.theory.specs.Run.{Some, None}
 use Rattle.tuple.specs.Colour.{neutral, marked, emptied, dead}
-use Rattle.tuple.specs.Step.{isEmpty, Place, colourAt, least, deadOr, statesAt, colourOf}
-use Rattle.tuple.specs.PassLaws.{After, Marked, and-l, and-r, and-i, none-of}
-use Rattle.tuple.specs.CloseLaws.{empty-of}
+use Rattle.sets.specs.Sets.{isEmpty}
+use Rattle.tuple.specs.Step.{Place, colourAt, least, deadOr, statesAt, colourOf}
+use Rattle.tuple.specs.PassLaws.{After, Marked, and-l, and-r, and-i}
 
 -- is the place i, with set and mark after its turn, emptied, where p sets were non-empty before the step
 abbrev isEmptied : ℕ → ℕ → Place → Bool

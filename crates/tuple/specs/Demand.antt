@@ -9,13 +9,13 @@ use Rattle.sets.specs.SetLaws.{member-dec}
 use Rattle.automaton.specs.Automaton.{Automaton, Edge, Fits}
 use Rattle.automaton.specs.Meeting.{Walk, Meet, Free, Everywhere}
 use Rattle.automaton.specs.Reading.{Reading, Recurs, Passes}
+use Rattle.automaton.specs.EdgeLaws.{edge-dec}
 use Rattle.finite.specs.Finite.{lowest, glue, glue-lt, glue-ge, extend}
 use Rattle.theory.specs.Run.{Path, Often, Alone, Least}
 use Rattle.theory.specs.Endless.{LPO, least}
 use Rattle.theory.specs.Theorem.{repeating, endless}
 use Rattle.tuple.specs.Step.{setAt, Recurrent, run, entered}
 use Rattle.tuple.specs.PassLaws.{In}
-use Rattle.tuple.specs.PlaceLaws.{edge-dec}
 use Rattle.tuple.specs.TupleLaws.{first-in, first-of}
 use Rattle.tuple.specs.RunLaws.{run-repeats, is-run, set-zero}
 

@@ -3,14 +3,14 @@
 use Prim.Native.Nat.{ℕ, zero, suc, _+_, _≤_, min}
 use mathlib.Core.Path.{_≡_, refl, sym, ap, ap₂, _∙_}
 use mathlib.Core.Bool.{Bool, true, false, not, _&&_}
-use mathlib.Core.List.{List, [], _∷_, _++_, map}
+use mathlib.Core.List.{List, [], _∷_, _++_}
 use native.Mathlib.Omega.{arith}
 use borrow.Author.Tests.{le-ltb}
 use lib.Dec.{ltb}
 use lib.ListN.{length, replicate}
-use Rattle.sets.specs.Sets.{unionOf, minusOf, isWithin}
-use Rattle.sets.specs.SetLaws.{ext, bit-minus, bit-zero, union-zero}
-use Rattle.tuple.specs.Step.{isEmpty, unionAll, isMarked, removed, Place, place, turns, pass, colourAt, least, deadOr, colourOf, unlessEmpty, closed, closeUp}
+use Rattle.sets.specs.Sets.{unionOf, minusOf, isWithin, isEmpty}
+use Rattle.sets.specs.SetLaws.{union-zero, zero-minus}
+use Rattle.tuple.specs.Step.{unionAll, isMarked, minusEach, removed, Place, place, turns, pass, colourAt, least, deadOr, colourOf, unlessEmpty, closed, closeUp}
 use Rattle.tuple.specs.PassLaws.{removed-length, pass-cons, turns-length}
 
 -- the places with k empty ones behind them
@@ -27,17 +27,16 @@ unfolding unionAll
 union-padded k [] = union-zeros k
 union-padded k (x ∷ l) = ap (unionOf x) (union-padded k l)
 
-minus-zeros : (k x : ℕ) → map (λ y. minusOf y x) (replicate k 0) ≡ replicate k 0
+minus-zeros : (k x : ℕ) → minusEach x (replicate k 0) ≡ replicate k 0
 minus-zeros zero x = refl
-minus-zeros (suc k) x =
-    ap₂ (λ (y : ℕ) (l : List ℕ). y ∷ l) (ext (minusOf 0 x) 0 (λ q. omega (arith, bit-minus 0 x q, bit-zero q))) (minus-zeros k x)
+minus-zeros (suc k) x = ap₂ (λ (y : ℕ) (l : List ℕ). y ∷ l) (zero-minus x) (minus-zeros k x)
 
 removed-padded : (m : Bool) (k x : ℕ) (l : List ℕ) → removed m x (padded k l) ≡ padded k (removed m x l)
 unfolding removed
 removed-padded false k x l = refl
 removed-padded true k x l = go l
   where
-    go : (l : List ℕ) → map (λ y. minusOf y x) (padded k l) ≡ padded k (map (λ y. minusOf y x) l)
+    go : (l : List ℕ) → minusEach x (padded k l) ≡ padded k (minusEach x l)
     go [] = minus-zeros k x
     go (y ∷ l) = ap (λ (t : List ℕ). minusOf y x ∷ t) (go l)
 

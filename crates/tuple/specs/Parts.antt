@@ -5,7 +5,7 @@ use mathlib.Core.Path.{_≡_}
 use mathlib.Core.Bool.{Bool, true, false}
 use mathlib.Core.List.{List, _++_, map}
 use lib.ListN.{length, getD, set, take, drop, replicate}
-use Rattle.sets.specs.Sets.{unionOf, minusOf}
+use Rattle.sets.specs.Sets.{unionOf}
 use Rattle.automaton.specs.Automaton.{Automaton}
 use Rattle.automaton.specs.Successors.{successorsOf}
 use Rattle.tuple.specs.Step.{places, unionAll, least, pass, colourOf, closeUp}
@@ -15,10 +15,6 @@ use Rattle.tuple.specs.Row.{setCells, leading}
 unfoldable pub outOf : Bool → ℕ → ℕ → ℕ
 outOf true out x = unionOf out x
 outOf false out x = out
-
--- out removed from each place
-abbrev pub minusEach : ℕ → List ℕ → List ℕ
-minusEach out places = map (λ y. minusOf y out) places
 
 -- the leading sets of the cells are replaced by their successors, and counted
 pub record Advanced (table : List ℕ) (l : ℕ) (cells result : List ℕ) (count : ℕ) : Type 0 where

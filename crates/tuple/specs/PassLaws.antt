@@ -1,16 +1,17 @@
 -- The marking pass: facts F3 to F6 of the theory. A place is never touched after its own turn. Assumes nothing.
 use Prim.Native.Nat.{ℕ, zero, suc, _≤_, _<_}
-use mathlib.Core.Path.{_≡_, refl, sym, ap, subst}
+use mathlib.Core.Path.{_≡_, refl, sym, ap}
 use mathlib.Core.Logic.{_⊎_, inl, inr}
 use mathlib.Core.Bool.{Bool, true, false, not, _&&_}
-use mathlib.Core.List.{List, [], _∷_, map}
+use mathlib.Core.List.{List, [], _∷_}
 use native.Mathlib.Omega.{arith}
-use lib.Dec.{T, T-not, not-T, eqb, eqb→eq, eqb-refl}
+use lib.Dec.{T, not-T}
 use lib.ListN.{length, getD, length-map}
-use Rattle.sets.specs.Sets.{Member, minusOf, isWithin}
-use Rattle.sets.specs.SetLaws.{member-dec, no-member, some-member, union-in, union-left, union-right, minus-left, minus-not, minus-of}
-use Rattle.theory.specs.Run.{Some, None}
-use Rattle.tuple.specs.Step.{setAt, isEmpty, unionAll, isMarked, removed, Place, place, turns, statesAt, pass}
+use Rattle.sets.specs.Sets.{Member, minusOf, isWithin, isEmpty}
+use Rattle.sets.specs.SetLaws.{member-dec, no-member, union-in, union-left, union-right, minus-left, minus-not, minus-of}
+use Rattle.sets.specs.TestLaws.{some-of, none-of, within-is, outside}
+use Rattle.theory.specs.Run.{Some}
+use Rattle.tuple.specs.Step.{setAt, unionAll, isMarked, minusEach, removed, Place, place, turns, statesAt, pass}
 
 -- state r is in the set at place j, before the pass and after it; place j is marked
 abbrev pub In : List ℕ → ℕ → ℕ → Type 0
@@ -40,24 +41,6 @@ pub two : (b : Bool) → T b ⊎ T (not b)
 two true = inl tt
 two false = inr tt
 
-pub some-of : (x : ℕ) → T (not (isEmpty x)) → Some (Member x)
-some-of x h = some-member x (λ e. T-not (eqb x 0) h (rw e (eqb-refl 0)))
-
-pub none-of : (x : ℕ) → T (isEmpty x) → None (Member x)
-none-of x h r a = no-member r (subst (λ (z : ℕ). Member z r) (eqb→eq x 0 h) a)
-
-within-of-test : (x y : ℕ) → T (isWithin x y) → (q : ℕ) → Member x q → Member y q
-unfolding isWithin
-within-of-test x y h q a = by (member-dec y q)
-  where
-    by : Dec (Member y q) → Member y q
-    by (yes b) = b
-    by (no b) = absurd (none-of (minusOf x y) h q (minus-of x y q a b))
-
-outside : (x y : ℕ) → T (not (isWithin x y)) → (q : ℕ) × Member x q × (Member y q → ⊥)
-unfolding isWithin
-outside x y h = let (q, a) = some-of (minusOf x y) h in (q, minus-left x y q a, minus-not x y q a)
-
 -- The members of later places, and what a turn leaves of them
 
 union-all-in : (l : List ℕ) (r : ℕ) → Member (unionAll l) r → (j : ℕ) × In l j r
@@ -75,12 +58,12 @@ union-all-of [] j r h = absurd (no-member r h)
 union-all-of (x ∷ l) zero r h = union-left x (unionAll l) r h
 union-all-of (x ∷ l) (suc j) r h = union-right x (unionAll l) r (union-all-of l j r h)
 
-minus-in : (x : ℕ) (l : List ℕ) (j r : ℕ) → In (map (λ y. minusOf y x) l) j r → In l j r × (Member x r → ⊥)
+minus-in : (x : ℕ) (l : List ℕ) (j r : ℕ) → In (minusEach x l) j r → In l j r × (Member x r → ⊥)
 minus-in x [] j r h = absurd (no-member r h)
 minus-in x (y ∷ l) zero r h = (minus-left y x r h, minus-not y x r h)
 minus-in x (y ∷ l) (suc j) r h = minus-in x l j r h
 
-minus-keep : (x : ℕ) (l : List ℕ) (j r : ℕ) → In l j r → (Member x r → ⊥) → In (map (λ y. minusOf y x) l) j r
+minus-keep : (x : ℕ) (l : List ℕ) (j r : ℕ) → In l j r → (Member x r → ⊥) → In (minusEach x l) j r
 minus-keep x [] j r h g = h
 minus-keep x (y ∷ l) zero r h g = minus-of y x r h g
 minus-keep x (y ∷ l) (suc j) r h g = minus-keep x l j r h g
@@ -99,7 +82,7 @@ removed-keep : (b : Bool) (x : ℕ) (l : List ℕ) (j r : ℕ) → In l j r → 
 unfolding removed
 removed-keep true x l j r h = by (member-dec x r)
   where
-    by : Dec (Member x r) → In (map (λ y. minusOf y x) l) j r ⊎ (Unit {0} × Member x r)
+    by : Dec (Member x r) → In (minusEach x l) j r ⊎ (Unit {0} × Member x r)
     by (yes a) = inr (tt, a)
     by (no a) = inl (minus-keep x l j r h a)
 removed-keep false x l j r h = inl h
@@ -173,7 +156,7 @@ unfolding turns isMarked
 mark-in zero l i r h w = absurd h
 mark-in (suc k) [] i r h w = absurd h
 mark-in (suc k) (x ∷ l) zero r h w =
-    let (j, b) = union-all-in l r (within-of-test x (unionAll l) (and-r (not (isEmpty x)) (isWithin x (unionAll l)) h) r w) in (suc j, omega arith, b)
+    let (j, b) = union-all-in l r (within-is x (unionAll l) (and-r (not (isEmpty x)) (isWithin x (unionAll l)) h) r w) in (suc j, omega arith, b)
 mark-in (suc k) (x ∷ l) (suc i) r h w = let (j, a, b) = mark-in k (rest x l) i r h w in (suc j, omega arith, rest-in x l j r b)
 
 pub mark-out : (k : ℕ) (l : List ℕ) (i j r : ℕ) → Marked (turns k l) i → After (turns k l) i r → i < j → After (turns k l) j r → ⊥

@@ -1,62 +1,37 @@
 -- The places before the marking pass: facts F1 and F2 of the theory. Assumes nothing.
-use Prim.Native.Nat.{ℕ, zero, suc, _+_, _*_, _≤_, _<_}
+use Prim.Native.Nat.{ℕ, zero, suc, _≤_, _<_}
 use mathlib.Core.Path.{_≡_, refl, sym, subst, _∙_}
+use mathlib.Core.Logic.{Dec·and}
 use mathlib.Core.List.{List, [], _∷_, _++_, map}
 use native.Mathlib.Omega.{arith}
 use native.Mathlib.Decide.{decLt}
-use lib.ListN.{length, getD, length-append, length-map}
+use lib.ListN.{length, length-append, length-map}
 use Rattle.sets.specs.Sets.{Member}
 use Rattle.sets.specs.SetLaws.{member-dec, no-member, inter-in, inter-of}
-use Rattle.automaton.specs.Automaton.{Automaton, Edge, Fits, successorSet}
+use Rattle.automaton.specs.Automaton.{Automaton, Edge, Fits}
 use Rattle.automaton.specs.Successors.{successorsOf}
-use Rattle.automaton.specs.SuccessorLaws.{successors-in, successors-of-member}
+use Rattle.automaton.specs.EdgeLaws.{edge-dec, edge-state}
+use Rattle.automaton.specs.SuccessorLaws.{successors-edge}
 use Rattle.tuple.specs.Step.{setAt, recurrent, Recurrent, places}
 use Rattle.tuple.specs.PassLaws.{In}
 
-both : {X Y : Type 0} → Dec X → Dec Y → Dec (X × Y)
-both (yes x) (yes y) = yes (x, y)
-both (yes x) (no y) = no (λ z. y (z .1))
-both (no x) y = no (λ z. x (z .0))
-
-pub edge-dec : (A : Automaton) (l q r : ℕ) → Dec (Edge A l q r)
-edge-dec A l q r = by (both (decLt l (A .k)) (both (decLt q (A .n)) (member-dec (successorSet A q l) r)))
-  where
-    by : Dec ((l < A .k) × ((q < A .n) × Member (successorSet A q l) r)) → Dec (Edge A l q r)
-    by (yes (a, (b, c))) = yes (record { letter = a; from = b; to = c })
-    by (no f) = no (λ e. f (e .letter, (e .from, e .to)))
-
 pub recurrent-dec : (A : Automaton) (l q r : ℕ) → Dec (Recurrent A l q r)
-recurrent-dec A l q r = by (both (edge-dec A l q r) (member-dec (A .recurring) r))
+recurrent-dec A l q r = by (Dec·and (edge-dec A l q r) (member-dec (A .recurring) r))
   where
     by : Dec (Edge A l q r × Member (A .recurring) r) → Dec (Recurrent A l q r)
     by (yes (a, b)) = yes (record { edge = a; into = b })
     by (no f) = no (λ e. f (e .edge, e .into))
 
 module _ {A : Automaton} (fits : Fits A) where
-  -- a cell with a member belongs to a state
-  from-state : (l q r : ℕ) → l < A .k → Member (successorSet A q l) r → q < A .n
-  from-state l q r letter h = by (decLt q (A .n))
-    where
-      by : Dec (q < A .n) → q < A .n
-      by (yes k) = k
-      by (no k) =
-          let e : getD (A .table) (8 * q + l) 0 ≡ 0 = fits .cells (8 * q + l) .empty (λ a b. let m = fits .range .3 in omega arith) in
-          absurd (no-member r (subst (λ (z : ℕ). Member z r) e h))
-
-  edge-state : {l q r : ℕ} → Edge A l q r → r < A .n
-  edge-state {l} {q} {r} e = fits .cells (8 * q + l) .within r (e .to)
-
-  edges-of : {l q r : ℕ} (x : ℕ) → Member x q → Edge A l q r → Member (successorsOf (A .table) l x) r
-  edges-of {l} {q} {r} x h e = successors-of-member (A .table) l x q r (let k = e .from in let m = fits .range .1 in omega arith) h (e .to)
-
-  recurrent-of : {l q r : ℕ} (x : ℕ) → Member x q → Recurrent A l q r → Member (recurrent A l x) r
-  recurrent-of {l} {q} {r} x h e = inter-of (successorsOf (A .table) l x) (A .recurring) r (edges-of x h (e .edge)) (e .into)
-
   module _ (l : ℕ) (letter : l < A .k) where
+    edges-of : (x q r : ℕ) → Member x q → Edge A l q r → Member (successorsOf (A .table) l x) r
+    edges-of x q r h e = successors-edge A fits l x letter r .1 (q, h, e)
+
     edges-in : (x r : ℕ) → Member (successorsOf (A .table) l x) r → (q : ℕ) × Member x q × Edge A l q r
-    edges-in x r h =
-        let (q, k, a, b) = successors-in (A .table) l x r h in
-        (q, a, record { letter = letter; from = from-state l q r letter b; to = b })
+    edges-in x r h = successors-edge A fits l x letter r .0 h
+
+    recurrent-of : (x q r : ℕ) → Member x q → Recurrent A l q r → Member (recurrent A l x) r
+    recurrent-of x q r h e = inter-of (successorsOf (A .table) l x) (A .recurring) r (edges-of x q r h (e .edge)) (e .into)
 
     recurrent-in : (x r : ℕ) → Member (recurrent A l x) r → (q : ℕ) × Member x q × Recurrent A l q r
     recurrent-in x r h =
@@ -71,7 +46,7 @@ module _ {A : Automaton} (fits : Fits A) where
       where
         go : (s z : List ℕ) (j : ℕ) → In s j q → In (map (successorsOf (A .table) l) s ++ z) j r
         go [] z j h = absurd (no-member q h)
-        go (x ∷ s) z zero h = edges-of x h e
+        go (x ∷ s) z zero h = edges-of x q r h e
         go (x ∷ s) z (suc j) h = go s z j h
 
     pub places-old⁻ : (sets : List ℕ) (j r : ℕ) → j < length sets → In (places A l sets) j r → (q : ℕ) × In sets j q × Edge A l q r
@@ -93,7 +68,7 @@ module _ {A : Automaton} (fits : Fits A) where
         go (x ∷ s) z = go s z
 
     pub places-new : (sets : List ℕ) (q r : ℕ) → In sets 0 q → Recurrent A l q r → In (places A l sets) (length sets) r
-    places-new sets q r h e = subst (λ (x : ℕ). Member x r) (sym (places-at sets)) (recurrent-of (setAt sets 0) h e)
+    places-new sets q r h e = subst (λ (x : ℕ). Member x r) (sym (places-at sets)) (recurrent-of (setAt sets 0) q r h e)
 
     pub places-new⁻ : (sets : List ℕ) (r : ℕ) → In (places A l sets) (length sets) r → (q : ℕ) × In sets 0 q × Recurrent A l q r
     places-new⁻ sets r h = recurrent-in (setAt sets 0) r (subst (λ (x : ℕ). Member x r) (places-at sets) h)
@@ -113,12 +88,12 @@ module _ {A : Automaton} (fits : Fits A) where
     places-state sets j r h = by (decLt j (length sets))
       where
         by : Dec (j < length sets) → r < A .n
-        by (yes k) = let (q, a, e) = places-old⁻ sets j r k h in edge-state e
+        by (yes k) = let (q, a, e) = places-old⁻ sets j r k h in edge-state A fits l q r e
         by (no k) =
             let c = places-none sets j r h in
             let d : j ≡ length sets = omega arith in
             let (q, a, e) = places-new⁻ sets r (subst (λ (z : ℕ). In (places A l sets) z r) d h) in
-            edge-state (e .edge)
+            edge-state A fits l q r (e .edge)
 
 pub places-length : (A : Automaton) (l : ℕ) (sets : List ℕ) → length (places A l sets) ≡ suc (length sets)
 unfolding places

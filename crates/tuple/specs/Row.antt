@@ -5,7 +5,8 @@ use mathlib.Core.Bool.{Bool, true, false}
 use mathlib.Core.List.{List, [], _∷_, _++_}
 use lib.ListN.{length, getD, take, replicate}
 use Rattle.automaton.specs.Automaton.{Automaton, Fits}
-use Rattle.tuple.specs.Step.{Tuple, isEmpty}
+use Rattle.sets.specs.Sets.{isEmpty}
+use Rattle.tuple.specs.Step.{Tuple}
 
 -- the cells of a row that hold sets, and all that make tuples equal: sets and colour
 abbrev pub setCells : ℕ

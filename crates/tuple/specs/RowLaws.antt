@@ -1,5 +1,5 @@
 -- A tuple has one row, and a row one tuple. Assumes nothing.
-use Prim.Native.Nat.{ℕ, zero, suc, _+_, _-_, _≤_, _<_}
+use Prim.Native.Nat.{ℕ, zero, suc, _-_, _≤_, _<_}
 use mathlib.Core.Path.{_≡_, refl, sym, ap, _∙_}
 use mathlib.Core.Bool.{Bool, true, false}
 use mathlib.Core.List.{List, [], _∷_, _++_, append-assoc}
@@ -8,9 +8,9 @@ use borrow.Author.Tests.{eq-eqb, ne-eqb}
 use lib.ListN.{length, getD, take, replicate, length-append, length-replicate, List·getD-append}
 use lib.Seq.{take-at, getD-at}
 use Rattle.automaton.specs.Automaton.{Automaton, Fits}
-use Rattle.tuple.specs.Step.{Tuple, setAt, isEmpty}
+use Rattle.sets.specs.Sets.{isEmpty}
+use Rattle.tuple.specs.Step.{Tuple, setAt, Formed}
 use Rattle.tuple.specs.Row.{setCells, rowCells, row, consUnless, leading, tupleOf, Steps}
-use Rattle.tuple.specs.TupleLaws.{Formed}
 
 -- The leading sets
 
@@ -77,7 +77,7 @@ module _ (u : Tuple) (few : length (u .sets) ≤ setCells) where
       (List·getD-append (u .sets ++ zeros) (u .colour ∷ []) 0 i (omega (arith, front-length))
       ∙ zeros-behind (u .sets) (setCells - length (u .sets)) i)
 
-  pub tuple-row : ((i : ℕ) → i < length (u .sets) → setAt (u .sets) i ≡ 0 → ⊥) → tupleOf (row u) ≡ u
+  tuple-row : ((i : ℕ) → i < length (u .sets) → setAt (u .sets) i ≡ 0 → ⊥) → tupleOf (row u) ≡ u
   unfolding tupleOf
   tuple-row full =
       let s : leading (take setCells (row u)) ≡ u .sets = rw row-front (leading-sets (u .sets) (setCells - length (u .sets)) full) in

@@ -12,8 +12,7 @@ use Rattle.automaton.specs.Automaton.{Automaton, Edge, Fits}
 use Rattle.automaton.specs.Meeting.{Walk}
 use Rattle.theory.specs.Run.{Run}
 use Rattle.theory.specs.Basic.{reached, reaches}
-pub use Rattle.tuple.specs.Step.{entered}
-use Rattle.tuple.specs.Step.{Recurrent, setAt, places, Place, pass, first, next, run}
+use Rattle.tuple.specs.Step.{entered, Recurrent, setAt, places, Place, pass, first, next, run}
 use Rattle.tuple.specs.PassLaws.{In, After, Marked, kept, gone, mark-some, mark-in, mark-out, turns-length}
 use Rattle.tuple.specs.CloseLaws.{rank, rank-some, rank-none, move, move⁻, front, dec-place}
 use Rattle.tuple.specs.ColourLaws.{col-mark, col-gone, col-pos, col-top, col-even, col-odd}

@@ -3,9 +3,9 @@ use Prim.Native.Nat.{ℕ, zero, suc, min, _≤_, _<_}
 use mathlib.Core.Path.{_≡_}
 use mathlib.Core.Bool.{Bool, true, false, not, _&&_}
 use mathlib.Core.List.{List, [], _∷_, _++_, map}
-use lib.Dec.{eqb, ltb}
+use lib.Dec.{ltb}
 use lib.ListN.{length, getD}
-use Rattle.sets.specs.Sets.{Member, unionOf, interOf, minusOf, isWithin}
+use Rattle.sets.specs.Sets.{Member, unionOf, interOf, minusOf, isEmpty, isWithin}
 use Rattle.automaton.specs.Automaton.{Automaton, Edge}
 use Rattle.automaton.specs.Successors.{successorsOf}
 use Rattle.tuple.specs.Colour.{neutral, marked, emptied, dead}
@@ -19,9 +19,6 @@ pub record Tuple : Type 0 where
 -- the set at place i
 abbrev pub setAt : List ℕ → ℕ → ℕ
 setAt sets i = getD sets i 0
-
-abbrev pub isEmpty : ℕ → Bool
-isEmpty x = eqb x 0
 
 -- 1. "Replace each set by its successors."
 abbrev pub successorsEach : Automaton → ℕ → List ℕ → List ℕ
@@ -50,9 +47,13 @@ unionAll (x ∷ later) = unionOf x (unionAll later)
 unfoldable pub isMarked : ℕ → List ℕ → Bool
 isMarked x later = not (isEmpty x) && isWithin x (unionAll later)
 
+-- x removed from each of these places
+abbrev pub minusEach : ℕ → List ℕ → List ℕ
+minusEach x places = map (λ y. minusOf y x) places
+
 -- "if it is marked, and only then, its members are removed from all later places"
 unfoldable pub removed : Bool → ℕ → List ℕ → List ℕ
-removed true x later = map (λ y. minusOf y x) later
+removed true x later = minusEach x later
 removed false x later = later
 
 -- a place after its turn: its set, and whether it is marked

@@ -6,11 +6,11 @@ use native.Mathlib.Omega.{arith}
 use native.Mathlib.Numerals.{add-one}
 use lib.ListN.{length, getD, set, take, drop, replicate, length-append, length-replicate, length-map, length-take, replicate-append-replicate}
 use lib.Seq.{drop-cons, take-at, drop-at, set-at, getD-take, drop-append-add}
-use Rattle.sets.specs.Sets.{interOf}
+use Rattle.sets.specs.Sets.{interOf, isEmpty}
 use Rattle.automaton.specs.Automaton.{Automaton}
 use Rattle.automaton.specs.Successors.{successorsOf}
 use Rattle.automaton.specs.SuccessorLaws.{successors-empty}
-use Rattle.tuple.specs.Step.{setAt, isEmpty, recurrent, places, turns, pass, statesAt, deadOr, colourOf, closeUp, next}
+use Rattle.tuple.specs.Step.{setAt, recurrent, places, turns, pass, statesAt, deadOr, colourOf, closeUp, next}
 use Rattle.tuple.specs.PassLaws.{turns-length}
 use Rattle.tuple.specs.CloseLaws.{closeUp-length}
 use Rattle.tuple.specs.PlaceLaws.{places-length}

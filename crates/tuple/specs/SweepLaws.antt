@@ -9,11 +9,11 @@ use borrow.Author.Tests.{eq-eqb, ne-eqb}
 use lib.Dec.{ltb}
 use lib.ListN.{length, getD, set, take, drop, replicate, length-append, length-replicate}
 use lib.Seq.{drop-cons, getD-at, set-at}
-use Rattle.sets.specs.Sets.{minusOf, isWithin}
+use Rattle.sets.specs.Sets.{minusOf, isWithin, isEmpty}
 use Rattle.tuple.specs.Colour.{neutral}
-use Rattle.tuple.specs.Step.{isEmpty, unionAll, removed, Place, place, turns, pass, colourAt, least, unlessEmpty, closed, closeUp}
+use Rattle.tuple.specs.Step.{unionAll, minusEach, Place, place, turns, pass, colourAt, least, unlessEmpty, closed, closeUp}
 use Rattle.tuple.specs.ColourLaws.{least-top}
-use Rattle.tuple.specs.Parts.{outOf, minusEach, Swept}
+use Rattle.tuple.specs.Parts.{outOf, Swept}
 use Rattle.tuple.specs.UnionLaws.{behind-cons, behind-end}
 use Rattle.tuple.specs.GatherLaws.{minus-each-none, pass-turn}
 
@@ -33,7 +33,7 @@ min-assoc : (a b c : ℕ) → min a (min b c) ≡ min (min a b) c
 min-assoc a b c = omega arith
 
 -- what is left of the places from i on, where o is removed
-abbrev pub left-of : ℕ → List ℕ → ℕ → ℕ → List ℕ
+abbrev left-of : ℕ → List ℕ → ℕ → ℕ → List ℕ
 left-of count cells o i = minusEach o (drop i (take count cells))
 
 -- the state of the loop before the turn of place i: done are the j sets closed up so far, o is what is removed from the places left

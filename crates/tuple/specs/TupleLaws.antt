@@ -1,15 +1,14 @@
 -- What holds of every tuple that a step enters, whatever tuple it leaves. Assumes nothing.
 use Prim.Native.Nat.{ℕ, zero, suc, _^_, _<_}
-use mathlib.Core.Path.{_≡_, subst}
+use mathlib.Core.Path.{_≡_}
 use mathlib.Core.Bool.{false}
 use mathlib.Core.List.{List, [], _∷_}
 use native.Mathlib.Omega.{arith}
 use lib.ListN.{length}
 use Rattle.sets.specs.Sets.{Member}
-use Rattle.sets.specs.SetLaws.{no-member, small-of-within}
+use Rattle.sets.specs.SetLaws.{no-member, not-empty, small-of-within}
 use Rattle.automaton.specs.Automaton.{Automaton, Fits}
-pub use Rattle.tuple.specs.Step.{Formed}
-use Rattle.tuple.specs.Step.{Tuple, setAt, places, Place, place, pass, closeUp, first, next, run}
+use Rattle.tuple.specs.Step.{Tuple, Formed, setAt, places, Place, place, pass, closeUp, first, next, run}
 use Rattle.tuple.specs.PassLaws.{In, After, kept}
 use Rattle.tuple.specs.CloseLaws.{rank, move, move⁻, full, room, closeUp-length}
 use Rattle.tuple.specs.ColourLaws.{col-pos, col-top}
@@ -18,10 +17,6 @@ use Rattle.tuple.specs.PlaceLaws.{places-state}
 -- each set is a number below 2^n
 pub small : {A : Automaton} {u : Tuple} → Formed A u → (i : ℕ) → setAt (u .sets) i < 2 ^ A .n
 small {A} {u} f i = small-of-within (setAt (u .sets) i) (A .n) (f .states i)
-
--- a set with a member is not empty
-not-empty : (x : ℕ) → (q : ℕ) × Member x q → x ≡ 0 → ⊥
-not-empty x (q, h) e = no-member q (subst (λ (z : ℕ). Member z q) e h)
 
 -- the tuple before the first letter, as the closing up of one place
 first-places : Automaton → List Place

@@ -7,7 +7,7 @@ use native.Mathlib.Decide.{ℕ-discrete}
 use lib.ListN.{length, getD, set, take, drop, drop-of-length-le}
 use lib.Seq.{drop-cons, getD-take, getD-set-same, getD-set-other, length-take-le}
 use Rattle.sets.specs.Sets.{unionOf}
-use Rattle.tuple.specs.Step.{unionAll, place}
+use Rattle.tuple.specs.Step.{unionAll}
 
 module _ (cells : List ℕ) (count : ℕ) (long : count ≤ length cells) where
   -- the places from i on

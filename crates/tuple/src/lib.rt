@@ -5,10 +5,10 @@ ghost use mathlib.Core.Bool.{not, _&&_};
 ghost use Prim.Native.Nat.{_+_, _≤_, _<_, min};
 ghost use lib.Dec.{ltb};
 ghost use lib.ListN.{length};
-ghost use Rattle.sets.specs.Sets.{interOf, isWithin};
+ghost use Rattle.sets.specs.Sets.{interOf, isWithin, isEmpty};
 ghost use Rattle.automaton.specs.Automaton.{automaton};
 ghost use Rattle.tuple.specs.Colour.{neutral, marked, emptied};
-ghost use Rattle.tuple.specs.Step.{isEmpty, colourAt, deadOr, next};
+ghost use Rattle.tuple.specs.Step.{colourAt, deadOr, next};
 ghost use Rattle.tuple.specs.Parts.{outOf, Advanced, Unions, Swept, Placed, settled};
 ghost use Rattle.tuple.specs.Row.{row, tupleOf, Steps};
 

@@ -4,19 +4,16 @@ use mathlib.Core.Path.{_≡_, refl, _∙_}
 use mathlib.Core.Logic.{inl, inr}
 use mathlib.Core.List.{List}
 use native.Mathlib.Omega.{arith}
-use lib.ListN.{length, length-replicate}
-use Rattle.gate.specs.Gate.{cleared}
+use lib.ListN.{length}
+use Rattle.gate.specs.Gate.{Zero, cleared}
+use Rattle.gate.specs.GateLaws.{zero-cleared, length-cleared}
 use Rattle.automaton.specs.Automaton.{Automaton, Fits}
 use Rattle.automaton.specs.Lent.{Tables, tables, clearedTables, SameLengths, NumbersRefuse}
 use Rattle.automaton.specs.Meeting.{Everywhere}
-use Rattle.meeting.specs.Answer.{Zero, Answered}
-use Rattle.meeting.specs.AnswerLaws.{zero-cleared}
+use Rattle.meeting.specs.Answer.{Answered}
 use Rattle.walks.specs.declared.Checked.{Checked}
 use Rattle.walks.specs.declared.Checked.the-variants.{Refused, Free}
 use Rattle.walks.specs.Check.{Lengths, Checks, Judges}
-
-length-cleared : (v : List ℕ) → length (cleared v) ≡ length v
-length-cleared v = length-replicate {A = ℕ} (length v) 0
 
 lengths-cleared : (A : Automaton) (v : Tables) → Lengths A v → Lengths A (clearedTables v)
 lengths-cleared A v l = record {
@@ -32,7 +29,7 @@ judged A v w (Refused r) l (inr (f, m)) = inr (l, NumbersRefuse.meeting f (recor
     same = let s = m .lengths in record { word = s .word ∙ length-cleared (v .word); one = s .one ∙ length-cleared (v .one); other = s .other ∙ length-cleared (v .other) }
 judged A v w Free l (f, x, z) = (l, f, x, z)
 
-module _ (A : Automaton) (v : Tables) (word one other : List ℕ) (w : word ≡ cleared (v .word)) (o : one ≡ cleared (v .one)) (r : other ≡ cleared (v .other)) (l : Lengths A v) where
+module _ (A : Automaton) (v : Tables) (l : Lengths A v) {word one other : List ℕ} (w : word ≡ cleared (v .word)) (o : one ≡ cleared (v .one)) (r : other ≡ cleared (v .other)) where
   -- the tables once they are cleared
   pub ready : Lengths A (tables word one other) × Zero word × Zero one × Zero other
   ready = rw (w, o, r) (lengths-cleared A v l, zero-cleared (v .word), zero-cleared (v .one), zero-cleared (v .other))

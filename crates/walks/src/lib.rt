@@ -1,8 +1,9 @@
 // The walk check: question 10, and the whole check of a sheet that is handed over as numbers.
+ghost use Rattle.gate.specs.Gate.{Zero};
 ghost use Rattle.automaton.specs.Automaton.{automaton};
 ghost use Rattle.automaton.specs.Meeting.{Everywhere};
 ghost use Rattle.automaton.specs.Lent.{tables};
-ghost use Rattle.meeting.specs.Answer.{Zero, Asked, Answered};
+ghost use Rattle.meeting.specs.Answer.{Asked, Answered};
 ghost use Rattle.walks.specs.Check.{Lengths, Checks, Judges};
 use automaton::Numbers;
 use gate::Refusal;
@@ -57,33 +58,22 @@ pub fn check(
 ) -> Checked
     ensures { λ r. ⌜ Checks (automaton a (now (table .entry))) (tables (now (word .entry)) (now (one .entry)) (now (other .entry))) (tables (now (word .exit)) (now (one .exit)) (now (other .exit))) r ⌝ }
 {
+    let short = Refusal {
+        number: 1,
+        line: 0,
+        length: 0,
+    };
     if table.len() < 128 {
-        return Checked::Refused(Refusal {
-            number: 1,
-            line: 0,
-            length: 0,
-        });
+        return Checked::Refused(short);
     }
     if word.len() < 136 {
-        return Checked::Refused(Refusal {
-            number: 1,
-            line: 0,
-            length: 0,
-        });
+        return Checked::Refused(short);
     }
     if one.len() < 137 {
-        return Checked::Refused(Refusal {
-            number: 1,
-            line: 0,
-            length: 0,
-        });
+        return Checked::Refused(short);
     }
     if other.len() < 137 {
-        return Checked::Refused(Refusal {
-            number: 1,
-            line: 0,
-            length: 0,
-        });
+        return Checked::Refused(short);
     }
     gate::clear(word);
     gate::clear(one);

@@ -6,7 +6,8 @@ use native.Mathlib.Omega.{arith}
 use borrow.Author.Needs.{needs}
 use denote.Ref.{now}
 use Rattle.automaton.specs.Automaton.{automaton, Within}
-use Rattle.automaton.specs.QuestionLaws.{decides-yes, decides-no, cell-empty}
+use Rattle.gate.specs.GateLaws.{decides-yes, decides-no}
+use Rattle.automaton.specs.QuestionLaws.{cell-empty}
 use Rattle.automaton.proofs.cell_fits.Statement.{statement}
 use Rattle.automaton.proofs.cell_fits.Tie as tie
 

@@ -4,7 +4,7 @@ use mathlib.Core.Path.{_≡_}
 use native.Mathlib.Omega.{arith}
 use borrow.Author.Needs.{needs}
 use Rattle.sets.specs.SetLaws.{member-lt, small-of-within}
-use Rattle.automaton.specs.QuestionLaws.{decides-yes, decides-no}
+use Rattle.gate.specs.GateLaws.{decides-yes, decides-no}
 use Rattle.automaton.proofs.states_fit.Statement.{statement}
 use Rattle.automaton.proofs.states_fit.Tie as tie
 

@@ -3,8 +3,8 @@ use Prim.Native.Nat.{ℕ, _+_, _*_}
 use mathlib.Core.Path.{_≡_, sym, ap, subst, _∙_}
 use lib.ListN.{getD}
 use Rattle.sets.specs.Sets.{interOf}
+use Rattle.sets.specs.SetLaws.{inter-both}
 use Rattle.meeting.specs.Search.{Common}
-use Rattle.meeting.specs.JoinLaws.{inter-common}
 use borrow.Author.Needs.{needs}
 use Rattle.meeting.proofs.common.Statement.{statement}
 use Rattle.meeting.proofs.common.Tie as tie
@@ -44,7 +44,7 @@ returns c =
     let a = c .before .before .before .before .before .args in
     let t = a .table .now in
     let e : c .inter2 .result ≡ interOf (interOf (getD t (8 * a .p + a .letter) 0) (getD t (8 * a .q + a .letter) 0)) (a .counts) = c .inter2 .ensures ∙ ap (λ (x : ℕ). interOf x (a .counts)) (c .before .inter .ensures) in
-    subst (Common t (a .counts) (a .p) (a .q) (a .letter)) (sym e) (inter-common (getD t (8 * a .p + a .letter) 0) (getD t (8 * a .q + a .letter) 0) (a .counts))
+    subst (Common t (a .counts) (a .p) (a .q) (a .letter)) (sym e) (inter-both (getD t (8 * a .p + a .letter) 0) (getD t (8 * a .q + a .letter) 0) (a .counts))
 
 pub common-spec : {M : Type 1} → statement M
 common-spec =

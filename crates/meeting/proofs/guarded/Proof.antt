@@ -1,6 +1,6 @@
 -- The two cases of the test. Assumes nothing.
 use Rattle.sets.specs.SetLaws.{no-member}
-use Rattle.queue.specs.Membership.{member-yes, member-no}
+use Rattle.sets.specs.TestLaws.{member-yes, member-no}
 use borrow.Author.Needs.{needs}
 use Rattle.meeting.proofs.guarded.Statement.{statement}
 use Rattle.meeting.proofs.guarded.Tie as tie

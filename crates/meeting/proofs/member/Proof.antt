@@ -4,7 +4,7 @@ use mathlib.Core.Path.{_≡_}
 use native.Mathlib.Omega.{arith}
 use borrow.Author.Count.{below-more}
 use Rattle.sets.specs.Sets.{Member}
-use Rattle.queue.specs.Membership.{member-yes, member-no, last-member}
+use Rattle.sets.specs.TestLaws.{member-yes, member-no, last-member}
 use borrow.Author.Needs.{needs}
 use Rattle.meeting.proofs.member.Statement.{statement}
 use Rattle.meeting.proofs.member.Tie as tie

@@ -6,7 +6,8 @@ use lib.ListN.{length-replicate}
 use Rattle.sets.specs.Sets.{Member}
 use Rattle.automaton.specs.Automaton.{automaton}
 use Rattle.automaton.specs.Lent.{tables}
-use Rattle.meeting.specs.AnswerLaws.{zero-replicate, answer-free, answer-witness}
+use Rattle.gate.specs.GateLaws.{zeros}
+use Rattle.meeting.specs.AnswerLaws.{answer-free, answer-witness}
 use borrow.Author.Needs.{needs}
 use Rattle.meeting.proofs.search.Statement.{statement}
 use Rattle.meeting.proofs.search.Tie as tie
@@ -17,7 +18,7 @@ slice-aggregate-explore c = search needs
 explore-requires : tie.Need-explore-requires
 explore-requires c κs =
     let p = c .before .before .before .before .before .pre in
-    (p .0 .fits, p .0 .cells, p .1, record { size = length-replicate {A = ℕ} 528 0; zeros = zero-replicate 528 })
+    (p .0 .fits, p .0 .cells, p .1, record { size = length-replicate {A = ℕ} 528 0; zeros = zeros 528 })
 
 slice-aggregate-witness : tie.Need-slice-aggregate-witness
 slice-aggregate-witness c = search needs

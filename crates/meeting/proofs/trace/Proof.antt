@@ -1,8 +1,8 @@
 -- The invariant: the tables hold the walks from time t on, where they are in pair i. The measure is t. Assumes nothing.
 use Prim.Native.Nat.{ℕ, suc, _/_, _-_, _≤_, _<_}
-use mathlib.Core.Path.{_≡_, refl, subst}
+use mathlib.Core.Path.{_≡_, refl, sym, subst, _∙_}
 use native.Mathlib.Omega.{arith}
-use lib.ListN.{length, length-set}
+use lib.ListN.{length}
 use Rattle.automaton.specs.Lent.{tables}
 use Rattle.queue.specs.Queue.{pair, depth}
 use Rattle.meeting.specs.Trace.{Leads}
@@ -12,10 +12,21 @@ use Rattle.meeting.proofs.trace.Statement.{statement}
 use Rattle.meeting.proofs.trace.Tie as tie
 
 abbrev Inv-loop : tie.InvT-loop
-Inv-loop queue head d word₀ one₀ other₀ i₀ t₀ word one other i t = (i ≤ head) × (t ≤ d) × (depth (pair queue i) ≡ t) × (length word ≡ length word₀) × (length one ≡ length one₀) × (length other ≡ length other₀) × Leads queue head d t i (tables word₀ one₀ other₀) (tables word one other)
+Inv-loop queue head d word₀ one₀ other₀ i₀ t₀ word one other i t =
+    (i ≤ head) × (t ≤ d) × (depth (pair queue i) ≡ t) × (length word ≡ length word₀) × (length one ≡ length one₀) × (length other ≡ length other₀)
+    × Leads queue head d t i (tables word₀ one₀ other₀) (tables word one other)
 
 abbrev μ-loop : tie.MeasureT-loop
 μ-loop queue head d word₀ one₀ other₀ i₀ t₀ word one other i t = t
+
+-- the pair before
+back : (c : tie.After-number Inv-loop μ-loop) →
+    let T = c .before .before .before .before .before .before .before .args .queue .now in
+    let i = c .before .before .loop .i in
+    (c .number .result / 8 < i) × (depth (pair T i) ≡ suc (depth (pair T (c .number .result / 8))))
+back c =
+    let l = c .before .before .loop in
+    rw (c .number .ensures) (c .before .before .before .before .before .before .before .pre .linked (l .i) (l .inv .0) (omega arith))
 
 loop-holds : tie.Need-loop-holds Inv-loop μ-loop
 loop-holds c =
@@ -31,65 +42,45 @@ number-requires c κs =
     let h = c .before .loop .inv .0 in
     omega arith
 
-number-requires-2 : tie.Need-number-requires-2 Inv-loop μ-loop
-number-requires-2 c κs =
-    let p = c .before .before .before .before .before .before .before .pre in
-    let l = c .before .before .loop in
-    let z = p .linked (l .i) (l .inv .0) (omega arith) in
-    let e = c .number .ensures in
-    let z' : c .number .result / 8 < l .i = rw e (z .0) in
-    omega arith
-
 sub-t : tie.Need-sub-t Inv-loop μ-loop
 sub-t c = search needs
 
-cast-word : tie.Need-cast-word Inv-loop μ-loop
-cast-word c = search needs
+number-requires-2 : tie.Need-number-requires-2 Inv-loop μ-loop
+number-requires-2 c κs =
+    let p = c .before .before .before .before .before .before .before .before .before .before .pre in
+    let l = c .before .before .before .before .before .loop in
+    let z = back (c .before .before .before) in
+    omega arith
 
-mul-word : tie.Need-mul-word Inv-loop μ-loop
-mul-word c = search needs
-
-slice-write-word : tie.Need-slice-write-word Inv-loop μ-loop
-slice-write-word c = search needs
-
-cast-one : tie.Need-cast-one Inv-loop μ-loop
-cast-one c = search needs
-
-mul-one : tie.Need-mul-one Inv-loop μ-loop
-mul-one c = search needs
-
-slice-write-one : tie.Need-slice-write-one Inv-loop μ-loop
-slice-write-one c = search needs
-
-cast-other : tie.Need-cast-other Inv-loop μ-loop
-cast-other c = search needs
-
-mul-other : tie.Need-mul-other Inv-loop μ-loop
-mul-other c = search needs
-
-slice-write-other : tie.Need-slice-write-other Inv-loop μ-loop
-slice-write-other c = search needs
+note-requires : tie.Need-note-requires Inv-loop μ-loop
+note-requires c κs =
+    let p = c .before .before .before .before .before .before .before .before .before .before .before .pre in
+    let l = c .before .before .before .before .before .before .loop in
+    let t = l .inv .1 in
+    (omega arith, omega arith, omega arith, omega arith)
 
 loop-less : tie.Need-loop-less Inv-loop μ-loop
 loop-less c = search needs
 
 loop-again : tie.Need-loop-again Inv-loop μ-loop
 loop-again c =
-    let p = c .before .before .before .before .before .before .before .before .pre in
-    let l = c .before .before .before .loop in
-    let z = p .linked (l .i) (l .inv .0) (omega arith) in
-    let a = c .before .before .before .before .before .before .before .before .args in
-    let g = c .before .number in
-    let k = c .number2 in
-    let z' : (g .result / 8 < l .i) × (depth (pair (a .queue .now) (l .i)) ≡ suc (depth (pair (a .queue .now) (g .result / 8)))) = rw (g .ensures) z in
+    let n = c .before .before .before .before .before .before .note in
+    let k = c .before .before .before .before .before .before .before .number2 in
+    let g = c .before .before .before .before .before .before .before .before .before .before .before in
+    let l = g .before .before .loop in
+    let s = g .before .before .before .before .before .before .before in
+    let a = s .args in
+    let z = back g in
     let u : l .t ≡ suc (l .t - 1) = omega arith in (
       omega arith,
       omega arith,
       omega arith,
-      simp length-set (l .inv .3),
-      simp length-set (l .inv .4),
-      simp length-set (l .inv .5),
-      leads-step (a .queue .now) (a .head) (a .d) (l .t) (l .i) (tables (a .word .now) (a .one .now) (a .other .now)) (l .word) (l .one) (l .other) (g .result) (k .result) (l .t - 1) u (g .ensures) (k .ensures) (omega arith) (omega arith) (omega arith) (l .inv .6),
+      n .kept .0 ∙ l .inv .3,
+      n .kept .1 .0 ∙ l .inv .4,
+      n .kept .1 .1 .0 ∙ l .inv .5,
+      subst (Leads (a .queue .now) (a .head) (a .d) (l .t - 1) (g .number .result / 8) (tables (a .word .now) (a .one .now) (a .other .now))) (sym (n .ensures))
+      (leads-step (a .queue .now) (a .head) (a .d) (l .t) (l .i) (tables (a .word .now) (a .one .now) (a .other .now)) (tables (l .word) (l .one) (l .other))
+      (g .number .result) (k .result) (l .t - 1) u (g .number .ensures) (k .ensures) (omega arith) (omega arith) (omega arith) (l .inv .6)),
     )
 
 same-length : tie.Need-same-length Inv-loop μ-loop
@@ -117,17 +108,9 @@ trace-spec =
     loop-holds
     add-number
     number-requires
-    number-requires-2
     sub-t
-    cast-word
-    mul-word
-    slice-write-word
-    cast-one
-    mul-one
-    slice-write-one
-    cast-other
-    mul-other
-    slice-write-other
+    number-requires-2
+    note-requires
     loop-less
     loop-again
     same-length

@@ -1,18 +1,20 @@
--- A pair that is not listed finds room, by the pigeonhole law of QueueLaws; what a longer queue is, is said there. Assumes nothing.
-use Prim.Native.Nat.{ℕ}
-use mathlib.Core.Path.{subst}
+-- A pair that is not listed finds room, by the pigeonhole law of RoomLaws. Assumes nothing.
 use native.Mathlib.Omega.{arith}
 use lib.ListN.{length-set}
-use Rattle.sets.specs.Sets.{Member}
-use Rattle.sets.specs.SetLaws.{minus-left, minus-not}
-use Rattle.queue.specs.Queue.{companions, Only}
-use Rattle.queue.specs.Room.{has-room}
-use Rattle.queue.specs.Push.{push}
-use Rattle.queue.specs.Rows.{unchanged}
-use Rattle.queue.specs.Membership.{member-yes, member-no, minus-else}
+use Rattle.queue.specs.Queue.{Only}
+use Rattle.queue.specs.RoomLaws.{NewPair, new-pair, old-pair}
+use Rattle.queue.specs.PushLaws.{push}
+use Rattle.queue.specs.RowLaws.{unchanged}
 use borrow.Author.Needs.{needs}
 use Rattle.queue.proofs.add.Statement.{statement}
 use Rattle.queue.proofs.add.Tie as tie
+
+new : (c : tie.Then1) →
+    let a = c .before .before .before .before .before .args in
+    NewPair (a .queue .now) (a .count) (a .p) (a .set) (a .q)
+new c =
+    let s = c .before .before .before .before .before in
+    new-pair (s .args .set) (s .args .q) (s .pre .0) (s .pre .1) (c .before .before .minus .ensures) (c .before .contains .ensures) (c .if1 .taken)
 
 add-row : tie.Need-add-row
 add-row c = search needs
@@ -43,13 +45,8 @@ add-queue-2 c = search needs
 
 cast-queue : tie.Need-cast-queue
 cast-queue c =
-    let a = c .before .before .before .before .before .args in
+    let n = new c in
     let p = c .before .before .before .before .before .pre in
-    let T = a .queue .now in
-    let m = member-yes _ (a .q) _ (c .before .contains .ensures) (c .if1 .taken) in
-    let m' = subst (λ (x : ℕ). Member x (a .q)) (c .before .before .minus .ensures) m in
-    let new = minus-not (a .set) (companions T (a .p)) (a .q) m' in
-    let h = has-room T (a .count) (a .p) (a .q) (p .0 .queue) (p .0 .state) (p .1) new in
     let d = p .0 .deep in
     let s = p .0 .state in
     omega arith
@@ -71,14 +68,8 @@ mul-queue-4 c = search needs
 
 slice-write-queue-2 : tie.Need-slice-write-queue-2
 slice-write-queue-2 c =
-    let a = c .before .before .before .before .before .args in
-    let p = c .before .before .before .before .before .pre in
-    let T = a .queue .now in
-    let m = member-yes _ (a .q) _ (c .before .contains .ensures) (c .if1 .taken) in
-    let m' = subst (λ (x : ℕ). Member x (a .q)) (c .before .before .minus .ensures) m in
-    let new = minus-not (a .set) (companions T (a .p)) (a .q) m' in
-    let h = has-room T (a .count) (a .p) (a .q) (p .0 .queue) (p .0 .state) (p .1) new in
-    let l = p .0 .queue .size in
+    let n = new c in
+    let l = c .before .before .before .before .before .pre .0 .queue .size in
     simp length-set (omega arith)
 
 insert-requires : tie.Need-insert-requires
@@ -105,24 +96,18 @@ same-length c = search needs
 
 returns : tie.Need-returns
 returns c =
-    let a = c .before .before .before .before .before .before .args in
-    let p = c .before .before .before .before .before .before .pre in
-    let T = a .queue .now in
-    let m = member-yes _ (a .q) _ (c .before .before .contains .ensures) (c .before .if1 .taken) in
-    let m' = subst (λ (x : ℕ). Member x (a .q)) (c .before .before .before .minus .ensures) m in
-    let new = minus-not (a .set) (companions T (a .p)) (a .q) m' in
-    let h = has-room T (a .count) (a .p) (a .q) (p .0 .queue) (p .0 .state) (p .1) new in
-    rw (c .insert .ensures) (push (a .queue .now) (a .count) (a .depth) (a .p) (a .q) (a .origin) (p .0) (p .1) h new (a .set) (minus-left (a .set) (companions (a .queue .now) (a .p)) (a .q) m'))
+    let s = c .before .before .before .before .before .before in
+    let a = s .args in
+    let n = new (c .before) in
+    rw (c .insert .ensures)
+    (push (a .queue .now) (a .count) (a .depth) (a .p) (a .q) (a .origin) (s .pre .0) (s .pre .1) (n .room) (n .new) (a .set) (n .member))
 
 returns-2 : tie.Need-returns-2
 returns-2 c =
-    let a = c .before .before .before .before .before .args in
-    let p = c .before .before .before .before .before .pre in
-    let T = a .queue .now in
-    let m = member-no _ (a .q) _ (c .before .contains .ensures) (c .if1 .left) in
-    let m' = subst (λ (x : ℕ). Member x (a .q) → ⊥) (c .before .before .minus .ensures) m in
-    unchanged T (a .count) (a .depth) (a .p) (Only (a .set) (a .q)) (a .origin) (p .0)
-    (λ r s. rw (s .0) (minus-else (a .set) (companions T (a .p)) (a .q) m' (rw (s .0) at (s .1))))
+    let s = c .before .before .before .before .before in
+    let a = s .args in
+    unchanged (a .queue .now) (a .count) (a .depth) (a .p) (Only (a .set) (a .q)) (a .origin) (s .pre .0)
+    (old-pair (a .set) (a .q) (s .pre .0) (s .pre .1) (c .before .before .minus .ensures) (c .before .contains .ensures) (c .if1 .left))
 
 pub add-spec : {M : Type 1} → statement M
 add-spec =

@@ -2,9 +2,9 @@
 use Prim.Native.Nat.{ℕ, _-_, _≤_}
 use mathlib.Core.Path.{_≡_, sym, _∙_, subst}
 use native.Mathlib.Omega.{arith}
-use Rattle.sets.specs.SetLaws.{within-is}
+use Rattle.sets.specs.TestLaws.{within-is}
 use Rattle.queue.specs.Queue.{companions, Below, Longer}
-use Rattle.queue.specs.Rows.{unchanged, row-more, open-longer}
+use Rattle.queue.specs.RowLaws.{unchanged, row-more, open-longer}
 use borrow.Author.Needs.{needs}
 use Rattle.queue.proofs.add_row.Statement.{statement}
 use Rattle.queue.proofs.add_row.Tie as tie
@@ -33,7 +33,7 @@ within-requires c κs = search needs
 returns : tie.Need-returns Inv-loop μ-loop
 returns c =
     let a = c .before .before .before .before .args in
-    let w = within-is (a .set) (companions (a .queue .now) (a .p)) (sym (c .before .within .ensures) ∙ c .if1 .taken) in
+    let w = within-is (a .set) (companions (a .queue .now) (a .p)) (rw (sym (c .before .within .ensures) ∙ c .if1 .taken) tt) in
     unchanged (a .queue .now) (a .count) (a .depth) (a .p) (Below (a .set) 16) (a .origin) (c .before .before .before .before .pre .0) (λ r s. w r (s .1))
 
 loop-holds : tie.Need-loop-holds Inv-loop μ-loop

@@ -1,6 +1,6 @@
 -- Each test that fails denies its part. Assumes nothing.
 use native.Mathlib.Omega.{arith}
-use Rattle.automaton.specs.QuestionLaws.{decides-yes, decides-no}
+use Rattle.gate.specs.GateLaws.{decides-yes, decides-no}
 use borrow.Author.Needs.{needs}
 use Rattle.tracker.proofs.enough.Statement.{statement}
 use Rattle.tracker.proofs.enough.Tie as tie

@@ -4,10 +4,17 @@ use mathlib.Core.Logic.{inl}
 use native.Mathlib.Omega.{arith}
 use Rattle.automaton.specs.Automaton.{automaton}
 use Rattle.automaton.specs.Lent.{tables}
+use Rattle.walks.specs.Check.{Lengths}
 use Rattle.walks.specs.CheckLaws.{ready, checked}
 use borrow.Author.Needs.{needs}
 use Rattle.walks.proofs.check.Statement.{statement}
 use Rattle.walks.proofs.check.Tie as tie
+
+-- all four lengths were asked
+long : (c : tie.Else4) →
+    let a = c .before .before .before .before .before .before .before .before .args in
+    Lengths (automaton (a .a) (a .table .now)) (tables (a .word .now) (a .one .now) (a .other .now))
+long c = record { cells = omega arith; long = record { word = omega arith; one = omega arith; other = omega arith } }
 
 returns : tie.Need-returns
 returns c = inl (λ q. (let h = q .cells in omega arith), refl, refl)
@@ -32,8 +39,10 @@ clear-requires-3 c κs = search needs
 
 judge-requires : tie.Need-judge-requires
 judge-requires c κs =
-    let a = c .before .before .before .before .before .before .before .before .before .before .before .before .before .before .before .before .before .before .before .before .before .before .before .args in
-    ready (automaton (a .a) (a .table .now)) (tables (a .word .now) (a .one .now) (a .other .now)) (c .before .before .before .before .before .before .before .before .before .before .before .before .before .clear .last .0) (c .before .before .before .before .before .before .before .before .before .clear2 .last .0) (c .before .before .before .before .before .clear3 .last .0) (c .before .before .before .before .before .before .before .before .before .before .before .before .before .clear .ensures) (c .before .before .before .before .before .before .before .before .before .clear2 .ensures) (c .before .before .before .before .before .clear3 .ensures) (record { cells = omega (arith, c .before .before .before .before .before .before .before .before .before .before .before .before .before .before .before .before .before .before .if1 .left); long = record { word = omega (arith, c .before .before .before .before .before .before .before .before .before .before .before .before .before .before .before .before .before .if2 .left); one = omega (arith, c .before .before .before .before .before .before .before .before .before .before .before .before .before .before .before .before .if3 .left); other = omega (arith, c .before .before .before .before .before .before .before .before .before .before .before .before .before .before .before .if4 .left) } })
+    let k = c .before .before .before .before .before in
+    let a = k .before .before .before .before .before .before .before .before .before .before .before .before .before .before .before .before .before .before .args in
+    ready (automaton (a .a) (a .table .now)) (tables (a .word .now) (a .one .now) (a .other .now)) (long (k .before .before .before .before .before .before .before .before .before .before))
+    (k .before .before .before .before .before .before .before .before .clear .ensures) (k .before .before .before .before .clear2 .ensures) (k .clear3 .ensures)
 
 same-length : tie.Need-same-length
 same-length c = search needs
@@ -46,9 +55,12 @@ same-length-3 c = search needs
 
 returns-5 : tie.Need-returns-5
 returns-5 c =
-    let a = c .before .before .before .before .before .before .before .before .before .before .before .before .before .before .before .before .before .before .before .before .before .before .before .before .before .before .before .before .before .before .args in
     let g = c .before .before .before .before .before .before .judge in
-    checked (automaton (a .a) (a .table .now)) (tables (a .word .now) (a .one .now) (a .other .now)) (c .before .before .before .before .before .before .before .before .before .before .before .before .before .before .before .before .before .before .before .before .clear .last .0) (c .before .before .before .before .before .before .before .before .before .before .before .before .before .before .before .before .clear2 .last .0) (c .before .before .before .before .before .before .before .before .before .before .before .before .clear3 .last .0) (c .before .before .before .before .before .before .before .before .before .before .before .before .before .before .before .before .before .before .before .before .clear .ensures) (c .before .before .before .before .before .before .before .before .before .before .before .before .before .before .before .before .clear2 .ensures) (c .before .before .before .before .before .before .before .before .before .before .before .before .clear3 .ensures) (record { cells = omega (arith, c .before .before .before .before .before .before .before .before .before .before .before .before .before .before .before .before .before .before .before .before .before .before .before .before .before .if1 .left); long = record { word = omega (arith, c .before .before .before .before .before .before .before .before .before .before .before .before .before .before .before .before .before .before .before .before .before .before .before .before .if2 .left); one = omega (arith, c .before .before .before .before .before .before .before .before .before .before .before .before .before .before .before .before .before .before .before .before .before .before .before .if3 .left); other = omega (arith, c .before .before .before .before .before .before .before .before .before .before .before .before .before .before .before .before .before .before .before .before .before .before .if4 .left) } }) (tables (g .last .1 .1 .0) (g .last .1 .1 .1 .0) (g .last .1 .1 .1 .1 .0)) (g .result) (g .ensures)
+    let k = c .before .before .before .before .before .before .before .before .before .before .before .before in
+    let a = k .before .before .before .before .before .before .before .before .before .before .before .before .before .before .before .before .before .before .args in
+    checked (automaton (a .a) (a .table .now)) (tables (a .word .now) (a .one .now) (a .other .now)) (long (k .before .before .before .before .before .before .before .before .before .before))
+    (k .before .before .before .before .before .before .before .before .clear .ensures) (k .before .before .before .before .clear2 .ensures) (k .clear3 .ensures)
+    (tables (g .last .1 .1 .0) (g .last .1 .1 .1 .0) (g .last .1 .1 .1 .1 .0)) (g .result) (g .ensures)
 
 pub check-spec : {M : Type 1} → statement M
 check-spec =

@@ -1,12 +1,16 @@
 -- There is room for each pair that is not listed: pairs are numbers below 256, and each is listed once. Assumes nothing.
 use Prim.Native.Nat.{ℕ, _+_, _*_, _%_, _≤_, _<_}
-use mathlib.Core.Path.{_≡_, sym, _∙_}
+use mathlib.Core.Path.{_≡_, sym, subst, _∙_}
+use mathlib.Core.Bool.{Bool, true, false}
 use mathlib.Core.List.{List}
 use native.Mathlib.Omega.{arith}
 use native.Mathlib.Decide.{decLt}
-use Rattle.sets.specs.Sets.{Member}
+use lib.Dec.{eqb}
+use Rattle.sets.specs.Sets.{bit, Member, minusOf}
+use Rattle.sets.specs.SetLaws.{minus-left, minus-not, minus-else}
+use Rattle.sets.specs.TestLaws.{member-yes, member-no}
 use Rattle.finite.specs.Finite.{pigeon, glue, glue-lt, glue-ge}
-use Rattle.queue.specs.Queue.{pair, companions, one, other, Queue}
+use Rattle.queue.specs.Queue.{pair, companions, one, other, Queue, Only, Open}
 
 module _ (T : List ℕ) (count p q : ℕ) (c : Queue T count) (hp : p < 16) (hq : q < 16) (new : Member (companions T p) q → ⊥) where
   pub not-listed : (i : ℕ) → i < count → pair T i % 256 ≡ 16 * p + q → ⊥
@@ -41,3 +45,21 @@ module _ (T : List ℕ) (count p q : ℕ) (c : Queue T count) (hp : p < 16) (hq 
       by : Dec (count < 256) → count < 256
       by (yes l) = l
       by (no l) = let (i, j, h, m, e) = pigeon 256 numbers (λ k x. small k) in absurd (twice i j h m (omega arith) e)
+
+-- what the test says that asks for q among the members of the set that are not yet found together with p
+pub record NewPair (T : List ℕ) (count p x q : ℕ) : Type 0 where
+  pub member : Member x q
+  pub new : Member (companions T p) q → ⊥
+  pub room : count < 256
+
+module _ (x q : ℕ) {T : List ℕ} {count d p rest : ℕ} {b : Bool} (o : Open T count d p) (hq : q < 16) (e : rest ≡ minusOf x (companions T p)) (t : b ≡ eqb (bit rest q) 1) where
+  pub new-pair : b ≡ true → NewPair T count p x q
+  new-pair y =
+      let m = subst (λ (z : ℕ). Member z q) e (member-yes rest q b t y) in
+      let new = minus-not x (companions T p) q m in
+      record { member = minus-left x (companions T p) q m; new = new; room = has-room T count p q (o .queue) (o .state) hq new }
+
+  pub old-pair : b ≡ false → (r : ℕ) → Only x q r → Member (companions T p) r
+  old-pair y r s =
+      let f = subst (λ (z : ℕ). Member z q → ⊥) e (member-no rest q b t y) in
+      rw (s .0) (minus-else x (companions T p) q f (rw (s .0) at (s .1)))

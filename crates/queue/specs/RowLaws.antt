@@ -10,7 +10,7 @@ use Rattle.sets.specs.Sets.{Member}
 use Rattle.queue.specs.Queue.{pair, companions, one, other, Listed, Has, AtMost, Keeps, Fresh, Longer, Below, Only, Open}
 
 -- a listed pair has its depth's bound
-pub listed-has : (T : List ℕ) (count d p q : ℕ) → AtMost T count d → Listed T count p q → Has T count d p q
+listed-has : (T : List ℕ) (count d p q : ℕ) → AtMost T count d → Listed T count p q → Has T count d p q
 listed-has T count d p q m (i, l, a, b) = (i, l, m i l, a, b)
 
 pub has-longer : (T T' : List ℕ) (count count' d p q : ℕ) → Keeps T count T' → count ≤ count' → Has T count d p q → Has T' count' d p q
@@ -31,7 +31,7 @@ pub open-longer : (T : List ℕ) (count d p : ℕ) (S : ℕ → Type 0) (o : ℕ
 open-longer T count d p S o T' count' r h l x = let m = x .more in record { queue = x .queue; most = x .most; deep = omega arith; state = h }
 
 -- first the members of S, then those of S′
-pub longer-both : (T : List ℕ) (count d p : ℕ) (S S′ U : ℕ → Type 0) (o : ℕ) (T₁ : List ℕ) (count₁ : ℕ) (T₂ : List ℕ) (count₂ : ℕ)
+longer-both : (T : List ℕ) (count d p : ℕ) (S S′ U : ℕ → Type 0) (o : ℕ) (T₁ : List ℕ) (count₁ : ℕ) (T₂ : List ℕ) (count₂ : ℕ)
     → ((q : ℕ) → U q → S q ⊎ S′ q) → ((q : ℕ) → S q → U q) → ((q : ℕ) → S′ q → U q)
     → Longer T count d p S o T₁ count₁ → Longer T₁ count₁ d p S′ o T₂ count₂ → Longer T count d p U o T₂ count₂
 longer-both T count d p S S′ U o T₁ count₁ T₂ count₂ split f g x y =

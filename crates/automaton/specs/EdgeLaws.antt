@@ -1,12 +1,20 @@
 -- What the questions 4, 7 and 8 grant: transitions lie within n and k, and so do the states of walks. Assumes nothing.
 use Prim.Native.Nat.{ℕ, zero, suc, _+_, _*_, _/_, _%_, _≤_, _<_}
 use mathlib.Core.Path.{_≡_, subst}
+use mathlib.Core.Logic.{Dec·and}
 use native.Mathlib.Omega.{arith}
 use native.Mathlib.Decide.{decLt}
 use Rattle.sets.specs.Sets.{Member}
-use Rattle.sets.specs.SetLaws.{no-member}
+use Rattle.sets.specs.SetLaws.{member-dec, no-member}
 use Rattle.automaton.specs.Automaton.{Automaton, Edge, Fits, successorSet}
 use Rattle.automaton.specs.Meeting.{Walk}
+
+pub edge-dec : (A : Automaton) (l q r : ℕ) → Dec (Edge A l q r)
+edge-dec A l q r = by (Dec·and (decLt l (A .k)) (Dec·and (decLt q (A .n)) (member-dec (successorSet A q l) r)))
+  where
+    by : Dec ((l < A .k) × ((q < A .n) × Member (successorSet A q l) r)) → Dec (Edge A l q r)
+    by (yes (a, (b, c))) = yes (record { letter = a; from = b; to = c })
+    by (no f) = no (λ e. f (e .letter, (e .from, e .to)))
 
 -- a member of a cell is a transition
 pub edge-of : (A : Automaton) → Fits A → (l q r : ℕ) → l < 8 → Member (successorSet A q l) r → Edge A l q r
@@ -26,8 +34,11 @@ edge-of A fits l q r h m = by (decLt l (A .k)) (decLt q (A .n))
     by (yes a) (no b) = absurd (empty (λ x y. b x))
     by (no a) b = absurd (empty (λ x y. a y))
 
+pub edge-state : (A : Automaton) → Fits A → (l q r : ℕ) → Edge A l q r → r < A .n
+edge-state A fits l q r e = fits .cells (8 * q + l) .within r (e .to)
+
 pub edge-to : (A : Automaton) → Fits A → (l q r : ℕ) → Edge A l q r → r < 16
-edge-to A fits l q r e = let h = fits .cells (8 * q + l) .within r (e .to) in let m = fits .range .1 in omega arith
+edge-to A fits l q r e = let h = edge-state A fits l q r e in let m = fits .range .1 in omega arith
 
 pub edge-letter : (A : Automaton) → Fits A → (l q r : ℕ) → Edge A l q r → l < 8
 edge-letter A fits l q r e = let h = e .letter in let m = fits .range .3 in omega arith
@@ -38,4 +49,4 @@ initial-lt A fits q m = let h = fits .states .0 q m in let n = fits .range .1 in
 -- the states of a walk are states of the sheet
 pub walk-in : (A : Automaton) → Fits A → (w : ℕ → ℕ) (t : ℕ) (x : ℕ → ℕ) → Walk A w t x → (s : ℕ) → s ≤ t → x s < A .n
 walk-in A fits w t x v zero l = fits .states .0 (x 0) (v .starts)
-walk-in A fits w t x v (suc s) l = fits .cells (8 * x s + w s) .within (x (suc s)) (v .goes s (omega arith) .to)
+walk-in A fits w t x v (suc s) l = edge-state A fits (w s) (x s) (x (suc s)) (v .goes s (omega arith))

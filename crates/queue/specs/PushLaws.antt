@@ -10,7 +10,7 @@ use lib.Seq.{getD-set-same, getD-set-other}
 use Rattle.sets.specs.Sets.{Member, unionOf}
 use Rattle.sets.specs.SetLaws.{union-in, union-left, union-right, bit-single, single-in}
 use Rattle.queue.specs.Queue.{pair, origin, companions, depth, one, other, Listed, Queue, Keeps, Longer, Only, Open, pushed}
-use Rattle.queue.specs.Room.{not-listed}
+use Rattle.queue.specs.RoomLaws.{not-listed}
 
 module _ (T : List ℕ) (count d p q o : ℕ) (a : Open T count d p) (hq : q < 16) (room : count < 256) (new : Member (companions T p) q → ⊥) where
   first : List ℕ
