@@ -50,11 +50,11 @@ below-of table l (suc m) x q r k h g = by (ℕ-discrete q m) (λ k. below-of tab
     by (no e) ih = union-left (successorsBelow table l m x) (given (bit x m) (getD table (8 * m + l) 0)) r (ih (omega arith))
 
 module _ (table : List ℕ) (l x : ℕ) where
-  pub successors-in : (r : ℕ) → Member (successorsOf table l x) r → (q : ℕ) × (q < 16) × Member x q × Member (getD table (8 * q + l) 0) r
+  successors-in : (r : ℕ) → Member (successorsOf table l x) r → (q : ℕ) × (q < 16) × Member x q × Member (getD table (8 * q + l) 0) r
   unfolding successorsOf
   successors-in r h = below-in table l 16 x r h
 
-  pub successors-of-member : (q r : ℕ) → q < 16 → Member x q → Member (getD table (8 * q + l) 0) r → Member (successorsOf table l x) r
+  successors-of-member : (q r : ℕ) → q < 16 → Member x q → Member (getD table (8 * q + l) 0) r → Member (successorsOf table l x) r
   unfolding successorsOf
   successors-of-member q r k h g = below-of table l 16 x q r k h g
 

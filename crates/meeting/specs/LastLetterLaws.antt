@@ -8,7 +8,6 @@ use lib.ListN.{length, getD, set, length-set}
 use lib.Seq.{getD-set-same, getD-set-other}
 use Rattle.sets.specs.Sets.{Member}
 use Rattle.automaton.specs.Automaton.{Automaton, Edge, Fits}
-use Rattle.automaton.specs.Lent.{tables}
 use Rattle.queue.specs.Queue.{pair, depth, one, other}
 use Rattle.automaton.specs.EdgeLaws.{edge-of}
 use Rattle.meeting.specs.Trace.{Tail, Traced}

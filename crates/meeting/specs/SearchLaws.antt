@@ -6,7 +6,7 @@ use native.Mathlib.Omega.{arith}
 use native.Mathlib.Decide.{decLt}
 use lib.ListN.{length}
 use Rattle.automaton.specs.Automaton.{Automaton, Fits}
-use Rattle.queue.specs.Queue.{pair, depth, one}
+use Rattle.queue.specs.Queue.{pair, depth}
 use Rattle.queue.specs.RowLaws.{has-longer}
 use Rattle.meeting.specs.Search.{Grown, Started, Closed, Ready, JoinsOn, Search}
 

@@ -63,7 +63,9 @@ module _ (A : Automaton) (counts : ℕ) (T : List ℕ) (head d t i : ℕ) (word 
 pub linked : (A : Automaton) (T : List ℕ) (head : ℕ) → AllSound A T (suc head) → Linked T head
 linked A T head sound i l h = let n = comes-from A T i h (sound i (omega arith)) in (n .earlier, n .deep)
 
-pub leads-step : (T : List ℕ) (head d t i : ℕ) (v w : Tables) (o e u : ℕ) → t ≡ suc u → o ≡ origin T i → e ≡ pair T (o / 8)
-    → d < length (w .word) → d < length (w .one) → d < length (w .other) → Leads T head d t i v w → Leads T head d u (o / 8) v (noted w u (o % 8) e)
-leads-step T head d t i v w o e u z ho he hw hf hs g A counts sound x =
-    trace-step A counts T head d t i (w .word) (w .one) (w .other) sound (g A counts sound x) o e u z ho he hw hf hs
+pub leads-step : (T : List ℕ) (head d t i : ℕ) (v w : Tables) {w' : Tables} (o e u : ℕ) → t ≡ suc u → o ≡ origin T i → e ≡ pair T (o / 8)
+    → d < length (w .word) → d < length (w .one) → d < length (w .other) → w' ≡ noted w u (o % 8) e
+    → Leads T head d t i v w → Leads T head d u (o / 8) v w'
+leads-step T head d t i v w o e u z ho he hw hf hs n g =
+    subst (Leads T head d u (o / 8) v) (sym n)
+    (λ A counts sound x. trace-step A counts T head d t i (w .word) (w .one) (w .other) sound (g A counts sound x) o e u z ho he hw hf hs)

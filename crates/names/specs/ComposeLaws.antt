@@ -2,7 +2,7 @@
 use Prim.Native.Nat.{ℕ, suc, _+_, _-_, _<_, _≤_}
 use mathlib.Core.Path.{_≡_, refl, sym, _∙_, ap}
 use mathlib.Core.Bool.{Bool, true, false, _&&_}
-use mathlib.Core.Logic.{_⊎_, ⊎-elim}
+use mathlib.Core.Logic.{⊎-elim}
 use mathlib.Core.List.{List, [], _∷_}
 use lib.ListN.{length, getD, set, List·getD-eq-default}
 use lib.Seq.{sets}
@@ -12,8 +12,7 @@ use native.Mathlib.Nat.{add-zero}
 use native.Mathlib.Omega.{arith}
 use Rattle.text.specs.Bytes.{stretch}
 use Rattle.text.specs.BytesLaws.{stretch-none, stretch-cons, stretch-length, stretch-at}
-use Rattle.text.specs.Choice.{choose}
-use Rattle.text.specs.ChoiceLaws.{lt-or-ge, both, neither}
+use Rattle.text.specs.ChoiceLaws.{lt-or-ge, neither, true-is-not-false}
 use Rattle.names.specs.Name.{isVowel, umlautOf, compose}
 use Rattle.names.specs.Row.{diaeresisAt}
 
@@ -34,15 +33,14 @@ pub compose-vowel : (a : ℕ) (x : List ℕ) → isVowel a ≡ true → compose 
 unfolding compose
 compose-vowel a x h = simp h
 
+pub and-both : (t u : Bool) → t && u ≡ true → (t ≡ true) × (u ≡ true)
+and-both true u h = (refl, h)
+and-both false u h = absurd (true-is-not-false (sym h))
+
 and-false : (t u : Bool) → t && (u && false) ≡ false
 and-false true true = refl
 and-false true false = refl
 and-false false u = refl
-
-and-choose : (t u v : Bool) → choose t (choose u v false) false ≡ t && (u && v)
-and-choose true true v = refl
-and-choose true false v = refl
-and-choose false u v = refl
 
 -- THE SAME OF A STRETCH
 module _ (s : List ℕ) (i e : ℕ) (l : i < e) (fits : e ≤ length s) where
@@ -62,8 +60,7 @@ module _ (s : List ℕ) (i e : ℕ) (l : i < e) (fits : e ≤ length s) where
       let k : i + 1 + 1 ≡ i + 2 = omega arith in
       let c : getD (stretch s (i + 1) e) 1 0 ≡ getD s (i + 2) 0 =
       stretch-at s (i + 1) e 1 (omega arith) ∙ ap (λ (n : ℕ). getD s n 0) k in
-      simp (le-ltb (e - i) 3 long, b, c)
-      (and-choose (isVowel (getD s i 0)) (eqb (getD s (i + 1) 0) 0xCC) (eqb (getD s (i + 2) 0) 0x88)))
+      simp (le-ltb (e - i) 3 long, b, c))
       (lt-or-ge (e - i) 3)
 
   pub composed-one : diaeresisAt s i e ≡ false → compose (stretch s i e) ≡ getD s i 0 ∷ compose (stretch s (i + 1) e)
@@ -75,8 +72,8 @@ module _ (s : List ℕ) (i e : ℕ) (l : i < e) (fits : e ≤ length s) where
   unfolding diaeresisAt
   tested h =
       let a = neither (ltb (e - i) 3) _ h in
-      let b = both (isVowel (getD s i 0)) _ (a .1) in
-      let c = both (eqb (getD s (i + 1) 0) 0xCC) _ (b .1) in
+      let b = and-both (isVowel (getD s i 0)) _ (a .1) in
+      let c = and-both (eqb (getD s (i + 1) 0) 0xCC) _ (b .1) in
       (omega (arith, ltb-false (e - i) 3 (a .0)), b .0, eqb-true _ _ (c .0), eqb-true _ _ (c .1))
 
   pub composed-fits : diaeresisAt s i e ≡ true → i + 3 ≤ e

@@ -20,6 +20,10 @@ isUmlaut b = oneOf (0xA4 ∷ 0xB6 ∷ 0xBC ∷ 0x84 ∷ 0x96 ∷ 0x9C ∷ 0x9F �
 unfoldable pub isVowel : ℕ → Bool
 isVowel b = oneOf (0x61 ∷ 0x6F ∷ 0x75 ∷ 0x41 ∷ 0x4F ∷ 0x55 ∷ []) b
 
+-- three bytes are a vowel with the combining diaeresis, CC 88
+abbrev pub isDecomposed : ℕ → ℕ → ℕ → Bool
+isDecomposed a b c = isVowel a && (eqb b 0xCC && eqb c 0x88)
+
 -- the second byte of the composed letter of a vowel
 unfoldable pub umlautOf : ℕ → ℕ
 umlautOf v =
@@ -75,4 +79,4 @@ compose [] = []
 compose (a ∷ []) = a ∷ []
 compose (a ∷ b ∷ []) = a ∷ b ∷ []
 compose (a ∷ b ∷ c ∷ x) =
-    choose (isVowel a && (eqb b 0xCC && eqb c 0x88)) (0xC3 ∷ umlautOf a ∷ compose x) (a ∷ compose (b ∷ c ∷ x))
+    choose (isDecomposed a b c) (0xC3 ∷ umlautOf a ∷ compose x) (a ∷ compose (b ∷ c ∷ x))

@@ -9,7 +9,7 @@ use borrow.Author.Tests.{ne-eqb}
 use native.Mathlib.Omega.{arith}
 use Rattle.text.specs.Choice.{choose}
 use Rattle.text.specs.Word.{without}
-use Rattle.names.specs.Name.{isUmlaut, isVowel, umlautOf, Part, RightPart, RightParts, partBytes, nameBytes, IsName, composedPart, compose}
+use Rattle.names.specs.Name.{isUmlaut, isVowel, isDecomposed, umlautOf, Part, RightPart, RightParts, partBytes, nameBytes, IsName, composedPart, compose}
 use Rattle.names.specs.Name.Part.{plain, composed, decomposed}
 use Rattle.names.specs.PartLaws.{holds, no-vowel, umlaut-range, umlaut-of, composed-right, NoMark, no-mark-end, parts-unique, parts-without}
 use Rattle.names.specs.ComposeLaws.{mark, diaeresis, compose-keep, compose-vowel}
@@ -32,13 +32,13 @@ compose-part (composed c) x r n =
     compose-keep 0xC3 (c ∷ x) (simp v) ∙ ap (λ (y : List ℕ). 0xC3 ∷ y) (compose-keep c x (simp w))
 compose-part (decomposed v) x r n = compose-vowel v x (holds (isVowel v) r)
 
-pub compose-parts : (ps : List Part) → RightParts ps → compose (nameBytes ps) ≡ nameBytes (map composedPart ps)
+compose-parts : (ps : List Part) → RightParts ps → compose (nameBytes ps) ≡ nameBytes (map composedPart ps)
 unfolding nameBytes compose
 compose-parts [] r = refl
 compose-parts (p ∷ ps) r =
     compose-part p (nameBytes ps) (r .0) (no-mark-end ps (r .1)) ∙ ap (λ (y : List ℕ). partBytes (composedPart p) ++ y) (compose-parts ps (r .1))
 
-pub composed-rights : (ps : List Part) → RightParts ps → RightParts (map composedPart ps)
+composed-rights : (ps : List Part) → RightParts ps → RightParts (map composedPart ps)
 composed-rights [] r = tt
 composed-rights (p ∷ ps) r = (composed-right p (r .0), composed-rights ps (r .1))
 
@@ -65,19 +65,19 @@ compose-shorter [] = omega arith
 compose-shorter (a ∷ []) = omega arith
 compose-shorter (a ∷ b ∷ []) = omega arith
 compose-shorter (a ∷ b ∷ c ∷ x) =
-    step-shorter (isVowel a && (eqb b 0xCC && eqb c 0x88)) a (umlautOf a) b c x (compose x) (compose (b ∷ c ∷ x)) (compose-shorter x)
+    step-shorter (isDecomposed a b c) a (umlautOf a) b c x (compose x) (compose (b ∷ c ∷ x)) (compose-shorter x)
     (omega (arith, compose-shorter (b ∷ c ∷ x)))
 
 some-left : (t : Bool) (a u : ℕ) (y z : List ℕ) → 1 ≤ length (choose t (0xC3 ∷ u ∷ y) (a ∷ z))
 some-left true a u y z = omega arith
 some-left false a u y z = omega arith
 
-pub compose-some : (x : List ℕ) → 1 ≤ length x → 1 ≤ length (compose x)
+compose-some : (x : List ℕ) → 1 ≤ length x → 1 ≤ length (compose x)
 unfolding compose
 compose-some [] h = h
 compose-some (a ∷ []) h = omega arith
 compose-some (a ∷ b ∷ []) h = omega arith
-compose-some (a ∷ b ∷ c ∷ x) h = some-left (isVowel a && (eqb b 0xCC && eqb c 0x88)) a (umlautOf a) (compose x) (compose (b ∷ c ∷ x))
+compose-some (a ∷ b ∷ c ∷ x) h = some-left (isDecomposed a b c) a (umlautOf a) (compose x) (compose (b ∷ c ∷ x))
 
 -- A COMPOSED NAME IS A NAME AGAIN
 pub composed-name : (x : List ℕ) → IsName x → IsName (compose x)
@@ -99,7 +99,7 @@ unfolding compose
 head-of [] h = h
 head-of (a ∷ []) h = h
 head-of (a ∷ b ∷ []) h = h
-head-of (a ∷ b ∷ c ∷ x) h = by (isVowel a && (eqb b 0xCC && eqb c 0x88))
+head-of (a ∷ b ∷ c ∷ x) h = by (isDecomposed a b c)
   where
     by : (t : Bool) → eqb (getD (choose t (0xC3 ∷ umlautOf a ∷ compose x) (a ∷ compose (b ∷ c ∷ x))) 0 0) 0x88 ≡ false
     by true = refl
@@ -114,7 +114,7 @@ unfolding compose
 mark-of [] h = h
 mark-of (a ∷ []) h = h
 mark-of (a ∷ b ∷ []) h = h
-mark-of (a ∷ b ∷ c ∷ x) h = by (isVowel a && (eqb b 0xCC && eqb c 0x88))
+mark-of (a ∷ b ∷ c ∷ x) h = by (isDecomposed a b c)
   where
     by : (t : Bool) → mark (choose t (0xC3 ∷ umlautOf a ∷ compose x) (a ∷ compose (b ∷ c ∷ x))) ≡ false
     by true = refl
@@ -126,7 +126,7 @@ compose-idempotent [] = refl
 compose-idempotent (a ∷ []) = refl
 compose-idempotent (a ∷ b ∷ []) = refl
 compose-idempotent (a ∷ b ∷ c ∷ x) =
-    by (isVowel a && (eqb b 0xCC && eqb c 0x88)) refl (compose-idempotent x) (compose-idempotent (b ∷ c ∷ x))
+    by (isDecomposed a b c) refl (compose-idempotent x) (compose-idempotent (b ∷ c ∷ x))
   where
     by :
         (t : Bool) →

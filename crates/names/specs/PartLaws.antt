@@ -2,7 +2,7 @@
 use Prim.Native.Nat.{ℕ, _+_, _<_, _≤_}
 use mathlib.Core.Path.{_≡_, refl, sym, _∙_, ap, subst}
 use mathlib.Core.Bool.{Bool, true, false, _&&_}
-use mathlib.Core.Logic.{_⊎_, ⊎-elim}
+use mathlib.Core.Logic.{⊎-elim}
 use mathlib.Core.List.{List, [], _∷_, _++_, append-assoc, append-nil}
 use lib.ListN.{length, getD, drop, drop-of-length-le}
 use lib.Seq.{drop-cons}
@@ -13,7 +13,7 @@ use native.Mathlib.Omega.{arith}
 use Rattle.text.specs.Choice.{choose}
 use Rattle.text.specs.ChoiceLaws.{both, true-is-not-false, true-or-false}
 use Rattle.text.specs.Word.{without}
-use Rattle.names.specs.Name.{oneOf, isUmlaut, isVowel, umlautOf, Part, RightPart, RightParts, partBytes, nameBytes, composedPart}
+use Rattle.names.specs.Name.{oneOf, isUmlaut, isVowel, isDecomposed, umlautOf, Part, RightPart, RightParts, partBytes, nameBytes, composedPart}
 use Rattle.names.specs.Name.Part.{plain, composed, decomposed}
 
 -- A BYTE of a list, one step of the search
@@ -96,7 +96,7 @@ composed-right (decomposed v) r = shown _ (umlaut-of v)
 abbrev pub NoMark : List ℕ → Type 0
 NoMark x = getD x 0 0 ≡ 0xCC → ⊥
 
-pub no-mark-part : (p : Part) (x : List ℕ) → RightPart p → NoMark (partBytes p ++ x)
+no-mark-part : (p : Part) (x : List ℕ) → RightPart p → NoMark (partBytes p ++ x)
 no-mark-part (plain b) x r e = omega arith
 no-mark-part (composed c) x r e = omega arith
 no-mark-part (decomposed v) x r e = omega (arith, vowel-range v (holds _ r))
@@ -109,7 +109,7 @@ no-mark (p ∷ ps) x r n = rw append-assoc (no-mark-part p (nameBytes ps ++ x) (
 -- THE PART that a list starts with, read off its bytes
 first-part-of : List ℕ → Part
 first-part-of x =
-    choose (isVowel (getD x 0 0) && (eqb (getD x 1 0) 0xCC && eqb (getD x 2 0) 0x88)) (decomposed (getD x 0 0))
+    choose (isDecomposed (getD x 0 0) (getD x 1 0) (getD x 2 0)) (decomposed (getD x 0 0))
     (choose (eqb (getD x 0 0) 0xC3) (composed (getD x 1 0)) (plain (getD x 0 0)))
 
 first-part : (p : Part) (x : List ℕ) → RightPart p → NoMark x → first-part-of (partBytes p ++ x) ≡ p

@@ -3,9 +3,9 @@ use Prim.Native.Nat.{ℕ, _+_, _-_, _≤_}
 use mathlib.Core.Bool.{Bool, false}
 use mathlib.Core.List.{List, _++_}
 use lib.ListN.{length, getD, take, drop, replicate}
-use lib.Dec.{ltb, eqb}
+use lib.Dec.{ltb}
 use Rattle.text.specs.Choice.{choose}
-use Rattle.names.specs.Name.{isVowel}
+use Rattle.names.specs.Name.{isDecomposed}
 
 -- a stretch lies within a list
 pub record Stretches (s : List ℕ) (start end : ℕ) : Type 0 where
@@ -15,8 +15,7 @@ pub record Stretches (s : List ℕ) (start end : ℕ) : Type 0 where
 -- the stretch from i to `end` starts with a vowel and CC 88
 unfoldable pub diaeresisAt : List ℕ → ℕ → ℕ → Bool
 diaeresisAt s i end =
-    choose (ltb (end - i) 3) false
-    (choose (isVowel (getD s i 0)) (choose (eqb (getD s (i + 1) 0) 0xCC) (eqb (getD s (i + 2) 0) 0x88) false) false)
+    choose (ltb (end - i) 3) false (isDecomposed (getD s i 0) (getD s (i + 1) 0) (getD s (i + 2) 0))
 
 -- a name in a row, with zeros behind it
 abbrev pub padded : List ℕ → List ℕ

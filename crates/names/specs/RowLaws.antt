@@ -4,11 +4,10 @@ use mathlib.Core.Path.{_≡_, refl, sym, _∙_, ap}
 use mathlib.Core.Bool.{true}
 use mathlib.Core.List.{List, [], _∷_, _++_, append-assoc}
 use lib.ListN.{length, getD, set, take, drop, replicate, length-drop, length-append, length-replicate}
-use lib.Seq.{sets, getD-take, getD-drop, ext-getD, sets-eq, length-take-le, take-at, drop-at, drop-set-lt, drop-set-add, take-set-le}
+use lib.Seq.{sets, getD-take, getD-drop, ext-getD, sets-eq, length-take-le, take-at, drop-at, drop-set-add, take-set-le}
 use lib.Dec.{eqb}
 use borrow.Author.Tests.{eqb-false}
 use native.Mathlib.Omega.{arith}
-use native.Mathlib.Nat.{add-zero}
 use Rattle.text.specs.ChoiceLaws.{neither}
 use Rattle.text.specs.SetsLaws.{sets-append}
 use Rattle.text.specs.Word.{noZero}
@@ -17,7 +16,7 @@ use Rattle.names.specs.NameLaws.{name-without, composed-name}
 use Rattle.names.specs.Row.{padded, row}
 
 -- THE CELLS of a row
-pub row-at : (rows : List ℕ) (a i : ℕ) → i < 24 → getD (row rows a) i 0 ≡ getD rows (a + i) 0
+row-at : (rows : List ℕ) (a i : ℕ) → i < 24 → getD (row rows a) i 0 ≡ getD rows (a + i) 0
 row-at rows a i h = getD-take 24 (drop a rows) i 0 h ∙ getD-drop a rows i 0
 
 pub row-length : (rows : List ℕ) (a : ℕ) → a + 24 ≤ length rows → length (row rows a) ≡ 24
@@ -37,31 +36,18 @@ module _ (rows : List ℕ) (a b : ℕ) where
   pub cells-equal : row rows a ≡ row rows b → (i : ℕ) → i < 24 → getD rows (a + i) 0 ≡ getD rows (b + i) 0
   cells-equal e i h = sym (row-at rows a i h) ∙ (ap (λ (l : List ℕ). getD l i 0) e ∙ row-at rows b i h)
 
--- ZEROS, one store at a time
-pub zeros-first : (out : List ℕ) (at n : ℕ) → sets out (at + 0) (replicate (n - 0) 0) ≡ sets out at (replicate n 0)
-zeros-first out at n =
-    let k : n - 0 ≡ n = omega arith in
-    rw (add-zero, k)
-
-module _ (out : List ℕ) (at n i : ℕ) where
-  pub zeros-next :
-      i < n → sets out (at + i) (replicate (n - i) 0) ≡ sets (set out (at + i) 0) (at + (i + 1)) (replicate (n - (i + 1)) 0)
-  zeros-next h =
-      let k : n - i ≡ suc (n - (i + 1)) = omega arith in
-      let l : at + (i + 1) ≡ suc (at + i) = omega arith in
-      rw (k, l)
-
-  pub zeros-done : n ≤ i → sets out (at + i) (replicate (n - i) 0) ≡ out
-  zeros-done h =
-      let k : n - i ≡ 0 = omega arith in
-      rw k
-
 -- THE STORE of a row: there it stands, and other rows stay
 pub padded-length : (x : List ℕ) → length x ≤ 24 → length (padded x) ≡ 24
 padded-length x h = simp (length-append, length-replicate) (omega arith)
 
-pub stored-padded : (out x : List ℕ) (at n : ℕ) → n ≡ length x → sets (sets out at x) (at + n) (replicate (24 - n) 0) ≡ sets out at (padded x)
-stored-padded out x at n e = rw e (sym (sets-append x (replicate (24 - length x) 0) out at))
+take-zeros : (m n : ℕ) → m ≤ n → take m (replicate {A = ℕ} n 0) ≡ replicate m 0
+take-zeros zero n h = refl
+take-zeros (suc m) zero h = absurd (omega arith)
+take-zeros (suc m) (suc n) h = ap (λ (l : List ℕ). 0 ∷ l) (take-zeros m n (omega arith))
+
+pub stored-padded : (out x : List ℕ) (at n : ℕ) → n ≡ length x
+    → sets (sets out at x) (at + n) (take (24 - n) (replicate 24 0)) ≡ sets out at (padded x)
+stored-padded out x at n e = rw (take-zeros (24 - n) 24 (omega arith), e) (sym (sets-append x (replicate (24 - length x) 0) out at))
 
 pub row-stored : (rows x : List ℕ) (at : ℕ) → length x ≡ 24 → at + 24 ≤ length rows → row (sets rows at x) at ≡ x
 row-stored rows x at l h =
@@ -70,11 +56,6 @@ row-stored rows x at l h =
     let rest = drop (at + length x) rows in
     let d : drop at (take at rows ++ x ++ rest) ≡ x ++ rest = ap (drop at) (append-assoc (take at rows) x rest) ∙ drop-at (take at rows) (x ++ rest) at k in
     rw e (ap (take 24) d ∙ take-at x rest 24 l)
-
-pub row-kept-behind : (rows x : List ℕ) (at b : ℕ) → at + length x ≤ b → row (sets rows at x) b ≡ row rows b
-row-kept-behind rows [] at b h = refl
-row-kept-behind rows (v ∷ x) at b h =
-    row-kept-behind (set rows at v) x (suc at) b (omega arith) ∙ ap (take 24) (drop-set-lt b rows at v (omega arith))
 
 pub row-kept-ahead : (rows x : List ℕ) (at b : ℕ) → b + 24 ≤ at → row (sets rows at x) b ≡ row rows b
 row-kept-ahead rows [] at b h = refl

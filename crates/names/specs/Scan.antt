@@ -5,7 +5,7 @@ use lib.ListN.{getD}
 use lib.Dec.{ltb, eqb}
 use Rattle.text.specs.Bytes.{lf}
 use Rattle.text.specs.Choice.{choose}
-use Rattle.names.specs.Name.{isUmlaut, isVowel}
+use Rattle.names.specs.Name.{isUmlaut, isDecomposed}
 use Rattle.names.specs.declared.Ending.{Ending}
 use Rattle.names.specs.declared.Ending.the-variants.{At, Bad}
 
@@ -13,8 +13,7 @@ use Rattle.names.specs.declared.Ending.the-variants.{At, Bad}
 unfoldable pub widthOf : ℕ → ℕ → ℕ → ℕ
 widthOf a b c =
     choose (eqb a 0xC3) (choose (isUmlaut b) 2 0)
-    (choose (ltb a 0x21) 0
-    (choose (ltb 0x7E a) 0 (choose (isVowel a) (choose (eqb b 0xCC) (choose (eqb c 0x88) 3 1) 1) 1)))
+    (choose (ltb a 0x21) 0 (choose (ltb 0x7E a) 0 (choose (isDecomposed a b c) 3 1)))
 
 unfoldable pub widthAt : List ℕ → ℕ → ℕ
 widthAt s at = widthOf (getD s at 0) (getD s (at + 1) 0) (getD s (at + 2) 0)

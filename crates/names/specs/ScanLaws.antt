@@ -1,7 +1,7 @@
 -- One step along a name, and what its end means. Assumes nothing.
 use Prim.Native.Nat.{ℕ, zero, suc, _+_, _-_, _<_, _≤_}
 use mathlib.Core.Path.{_≡_, refl, sym, _∙_, ap, subst}
-use mathlib.Core.Bool.{Bool, true, false}
+use mathlib.Core.Bool.{Bool, true, false, _&&_}
 use mathlib.Core.List.{List, [], _∷_, _++_, append-assoc, append-nil}
 use lib.ListN.{length, getD, drop, length-append}
 use lib.Seq.{getD-drop, drop-cons, drop-length, getD-at}
@@ -15,11 +15,11 @@ use Rattle.text.specs.BytesLaws.{stretch-is, stretch-rest}
 use Rattle.text.specs.Choice.{choose}
 use Rattle.text.specs.Word.{startsAt, noZero}
 use Rattle.text.specs.WordLaws.{starts-is, within}
-use Rattle.names.specs.Name.{isUmlaut, isVowel, Part, RightPart, RightParts, partBytes, nameBytes, IsName}
+use Rattle.names.specs.Name.{isUmlaut, isVowel, isDecomposed, Part, RightPart, RightParts, partBytes, nameBytes, IsName}
 use Rattle.names.specs.Name.Part.{plain, composed, decomposed}
 use Rattle.names.specs.PartLaws.{holds, shown, vowel-range, NoMark, no-mark, parts-without}
+use Rattle.names.specs.ComposeLaws.{and-both}
 use Rattle.names.specs.Scan.{widthOf, widthAt, partsEnd, nameEndAt}
-use Rattle.names.specs.declared.Ending.{Ending}
 use Rattle.names.specs.declared.Ending.the-variants.{At, Bad}
 
 -- ONE STEP of the scan
@@ -44,15 +44,15 @@ module _ (s : List ℕ) (at n t : ℕ) where
       rw k
 
 -- A WIDTH THAT IS NOT 0: a part stands there
-pub record PartAt (s : List ℕ) (at w : ℕ) : Type 0 where
+record PartAt (s : List ℕ) (at w : ℕ) : Type 0 where
   pub part : Part
   pub right : RightPart part
   pub is : drop at s ≡ partBytes part ++ drop (at + w) s
   pub width : w ≡ length (partBytes part)
 
 -- `widthOf` over its tests
-abbrev widthBy : Bool → Bool → Bool → Bool → Bool → Bool → Bool → ℕ
-widthBy t₁ t₂ t₃ t₄ t₅ t₆ t₇ = choose t₁ (choose t₂ 2 0) (choose t₃ 0 (choose t₄ 0 (choose t₅ (choose t₆ (choose t₇ 3 1) 1) 1)))
+abbrev widthBy : Bool → Bool → Bool → Bool → Bool → ℕ
+widthBy t₁ t₂ t₃ t₄ t₅ = choose t₁ (choose t₂ 2 0) (choose t₃ 0 (choose t₄ 0 (choose t₅ 3 1)))
 
 part-no-zero : (p : Part) → RightPart p → noZero (partBytes p) ≡ true
 unfolding nameBytes
@@ -72,46 +72,43 @@ module _ (s : List ℕ) (at : ℕ) where
       stands (composed (getD s (at + 1) 0)) (shown _ u)
       (simp (eq-eqb (getD s at 0) 0xC3 e, eq-eqb (getD s (at + 1) 0) (getD s (at + 1) 0) refl))
 
-  at-decomposed : isVowel (getD s at 0) ≡ true → getD s (at + 1) 0 ≡ 0xCC → getD s (at + 2) 0 ≡ 0x88 → PartAt s at 3
+  at-decomposed : isDecomposed (getD s at 0) (getD s (at + 1) 0) (getD s (at + 2) 0) ≡ true → PartAt s at 3
   unfolding startsAt
-  at-decomposed v e f =
+  at-decomposed d =
       let two : at + 1 + 1 ≡ at + 2 = omega arith in
-      stands (decomposed (getD s at 0)) (shown _ v)
-      (simp (eq-eqb (getD s at 0) (getD s at 0) refl, eq-eqb (getD s (at + 1) 0) 0xCC e, two, eq-eqb (getD s (at + 2) 0) 0x88 f))
+      let v = and-both (isVowel (getD s at 0)) _ d in
+      let w = and-both (eqb (getD s (at + 1) 0) 0xCC) _ (v .1) in
+      stands (decomposed (getD s at 0)) (shown _ (v .0)) (simp (eq-eqb (getD s at 0) (getD s at 0) refl, w .0, two, w .1))
 
   -- by the tests of `widthOf`
   by-tests :
-      (t₁ t₂ t₃ t₄ t₅ t₆ t₇ : Bool) →
+      (t₁ t₂ t₃ t₄ t₅ : Bool) →
       eqb (getD s at 0) 0xC3 ≡ t₁ →
       isUmlaut (getD s (at + 1) 0) ≡ t₂ →
       ltb (getD s at 0) 0x21 ≡ t₃ →
       ltb 0x7E (getD s at 0) ≡ t₄ →
-      isVowel (getD s at 0) ≡ t₅ →
-      eqb (getD s (at + 1) 0) 0xCC ≡ t₆ →
-      eqb (getD s (at + 2) 0) 0x88 ≡ t₇ →
-      (widthBy t₁ t₂ t₃ t₄ t₅ t₆ t₇ ≡ 0 → ⊥) →
-      PartAt s at (widthBy t₁ t₂ t₃ t₄ t₅ t₆ t₇)
-  by-tests true true t₃ t₄ t₅ t₆ t₇ a b c d e f g h = at-composed (eqb-true _ _ a) b
-  by-tests true false t₃ t₄ t₅ t₆ t₇ a b c d e f g h = absurd (h refl)
-  by-tests false t₂ true t₄ t₅ t₆ t₇ a b c d e f g h = absurd (h refl)
-  by-tests false t₂ false true t₅ t₆ t₇ a b c d e f g h = absurd (h refl)
-  by-tests false t₂ false false false t₆ t₇ a b c d e f g h = at-plain (ltb-false _ _ c) (ltb-false _ _ d)
-  by-tests false t₂ false false true false t₇ a b c d e f g h = at-plain (ltb-false _ _ c) (ltb-false _ _ d)
-  by-tests false t₂ false false true true false a b c d e f g h = at-plain (ltb-false _ _ c) (ltb-false _ _ d)
-  by-tests false t₂ false false true true true a b c d e f g h = at-decomposed e (eqb-true _ _ f) (eqb-true _ _ g)
+      isDecomposed (getD s at 0) (getD s (at + 1) 0) (getD s (at + 2) 0) ≡ t₅ →
+      (widthBy t₁ t₂ t₃ t₄ t₅ ≡ 0 → ⊥) →
+      PartAt s at (widthBy t₁ t₂ t₃ t₄ t₅)
+  by-tests true true t₃ t₄ t₅ a b c d e h = at-composed (eqb-true _ _ a) b
+  by-tests true false t₃ t₄ t₅ a b c d e h = absurd (h refl)
+  by-tests false t₂ true t₄ t₅ a b c d e h = absurd (h refl)
+  by-tests false t₂ false true t₅ a b c d e h = absurd (h refl)
+  by-tests false t₂ false false false a b c d e h = at-plain (ltb-false _ _ c) (ltb-false _ _ d)
+  by-tests false t₂ false false true a b c d e h = at-decomposed e
 
-  pub part-at : (widthAt s at ≡ 0 → ⊥) → PartAt s at (widthAt s at)
+  part-at : (widthAt s at ≡ 0 → ⊥) → PartAt s at (widthAt s at)
   unfolding widthAt widthOf
-  part-at h = by-tests _ _ _ _ _ _ _ refl refl refl refl refl refl refl h
+  part-at h = by-tests _ _ _ _ _ refl refl refl refl refl h
 
 -- THE PARTS that are passed
-pub record PartsTo (s : List ℕ) (at e : ℕ) : Type 0 where
+record PartsTo (s : List ℕ) (at e : ℕ) : Type 0 where
   pub parts : List Part
   pub right : RightParts parts
   pub is : drop at s ≡ nameBytes parts ++ drop e s
   pub place : e ≡ at + length (nameBytes parts)
 
-pub parts-are : (s : List ℕ) (at most : ℕ) → PartsTo s at (partsEnd s at most)
+parts-are : (s : List ℕ) (at most : ℕ) → PartsTo s at (partsEnd s at most)
 unfolding partsEnd nameBytes
 parts-are s at zero = record { parts = []; right = tt; is = refl; place = sym (add-zero at) }
 parts-are s at (suc most) = by (eqb (widthAt s at) 0) refl (parts-are s (at + widthAt s at) most)
@@ -133,7 +130,7 @@ parts-are s at (suc most) = by (eqb (widthAt s at) 0) refl (parts-are s (at + wi
         }
 
 -- A PART THAT STANDS THERE gives its width
-pub width-drop : (s x : List ℕ) (at : ℕ) → drop at s ≡ x → widthAt s at ≡ widthOf (getD x 0 0) (getD x 1 0) (getD x 2 0)
+width-drop : (s x : List ℕ) (at : ℕ) → drop at s ≡ x → widthAt s at ≡ widthOf (getD x 0 0) (getD x 1 0) (getD x 2 0)
 unfolding widthAt
 width-drop s x at e =
     let a : getD s at 0 ≡ getD x 0 0 = ap (λ (n : ℕ). getD s n 0) (sym (add-zero at)) ∙ (sym (getD-drop at s 0 0) ∙ ap (λ (l : List ℕ). getD l 0 0) e) in
@@ -149,7 +146,7 @@ width-part (plain b) x r n =
     let m : eqb (getD x 0 0) 0xCC ≡ false = ne-eqb _ _ n in
     simp (k, le-ltb b 0x21 (r .0), le-ltb 0x7E b (r .1), m) (by (isVowel b))
   where
-    by : (t : Bool) → _≡_ {A = ℕ} (choose t 1 1) 1
+    by : (t : Bool) → _≡_ {A = ℕ} (choose (t && false) 3 1) 1
     by true = refl
     by false = refl
 width-part (composed c) x r n = simp (holds (isUmlaut c) r)
@@ -170,7 +167,7 @@ some-width (composed c) e = omega arith
 some-width (decomposed v) e = omega arith
 
 -- ALL PARTS OF A NAME ARE PASSED, and nothing behind it, where a byte below 21 or nothing follows
-pub parts-all :
+parts-all :
     (ps : List Part) (s x : List ℕ) (at most : ℕ) →
     RightParts ps → getD x 0 0 < 0x21 → length ps < most → drop at s ≡ nameBytes ps ++ x → partsEnd s at most ≡ at + length (nameBytes ps)
 unfolding partsEnd nameBytes
@@ -264,17 +261,6 @@ no-name s x rest start b n e =
     let a = name-ends s x rest start n e in
     let z : _≡_ {A = ℕ} 0 1 = cc in
     omega arith
-
-bad-or : (r : Ending) → ((e : ℕ) → r ≡ At e → ⊥) → r ≡ Bad
-bad-or (At e) none = absurd (none e refl)
-bad-or Bad none = refl
-
-pub name-bad : (s : List ℕ) (start : ℕ) → ((x rest : List ℕ) → IsName x → drop start s ≡ x ++ (lf ∷ rest) → ⊥) → nameEndAt s start ≡ Bad
-name-bad s start none =
-    bad-or (nameEndAt s start)
-    (λ e p.
-    let n = name-is s start e p in
-    none (stretch s start e) (drop (e + 1) s) (n .name) (n .line))
 
 -- A LIST THAT IS A NAME, with nothing behind it
 pub whole-is : (x : List ℕ) → 1 ≤ length x → length x ≤ 24 → partsEnd x 0 25 ≡ length x → IsName x

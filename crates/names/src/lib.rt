@@ -1,11 +1,11 @@
 // The names of letters: where one ends, and the bytes that it composes to.
 ghost use mathlib.Core.Path.{_≡_};
 ghost use mathlib.Core.Bool.{true};
-ghost use Prim.Native.Nat.{_+_, _-_, _*_, _<_, _≤_, _^_};
-ghost use lib.ListN.{length, replicate};
+ghost use Prim.Native.Nat.{_+_, _-_, _<_, _≤_, _^_};
+ghost use lib.ListN.{length};
 ghost use lib.Seq.{sets};
 ghost use Rattle.text.specs.Bytes.{stretch};
-ghost use Rattle.names.specs.Name.{oneOf, isUmlaut, isVowel, umlautOf, IsName, compose};
+ghost use Rattle.names.specs.Name.{oneOf, isUmlaut, isVowel, isDecomposed, umlautOf, IsName, compose};
 ghost use Rattle.names.specs.Scan.{widthOf, partsEnd, nameEndAt, nameFits};
 ghost use Rattle.names.specs.Row.{diaeresisAt, padded, row, Stretches};
 
@@ -40,6 +40,19 @@ fn is_vowel(b: u8) -> bool
     ensures { λ r. ⌜ r ≡ isVowel b ⌝ }
 {
     one_of(b"aouAOU", b)
+}
+
+// Whether three bytes are a vowel and CC 88.
+fn is_decomposed(a: u8, b: u8, c: u8) -> bool
+    ensures { λ r. ⌜ r ≡ isDecomposed a b c ⌝ }
+{
+    if !is_vowel(a) {
+        return false;
+    }
+    if b != 0xCC {
+        return false;
+    }
+    c == 0x88
 }
 
 // The second byte of a vowel's composed letter.
@@ -80,16 +93,10 @@ fn part_width(a: u8, b: u8, c: u8) -> usize
     if a > 0x7E {
         return 0;
     }
-    if !is_vowel(a) {
-        return 1;
+    if is_decomposed(a, b, c) {
+        return 3;
     }
-    if b != 0xCC {
-        return 1;
-    }
-    if c != 0x88 {
-        return 1;
-    }
-    3
+    1
 }
 
 // Where the name parts from `start` on end, or 25 of them.
@@ -155,16 +162,7 @@ fn diaeresis_at(s: &[u8], i: usize, end: usize) -> bool
     if end - i < 3 {
         return false;
     }
-    if !is_vowel(s[i]) {
-        return false;
-    }
-    if s[i + 1] != 0xCC {
-        return false;
-    }
-    if s[i + 2] != 0x88 {
-        return false;
-    }
-    true
+    is_decomposed(s[i], s[i + 1], s[i + 2])
 }
 
 // The composed bytes of the stretch from `start` to `end`, from `at` on. The answer is how many they are.
@@ -190,16 +188,6 @@ pub fn put_composed(s: &[u8], start: usize, end: usize, out: &mut [u8], at: usiz
     n
 }
 
-// n zeros from `at` on.
-fn put_zeros(out: &mut [u8], at: usize, n: usize)
-    requires { ⌜ at + n ≤ length (now out) ⌝ }
-    ensures { λ _. ⌜ now (out .exit) ≡ sets (now (out .entry)) at (replicate n 0) ⌝ }
-{
-    for i in 0..n {
-        out[at + i] = 0;
-    }
-}
-
 // The same in the 24 cells of a row from `at` on, with zeros behind.
 pub fn compose_into(s: &[u8], start: usize, end: usize, rows: &mut [u8], at: usize) -> usize
     requires { ⌜ Stretches (now s) start end × (end - start ≤ 24) × (at + 24 ≤ length (now rows)) ⌝ }
@@ -207,7 +195,8 @@ pub fn compose_into(s: &[u8], start: usize, end: usize, rows: &mut [u8], at: usi
         × (r ≡ length (compose (stretch (now (s .entry)) start end))) × (r ≤ end - start) ⌝ }
 {
     let n = put_composed(s, start, end, rows, at);
-    put_zeros(rows, at + n, 24 - n);
+    let zeros = [0u8; 24];
+    text::put_bytes(rows, at + n, &zeros[..24 - n]);
     n
 }
 

@@ -19,7 +19,7 @@ module _ (T : List ℕ) (count p q : ℕ) (c : Queue T count) (hp : p < 16) (hq 
       let b : other (pair T i) ≡ q = omega arith in
       new (rw (a, b) at (c .noted i l))
 
-  pub has-room : count < 256
+  has-room : count < 256
   has-room = by (decLt count 256)
     where
       numbers : ℕ → ℕ

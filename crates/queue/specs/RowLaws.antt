@@ -5,9 +5,8 @@ use mathlib.Core.Logic.{_⊎_, inl, inr}
 use mathlib.Core.List.{List}
 use native.Mathlib.Omega.{arith}
 use native.Mathlib.Decide.{decLt}
-use lib.ListN.{set}
 use Rattle.sets.specs.Sets.{Member}
-use Rattle.queue.specs.Queue.{pair, companions, one, other, Listed, Has, AtMost, Keeps, Fresh, Longer, Below, Only, Open}
+use Rattle.queue.specs.Queue.{pair, companions, other, Listed, Has, AtMost, Keeps, Fresh, Longer, Below, Only, Open}
 
 -- a listed pair has its depth's bound
 listed-has : (T : List ℕ) (count d p q : ℕ) → AtMost T count d → Listed T count p q → Has T count d p q

@@ -14,7 +14,7 @@ abbrev pub refusalLine : ℕ → ℕ → List ℕ
 refusalLine number line = reportLine (82 ∷ 69 ∷ 70 ∷ []) number line
 
 -- "`YES` or ` NO`, least colour (3), passes (5)"
-abbrev pub answerWord : Bool → List ℕ
+abbrev answerWord : Bool → List ℕ
 answerWord true = 89 ∷ 69 ∷ 83 ∷ []
 answerWord false = 32 ∷ 78 ∷ 79 ∷ []
 

@@ -1,9 +1,9 @@
 -- A line of a report, written piece by piece. Assumes nothing.
 use Prim.Native.Nat.{ℕ, _+_}
-use mathlib.Core.Path.{_≡_, refl, sym, _∙_, ap}
+use mathlib.Core.Path.{_≡_, sym, _∙_, ap}
 use mathlib.Core.List.{List, [], _∷_, _++_, append-assoc}
 use native.Mathlib.Omega.{arith}
-use lib.ListN.{length, replicate, take, drop, length-append}
+use lib.ListN.{length, replicate, drop, length-append}
 use lib.Seq.{sets, sets-eq}
 use Rattle.text.specs.Bytes.{lf}
 use Rattle.text.specs.Column.{column}

@@ -1,9 +1,9 @@
 -- Document 01: "There the sheet reaches to the first line that is just END (to the end of input if none)".
-use Prim.Native.Nat.{ℕ, _+_, _≤_, _<_}
+use Prim.Native.Nat.{ℕ, _+_, _<_}
 use mathlib.Core.Path.{_≡_}
-use mathlib.Core.List.{List, []}
-use lib.ListN.{length, getD}
-use Rattle.text.specs.Bytes.{lf}
+use mathlib.Core.List.{List, _∷_, _++_}
+use lib.ListN.{length, getD, drop}
+use Rattle.text.specs.Bytes.{lf, endWord}
 
 -- a line starts at a: at the front, or behind an LF
 abbrev pub LineStart : List ℕ → ℕ → Type 0
@@ -12,10 +12,8 @@ LineStart s a = (i : ℕ) → i + 1 ≡ a → getD s i 0 ≡ lf
 -- the line that starts at a is just END, with its LF
 pub record EndLine (s : List ℕ) (a : ℕ) : Type 0 where
   pub start : LineStart s a
-  pub e : getD s a 0 ≡ 69
-  pub n : getD s (a + 1) 0 ≡ 78
-  pub d : getD s (a + 2) 0 ≡ 68
-  pub ended : getD s (a + 3) 0 ≡ lf
+  pub rest : List ℕ
+  pub is : drop a s ≡ endWord ++ (lf ∷ rest)
 
 -- where the sheet ends: behind the first such line, or at the end of the input where there is none
 pub data SheetEnds (s : List ℕ) (e : ℕ) : Type 0 where

@@ -1,24 +1,32 @@
--- What a test tells of a line that may be just END: such a line lies within the input. Assumes nothing.
+-- A line that is just END lies within the input, and what a test tells of it. Assumes nothing.
 use Prim.Native.Nat.{ℕ, _+_, _-_, _≤_, _<_}
-use mathlib.Core.Path.{_≡_, sym, _∙_}
+use mathlib.Core.Path.{_≡_, refl, sym, ap, _∙_}
 use mathlib.Core.Bool.{Bool, true, false}
-use mathlib.Core.List.{List}
+use mathlib.Core.List.{List, [], _∷_, _++_}
 use native.Mathlib.Omega.{arith}
-use native.Mathlib.Decide.{decLt}
-use lib.ListN.{length, getD, List·getD-eq-default}
-use Rattle.report.specs.Split.{EndLine, SheetEnds}
-
--- a test that tells whether P holds
-abbrev pub Tells : Bool → Type 0 → Type 0
-Tells true P = P
-Tells false P = P → ⊥
+use lib.ListN.{length, take, drop, length-drop}
+use lib.Seq.{take-length}
+use Rattle.gate.specs.Gate.{Decides}
+use Rattle.gate.specs.GateLaws.{decides-yes, decides-no}
+use Rattle.text.specs.Bytes.{lf, endWord}
+use Rattle.text.specs.Word.{startsAt}
+use Rattle.text.specs.WordLaws.{starts-is, no-word}
+use Rattle.report.specs.Split.{LineStart, EndLine}
 
 pub end-within : (s : List ℕ) (a : ℕ) → EndLine s a → a + 4 ≤ length s
-end-within s a e = by (decLt (a + 3) (length s))
-  where
-    by : Dec (a + 3 < length s) → a + 4 ≤ length s
-    by (yes l) = omega arith
-    by (no l) = absurd (let z : getD s (a + 3) 0 ≡ 0 = List·getD-eq-default s 0 (omega arith) in omega (arith, e .ended))
+end-within s a e = omega (arith, length-drop a s, ap length (e .is))
 
 pub none-below : (s : List ℕ) → ((b : ℕ) → b < length s → EndLine s b → ⊥) → (b : ℕ) → EndLine s b → ⊥
 none-below s h b e = h b (omega (arith, end-within s b e)) e
+
+-- where a line starts, it is asked for END and LF
+pub end-told : (s : List ℕ) (a : ℕ) (r : Bool) → LineStart s a → r ≡ startsAt (take (length s - a) (drop a s)) 0 (endWord ++ (lf ∷ []))
+    → Decides r (EndLine s a)
+end-told s a r start e = by r (e ∙ ap (λ (x : List ℕ). startsAt x 0 (endWord ++ (lf ∷ []))) whole)
+  where
+    whole : take (length s - a) (drop a s) ≡ drop a s
+    whole = ap (λ (n : ℕ). take n (drop a s)) (sym (length-drop a s)) ∙ take-length (drop a s)
+
+    by : (r : Bool) → r ≡ startsAt (drop a s) 0 (endWord ++ (lf ∷ [])) → Decides r (EndLine s a)
+    by true e = decides-yes (record { start = start; rest = drop 4 (drop a s); is = starts-is (drop a s) 0 (endWord ++ (lf ∷ [])) refl (sym e) })
+    by false e = decides-no (λ l. no-word (drop a s) 0 (endWord ++ (lf ∷ [])) (l .rest) (sym e) (l .is))

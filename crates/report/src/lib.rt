@@ -2,9 +2,9 @@
 ghost use mathlib.Core.Path.{_≡_};
 ghost use Prim.Native.Nat.{_+_, _<_, _≤_};
 ghost use lib.ListN.{length};
+ghost use Rattle.gate.specs.Gate.{Decides};
 ghost use Rattle.report.specs.Report.{reportLine, refusalLine, verdictLine};
 ghost use Rattle.report.specs.Split.{EndLine, SheetEnds};
-ghost use Rattle.report.specs.SplitLaws.{Tells};
 use gate::Refusal;
 
 // A word of three letters and two numbers, in a line of 12 bytes.
@@ -39,29 +39,14 @@ pub fn verdict_line(yes: bool, least: usize, passes: usize) -> [u8; 12]
 // Whether the line that starts at a, if one does, is just END.
 fn ends_at(s: &[u8], a: usize) -> bool
     requires { ⌜ a < length (now s) ⌝ }
-    ensures { λ r. ⌜ Tells r (EndLine (now (s .entry)) a) ⌝ }
+    ensures { λ r. ⌜ Decides r (EndLine (now (s .entry)) a) ⌝ }
 {
     if a > 0 {
         if s[a - 1] != 10 {
             return false;
         }
     }
-    if s.len() - a < 4 {
-        return false;
-    }
-    if s[a] != 69 {
-        return false;
-    }
-    if s[a + 1] != 78 {
-        return false;
-    }
-    if s[a + 2] != 68 {
-        return false;
-    }
-    if s[a + 3] != 10 {
-        return false;
-    }
-    true
+    text::starts_at(&s[a..], 0, b"END\n")
 }
 
 // Where the sheet ends and the plan begins.

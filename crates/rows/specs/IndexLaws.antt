@@ -1,11 +1,12 @@
 -- The index while its rows are walked, and with one row more. Assumes nothing.
-use Prim.Native.Nat.{ℕ, zero, suc, _+_, _*_, _≤_, _<_}
+use Prim.Native.Nat.{ℕ, _+_, _*_, _≤_, _<_}
 use mathlib.Core.Path.{_≡_, refl, sym, ap, subst, _∙_}
 use mathlib.Core.List.{List}
 use native.Mathlib.Decide.{ℕ-discrete}
 use native.Mathlib.Omega.{arith}
 use lib.ListN.{length, getD, set, replicate, length-set, length-replicate}
 use lib.Seq.{getD-set-same, getD-set-other, sets, length-sets}
+use Rattle.gate.specs.GateLaws.{zeros}
 use Rattle.rows.specs.RowLaws.{row-put, row-kept}
 use Rattle.rows.specs.Rows.{rowAt, digestOf, Index, Indexed, Sought, Found, Added}
 
@@ -47,11 +48,6 @@ pub walk-finds : (table : List ℕ) (m : ℕ) (row : List ℕ) (t : ℕ) → t <
 walk-finds table m row t k e = record { most = omega arith; is = λ j. e; none = λ j. absurd (omega arith) }
 
 -- No row
-
-zeros : (n i : ℕ) → getD {A = ℕ} (replicate n 0) i 0 ≡ 0
-zeros zero i = refl
-zeros (suc n) zero = refl
-zeros (suc n) (suc i) = zeros n i
 
 pub indexed-none : (table : List ℕ) → Indexed table 0 (replicate 1024 0) (replicate 1024 0)
 indexed-none table = record {
@@ -145,7 +141,7 @@ module _ (m : ℕ) (d e : ℕ → ℕ) (h : ℕ) (head link : List ℕ) (i : Ind
           rw (z, link-new) (subst (λ (x : ℕ). t < getD head x 0) y (i .last t (omega arith)))
       by (no z) = rw (link-old u z) (i .before t u l (omega arith) (sym (old t (omega arith)) ∙ g ∙ old u (omega arith)))
 
-  pub index-more : Index (m + 1) e (set head h (m + 1)) (set link m (getD head h 0))
+  index-more : Index (m + 1) e (set head h (m + 1)) (set link m (getD head h 0))
   unfolding head' link'
   index-more = record { head-is = head-is; link-is = link-is; head-of = head-of; link-of = link-of; last = last; before = before }
 

@@ -1,14 +1,12 @@
 -- Laws of digests and of rows in a table. Assumes nothing.
 use Prim.Native.Nat.{ℕ, zero, suc, _+_, _*_, _-_, _≤_, _<_}
 use mathlib.Core.Path.{_≡_, refl, sym, ap, _∙_}
-use mathlib.Core.Bool.{true, false}
-use mathlib.Core.List.{List, [], _∷_}
-use native.Mathlib.Decide.{ℕ-discrete}
+use mathlib.Core.List.{List, [], _∷_, append-nil}
 use native.Mathlib.Numerals.{add-one}
 use native.Mathlib.Omega.{arith}
 use borrow.Author.Tests.{eq-eqb, ne-eqb}
-use lib.ListN.{length, getD, take, drop, set, length-drop, length-set}
-use lib.Seq.{ext-getD, getD-take, getD-drop, getD-set-same, getD-set-other, sets, length-sets, length-take-le}
+use lib.ListN.{length, getD, take, drop, set, length-drop, length-set, drop-of-length-le}
+use lib.Seq.{sets-eq, ext-getD, getD-take, getD-drop, getD-set-same, getD-set-other, sets, length-sets, length-take-le}
 use Rattle.rows.specs.Rows.{rowAt, mix, mixFrom}
 
 -- Digests
@@ -27,7 +25,7 @@ mix-more row h i l e =
 
 -- Cells of a row
 
-part-length : (table : List ℕ) (at : ℕ) → at + 17 ≤ length table → length (take 17 (drop at table)) ≡ 17
+pub part-length : (table : List ℕ) (at : ℕ) → at + 17 ≤ length table → length (take 17 (drop at table)) ≡ 17
 part-length table at h = length-take-le 17 (drop at table) (simp length-drop (omega arith))
 
 pub part-at : (table : List ℕ) (at j : ℕ) → j < 17 → getD (take 17 (drop at table)) j 0 ≡ getD table (at + j) 0
@@ -40,14 +38,17 @@ part-is table at row h e f =
     ext-getD 0 (take 17 (drop at table)) row (part-length table at h ∙ sym e)
     (λ j k. let l : j < 17 = omega (arith, part-length table at h) in part-at table at j l ∙ sym (f j l))
 
+pub part-not : (table : List ℕ) (at : ℕ) (row : List ℕ) (j : ℕ) → j < 17 → (getD table (at + j) 0 ≡ getD row j 0 → ⊥) → take 17 (drop at table) ≡ row → ⊥
+part-not table at row j h f e = f (sym (part-at table at j h) ∙ ap (λ (l : List ℕ). getD l j 0) e)
+
 -- Rows written
 
 -- the cells before a run of stores are as they were, and those of the run are stored
-pub sets-before : (cells table : List ℕ) (at j : ℕ) → j < at → getD (sets table at cells) j 0 ≡ getD table j 0
+sets-before : (cells table : List ℕ) (at j : ℕ) → j < at → getD (sets table at cells) j 0 ≡ getD table j 0
 sets-before [] table at j h = refl
 sets-before (x ∷ cells) table at j h = sets-before cells (set table at x) (suc at) j (omega arith) ∙ getD-set-other table at j x 0 (omega arith)
 
-pub sets-at : (cells table : List ℕ) (at j : ℕ) → j < length cells → at + length cells ≤ length table → getD (sets table at cells) (at + j) 0 ≡ getD cells j 0
+sets-at : (cells table : List ℕ) (at j : ℕ) → j < length cells → at + length cells ≤ length table → getD (sets table at cells) (at + j) 0 ≡ getD cells j 0
 sets-at [] table at j h l = absurd (omega arith)
 sets-at (x ∷ cells) table at zero h l =
     let e : at + 0 ≡ at = omega arith in
@@ -67,25 +68,8 @@ row-kept table m row t k h =
     part-is (sets table (17 * m) row) (17 * t) (rowAt table t) (rw (length-sets table (17 * m) row) (omega arith)) (part-length table (17 * t) (omega arith))
     (λ j l. part-at table (17 * t) j l ∙ sym (sets-before row table (17 * m) (17 * t + j) (omega arith)))
 
--- a copy of a row, cell by cell
-pub copy-more : (row table : List ℕ) (at i : ℕ) → i < length row → ((j : ℕ) → j < i → getD row j 0 ≡ getD table (at + j) 0)
-    → (j : ℕ) → j < i + 1 → getD (set row i (getD table (at + i) 0)) j 0 ≡ getD table (at + j) 0
-copy-more row table at i l f j k = by (ℕ-discrete j i)
-  where
-    by : Dec (j ≡ i) → getD (set row i (getD table (at + i) 0)) j 0 ≡ getD table (at + j) 0
-    by (yes e) = rw (e, getD-set-same row i (getD table (at + i) 0) 0 l)
-    by (no e) = getD-set-other row i j (getD table (at + i) 0) 0 e ∙ f j (omega arith)
-
--- Answers of the comparison
-
-true-is-not-false : true ≡ false → ⊥
-true-is-not-false e = let z : _≡_ {A = ℕ} 0 1 = cc in omega arith
-
-pub answer-yes : {P : Type 0} → P → (true ≡ true → P) × (true ≡ false → P → ⊥)
-answer-yes p = (λ e. p, λ e. absurd (true-is-not-false e))
-
-pub answer-no : {P : Type 0} → (P → ⊥) → (false ≡ true → P) × (false ≡ false → P → ⊥)
-answer-no f = (λ e. absurd (true-is-not-false (sym e)), λ e. f)
-
-pub part-not : (table : List ℕ) (at : ℕ) (row : List ℕ) (j : ℕ) → j < 17 → (getD table (at + j) 0 ≡ getD row j 0 → ⊥) → take 17 (drop at table) ≡ row → ⊥
-part-not table at row j h f e = f (sym (part-at table at j h) ∙ ap (λ (l : List ℕ). getD l j 0) e)
+-- a row stored over another
+pub row-over : (old row : List ℕ) → length old ≡ length row → sets old 0 row ≡ row
+row-over old row e =
+    let n : length old ≤ 0 + length row = omega arith in
+    sets-eq row old 0 (omega arith) ∙ rw (drop-of-length-le old n) (append-nil row)

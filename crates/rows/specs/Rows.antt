@@ -7,16 +7,13 @@ use lib.ListN.{length, getD, take, drop}
 use lib.Seq.{sets}
 use Rattle.text.specs.Choice.{choose}
 
--- the cells of a row that make two rows the same, and all cells of a row: document 01's "Tuple t has numbers 17t to 17t+16"
-abbrev pub sameCells : ℕ
-sameCells = 17
-
+-- the cells of a row: document 01's "Tuple t has numbers 17t to 17t+16"
 abbrev pub rowCells : ℕ
 rowCells = 17
 
--- what makes row t of a table the same as another
+-- row t of a table
 abbrev pub rowAt : List ℕ → ℕ → List ℕ
-rowAt table t = take sameCells (drop (rowCells * t) table)
+rowAt table t = take rowCells (drop (rowCells * t) table)
 
 -- a number below 2^32 with one cell mixed in
 abbrev pub mix : ℕ → ℕ → ℕ
@@ -54,7 +51,7 @@ pub record Indexed (table : List ℕ) (m : ℕ) (head link : List ℕ) : Type 0 
 
 -- a row that is looked up, with its digest
 pub record Sought (row : List ℕ) (h : ℕ) : Type 0 where
-  pub cells : length row ≡ sameCells
+  pub cells : length row ≡ rowCells
   pub digest : h ≡ digestOf row
   pub small : h < 1024
 

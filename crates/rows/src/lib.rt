@@ -4,11 +4,10 @@ ghost use mathlib.Core.Bool.{true, false};
 ghost use Prim.Native.Nat.{_<_, _≤_, _*_, _+_};
 ghost use lib.ListN.{length, take, drop};
 ghost use lib.Seq.{sets};
+ghost use Rattle.gate.specs.Gate.{Decides};
 ghost use Rattle.rows.specs.Rows.{rowAt, mix, mixFrom, digestOf, Indexed, Sought, Added, Found};
 
-// The cells of a row that make two rows the same.
-pub const SAME: usize = 17;
-// All cells of a row.
+// The cells of a row.
 pub const CELLS: usize = 17;
 // How many digests there are.
 pub const DIGESTS: usize = 1024;
@@ -52,10 +51,10 @@ pub fn digest(row: &[u16]) -> usize
 // Do the table's cells from `at` on hold this row?
 fn same(table: &[u16], at: usize, row: &[u16]) -> bool
     requires { ⌜ (at + 17 ≤ length (now table)) × (length (now row) ≡ 17) ⌝ }
-    ensures { λ r. ⌜ (r ≡ true → take 17 (drop at (now (table .entry))) ≡ now (row .entry)) × (r ≡ false → take 17 (drop at (now (table .entry))) ≡ now (row .entry) → ⊥) ⌝ }
+    ensures { λ r. ⌜ Decides r (take 17 (drop at (now (table .entry))) ≡ now (row .entry)) ⌝ }
 {
     let mut i: usize = 0;
-    while i < SAME {
+    while i < CELLS {
         if table[at + i] != row[i] {
             return false;
         }
@@ -107,9 +106,6 @@ pub fn load(table: &[u16], t: usize, row: &mut [u16])
     requires { ⌜ (t < 1024) × (17 * t + 17 ≤ length (now table)) × (length (now row) ≡ 17) ⌝ }
     ensures { λ _. ⌜ now (row .exit) ≡ rowAt (now (table .entry)) t ⌝ }
 {
-    let mut i: usize = 0;
-    while i < row.len() {
-        row[i] = table[CELLS * t + i];
-        i += 1;
-    }
+    let at = CELLS * t;
+    put(row, 0, &table[at..at + CELLS]);
 }

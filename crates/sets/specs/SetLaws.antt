@@ -214,7 +214,7 @@ unfolding setOf bit
 setOf-bit zero x = omega arith
 setOf-bit (suc n) x = rw (← one-add n, mod-pow-add) (omega (arith, setOf-bit n x))
 
-pub bit-setOf : (n : ℕ) (f : ℕ → ℕ) → ((q : ℕ) → f q < 2) → (q : ℕ) → q < n → bit (setOf n f) q ≡ f q
+bit-setOf : (n : ℕ) (f : ℕ → ℕ) → ((q : ℕ) → f q < 2) → (q : ℕ) → q < n → bit (setOf n f) q ≡ f q
 unfolding setOf bit
 bit-setOf zero f h q k = absurd (omega arith)
 bit-setOf (suc n) f h q k = elim (decLt q n) [ yes l ↦ below l (bit-setOf n f h q l) | no g ↦ top (omega arith) ]

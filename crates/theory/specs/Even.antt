@@ -1,5 +1,5 @@
 -- docs/THEORY.md, section 2: where the least colour entered without end is 2i + 2, each path through place i takes recurrent transitions without end.
-use Prim.Native.Nat.{ℕ, suc, _+_, _*_, _-_, _≤_, _<_}
+use Prim.Native.Nat.{ℕ, suc, _+_, _*_, _≤_, _<_}
 use mathlib.Core.Path.{_≡_}
 use mathlib.Core.Logic.{_⊎_, inl, inr}
 use native.Mathlib.Omega.{arith}

@@ -1,6 +1,6 @@
 -- docs/THEORY.md, section 1: where any path at all takes recurrent transitions without end, the least colour entered without end is not odd.
 -- Meeting walks play no part.
-use Prim.Native.Nat.{ℕ, zero, suc, _+_, _*_, _-_, _≤_, _<_}
+use Prim.Native.Nat.{ℕ, zero, suc, _+_, _*_, _≤_, _<_}
 use mathlib.Core.Path.{_≡_}
 use mathlib.Core.Logic.{_⊎_, inl, inr}
 use native.Mathlib.Omega.{arith}

@@ -15,7 +15,7 @@ fn begin(a: Numbers, tuples: &mut [u16], head: &mut [u16], link: &mut [u16])
     requires { ⌜ (a .n ≤ 16) × (17 ≤ length (now tuples)) × NoRows (now head) (now link) ⌝ }
     ensures { λ _. ⌜ Added (now (tuples .entry)) (now (tuples .exit)) 0 (firstCells (a .n) (a .initial)) (now (head .exit)) (now (link .exit)) ⌝ }
 {
-    let mut w = [0u16; rows::SAME];
+    let mut w = [0u16; rows::CELLS];
     w[0] = a.initial;
     let neutral = tuple::Colour::neutral(a.n);
     w[16] = neutral.0;
@@ -50,7 +50,7 @@ fn expand(
     if a.k <= c % 8 {
         return m;
     }
-    let mut w = [0u16; rows::SAME];
+    let mut w = [0u16; rows::CELLS];
     enter(a, table, tuples, c, &mut w);
     let h = rows::digest(&w);
     let t = rows::find(tuples, m, &w, h, head, link);

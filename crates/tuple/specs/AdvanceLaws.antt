@@ -4,12 +4,13 @@ use mathlib.Core.Path.{_≡_, refl, sym, ap, _∙_}
 use mathlib.Core.List.{List, [], _∷_, _++_, map, append-assoc, append-nil}
 use native.Mathlib.Omega.{arith}
 use native.Mathlib.Numerals.{add-one}
-use lib.ListN.{length, getD, set, take, drop, length-map, drop-of-length-le}
-use lib.Seq.{take-suc, drop-cons, getD-at, getD-take, set-at, length-take-le}
+use lib.ListN.{length, getD, set, take, drop, length-map}
+use lib.Seq.{take-suc, drop-cons, getD-at, set-at, length-take-le}
 use Rattle.automaton.specs.Successors.{successorsOf}
 use Rattle.tuple.specs.Row.{setCells, leading}
 use Rattle.tuple.specs.RowLaws.{leading-stop, leading-more}
 use Rattle.tuple.specs.Parts.{Advanced}
+use Rattle.tuple.specs.UnionLaws.{behind-cons, behind-end}
 
 -- the first i cells are sets, and replaced
 pub record Advancing (table : List ℕ) (l : ℕ) (cells result : List ℕ) (i : ℕ) : Type 0 where
@@ -20,19 +21,17 @@ module _ (table : List ℕ) (l : ℕ) (cells : List ℕ) (long : setCells < leng
   pub advance-none : Advancing table l cells cells 0
   advance-none = record { leads = refl; replaced = refl }
 
+  next-cell : (i : ℕ) → i < setCells → drop i (take setCells cells) ≡ getD cells i 0 ∷ drop (suc i) (take setCells cells)
+  next-cell = behind-cons cells setCells (omega arith)
+
   module _ {result : List ℕ} {i : ℕ} (a : Advancing table l cells result i) where
     front : i ≤ setCells → length (map (successorsOf table l) (take i cells)) ≡ i
     front h = length-map (take i cells) (successorsOf table l) ∙ length-take-le i cells (omega arith)
 
-    pub advance-read : i < setCells → getD result i 0 ≡ getD cells i 0
+    advance-read : i < setCells → getD result i 0 ≡ getD cells i 0
     advance-read h =
         rw (a .replaced, drop-cons cells i 0 (omega arith))
         (getD-at (map (successorsOf table l) (take i cells)) (getD cells i 0) (drop (suc i) cells) 0 i (front (omega arith)))
-
-    next-cell : i < setCells → drop i (take setCells cells) ≡ getD cells i 0 ∷ drop (suc i) (take setCells cells)
-    next-cell h =
-        drop-cons (take setCells cells) i 0 (omega (arith, length-take-le setCells cells (omega arith)))
-        ∙ ap (λ (x : ℕ). x ∷ drop (suc i) (take setCells cells)) (getD-take setCells cells i 0 h)
 
     stopped : i ≤ setCells → leading (drop i (take setCells cells)) ≡ [] → Advanced table l cells result i
     stopped h e =
@@ -42,13 +41,12 @@ module _ (table : List ℕ) (l : ℕ) (cells : List ℕ) (long : setCells < leng
     pub advance-stop : i < setCells → getD result i 0 ≡ 0 → Advanced table l cells result i
     advance-stop h e =
         stopped (omega arith)
-        (rw (next-cell h) (leading-stop (getD cells i 0) (drop (suc i) (take setCells cells)) (sym (advance-read h) ∙ e)))
+        (rw (next-cell i h) (leading-stop (getD cells i 0) (drop (suc i) (take setCells cells)) (sym (advance-read h) ∙ e)))
 
     pub advance-end : i ≡ setCells → Advanced table l cells result i
     unfolding leading
     advance-end e =
-        let n : length (take setCells cells) ≤ i = omega (arith, length-take-le setCells cells (omega arith)) in
-        stopped (omega arith) (rw (drop-of-length-le (take setCells cells) n))
+        stopped (omega arith) (rw (behind-end cells setCells (omega arith) i (omega arith)))
 
     snoc : (s : List ℕ) (x : ℕ) (r : List ℕ)
         → map (successorsOf table l) s ++ (successorsOf table l x ∷ r) ≡ map (successorsOf table l) (s ++ (x ∷ [])) ++ r
@@ -71,6 +69,6 @@ module _ (table : List ℕ) (l : ℕ) (cells : List ℕ) (long : setCells < leng
         record {
           leads =
               a .leads
-              ∙ rw (next-cell h, leading-more x (drop (suc i) (take setCells cells)) m, add-one, take-suc cells i 0 (omega arith), append-assoc);
+              ∙ rw (next-cell i h, leading-more x (drop (suc i) (take setCells cells)) m, add-one, take-suc cells i 0 (omega arith), append-assoc);
           replaced = replaced-more h (getD result i 0) (advance-read h);
         }

@@ -21,7 +21,7 @@ abbrev pub setAt : List ℕ → ℕ → ℕ
 setAt sets i = getD sets i 0
 
 -- 1. "Replace each set by its successors."
-abbrev pub successorsEach : Automaton → ℕ → List ℕ → List ℕ
+abbrev successorsEach : Automaton → ℕ → List ℕ → List ℕ
 successorsEach A l sets = map (successorsOf (A .table) l) sets
 
 -- 2. "the must-recur states in the new set 0", where x is set 0 before the step

@@ -1,6 +1,6 @@
 -- The invariant: the tables hold the walks from time t on, where they are in pair i. The measure is t. Assumes nothing.
 use Prim.Native.Nat.{ℕ, suc, _/_, _-_, _≤_, _<_}
-use mathlib.Core.Path.{_≡_, refl, sym, subst, _∙_}
+use mathlib.Core.Path.{_≡_, refl, subst, _∙_}
 use native.Mathlib.Omega.{arith}
 use lib.ListN.{length}
 use Rattle.automaton.specs.Lent.{tables}
@@ -78,9 +78,8 @@ loop-again c =
       n .kept .0 ∙ l .inv .3,
       n .kept .1 .0 ∙ l .inv .4,
       n .kept .1 .1 .0 ∙ l .inv .5,
-      subst (Leads (a .queue .now) (a .head) (a .d) (l .t - 1) (g .number .result / 8) (tables (a .word .now) (a .one .now) (a .other .now))) (sym (n .ensures))
-      (leads-step (a .queue .now) (a .head) (a .d) (l .t) (l .i) (tables (a .word .now) (a .one .now) (a .other .now)) (tables (l .word) (l .one) (l .other))
-      (g .number .result) (k .result) (l .t - 1) u (g .number .ensures) (k .ensures) (omega arith) (omega arith) (omega arith) (l .inv .6)),
+      leads-step (a .queue .now) (a .head) (a .d) (l .t) (l .i) (tables (a .word .now) (a .one .now) (a .other .now)) (tables (l .word) (l .one) (l .other))
+          (g .number .result) (k .result) (l .t - 1) u (g .number .ensures) (k .ensures) (omega arith) (omega arith) (omega arith) (n .ensures) (l .inv .6),
     )
 
 same-length : tie.Need-same-length Inv-loop μ-loop

@@ -1,14 +1,13 @@
 -- The pair found joins on a letter to some state; the word fits its table, since a shortest one has at most 136 letters. Assumes nothing.
 use Prim.Native.Nat.{_/_, _<_}
-use mathlib.Core.Path.{sym, ap, subst, _∙_}
+use mathlib.Core.Path.{sym, ap, _∙_}
 use native.Mathlib.Omega.{arith}
 use lib.ListN.{length-set}
 use Rattle.automaton.specs.Automaton.{automaton}
-use Rattle.automaton.specs.Lent.{Tables, tables}
+use Rattle.automaton.specs.Lent.{tables}
 use Rattle.queue.specs.Queue.{depth}
-use Rattle.meeting.specs.Trace.{Leads}
 use Rattle.meeting.specs.JoinLaws.{common-none}
-use Rattle.meeting.specs.WitnessLaws.{found-letter, ended, witness-of}
+use Rattle.meeting.specs.WitnessLaws.{found-letter, witness-of}
 use Rattle.meeting.specs.TraceLaws.{linked}
 use borrow.Author.Needs.{needs}
 use Rattle.meeting.proofs.witness.Statement.{statement}
@@ -112,8 +111,7 @@ returns c =
     let w = tables (g .last .1 .1 .1 .0) (g .last .1 .1 .1 .1 .0) (g .last .1 .1 .1 .1 .1 .0) in (
       omega arith,
       witness-of A (a .counts) (a .queue .now) (a .head) (e .result) (j .result) (r .result) (z .result) (g .ensures .0) (tables (a .word .now) (a .one .now) (a .other .now)) w
-      (s .pre .0) (s .pre .1) (e .ensures) (j .ensures) (r .ensures) (z .ensures .1)
-      (subst (λ (u : Tables). Leads (a .queue .now) (a .head) (depth (e .result)) 0 (g .ensures .0) (ended u (depth (e .result)) (z .result)) w) (n .note .ensures) (g .ensures .1)),
+          (s .pre .0) (s .pre .1) (e .ensures) (j .ensures) (r .ensures) (z .ensures .1) (n .note .ensures) (g .ensures .1),
     )
 
 pub witness-spec : {M : Type 1} → statement M

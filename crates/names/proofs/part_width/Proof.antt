@@ -1,6 +1,6 @@
 -- `names::part_width` meets its contract: the tests are those of `widthOf`. Assumes nothing.
 use native.Mathlib.Omega.{arith}
-use borrow.Author.Tests.{eq-eqb, ne-eqb, lt-ltb, le-ltb, not-true, not-false}
+use borrow.Author.Tests.{eq-eqb, ne-eqb, lt-ltb, le-ltb}
 use mathlib.Core.Path.{sym}
 use Rattle.names.specs.Scan.{widthOf}
 use borrow.Author.Needs.{needs}
@@ -12,49 +12,22 @@ is-umlaut-requires c κs = search needs
 
 returns : tie.Need-returns
 unfolding widthOf
-returns c = (
-  simp (
-    eq-eqb _ _ (c .before .before .if1 .taken),
-    sym (c .before .is-umlaut .ensures),
-    c .if2 .taken,
-  ),
-  omega arith,
-)
+returns c = (simp (eq-eqb _ _ (c .before .before .if1 .taken), sym (c .before .is-umlaut .ensures), c .if2 .taken), omega arith)
 
 returns-2 : tie.Need-returns-2
 unfolding widthOf
-returns-2 c = (
-  simp (
-    eq-eqb _ _ (c .before .before .if1 .taken),
-    sym (c .before .is-umlaut .ensures),
-    c .if2 .left,
-  ),
-  omega arith,
-)
+returns-2 c = (simp (eq-eqb _ _ (c .before .before .if1 .taken), sym (c .before .is-umlaut .ensures), c .if2 .left), omega arith)
 
 returns-3 : tie.Need-returns-3
 unfolding widthOf
-returns-3 c = (
-  simp (
-    ne-eqb _ _ (c .before .if1 .left),
-    lt-ltb _ _ (c .if3 .taken),
-  ),
-  omega arith,
-)
+returns-3 c = (simp (ne-eqb _ _ (c .before .if1 .left), lt-ltb _ _ (c .if3 .taken)), omega arith)
 
 returns-4 : tie.Need-returns-4
 unfolding widthOf
-returns-4 c = (
-  simp (
-    ne-eqb _ _ (c .before .before .if1 .left),
-    le-ltb _ _ (c .before .if3 .left),
-    lt-ltb _ _ (c .if4 .taken),
-  ),
-  omega arith,
-)
+returns-4 c = (simp (ne-eqb _ _ (c .before .before .if1 .left), le-ltb _ _ (c .before .if3 .left), lt-ltb _ _ (c .if4 .taken)), omega arith)
 
-is-vowel-requires : tie.Need-is-vowel-requires
-is-vowel-requires c κs = search needs
+is-decomposed-requires : tie.Need-is-decomposed-requires
+is-decomposed-requires c κs = search needs
 
 returns-5 : tie.Need-returns-5
 unfolding widthOf
@@ -63,8 +36,8 @@ returns-5 c = (
     ne-eqb _ _ (c .before .before .before .before .if1 .left),
     le-ltb _ _ (c .before .before .before .if3 .left),
     le-ltb _ _ (c .before .before .if4 .left),
-    sym (c .before .is-vowel .ensures),
-    not-true (c .before .is-vowel .result) (c .if5 .taken),
+    sym (c .before .is-decomposed .ensures),
+    c .if5 .taken,
   ),
   omega arith,
 )
@@ -73,42 +46,11 @@ returns-6 : tie.Need-returns-6
 unfolding widthOf
 returns-6 c = (
   simp (
-    ne-eqb _ _ (c .before .before .before .before .before .if1 .left),
-    le-ltb _ _ (c .before .before .before .before .if3 .left),
-    le-ltb _ _ (c .before .before .before .if4 .left),
-    sym (c .before .before .is-vowel .ensures),
-    not-false (c .before .before .is-vowel .result) (c .before .if5 .left),
-    ne-eqb _ _ (c .if6 .taken),
-  ),
-  omega arith,
-)
-
-returns-7 : tie.Need-returns-7
-unfolding widthOf
-returns-7 c = (
-  simp (
-    ne-eqb _ _ (c .before .before .before .before .before .before .if1 .left),
-    le-ltb _ _ (c .before .before .before .before .before .if3 .left),
-    le-ltb _ _ (c .before .before .before .before .if4 .left),
-    sym (c .before .before .before .is-vowel .ensures),
-    not-false (c .before .before .before .is-vowel .result) (c .before .before .if5 .left),
-    eq-eqb _ _ (c .before .if6 .left),
-    ne-eqb _ _ (c .if7 .taken),
-  ),
-  omega arith,
-)
-
-returns-8 : tie.Need-returns-8
-unfolding widthOf
-returns-8 c = (
-  simp (
-    ne-eqb _ _ (c .before .before .before .before .before .before .if1 .left),
-    le-ltb _ _ (c .before .before .before .before .before .if3 .left),
-    le-ltb _ _ (c .before .before .before .before .if4 .left),
-    sym (c .before .before .before .is-vowel .ensures),
-    not-false (c .before .before .before .is-vowel .result) (c .before .before .if5 .left),
-    eq-eqb _ _ (c .before .if6 .left),
-    eq-eqb _ _ (c .if7 .left),
+    ne-eqb _ _ (c .before .before .before .before .if1 .left),
+    le-ltb _ _ (c .before .before .before .if3 .left),
+    le-ltb _ _ (c .before .before .if4 .left),
+    sym (c .before .is-decomposed .ensures),
+    c .if5 .left,
   ),
   omega arith,
 )
@@ -122,8 +64,6 @@ part-width-spec =
     returns-2
     returns-3
     returns-4
-    is-vowel-requires
+    is-decomposed-requires
     returns-5
-    returns-6
-    returns-7
-    returns-8)
+    returns-6)

@@ -28,7 +28,7 @@ add-result c = search needs
 
 returns : tie.Need-returns Inv-loop μ-loop
 returns c =
-    let e : EndLine (now (c .before .before .before .before .before .args .s)) (c .before .before .before .loop .a) = rw (c .if1 .taken) at (c .before .ends-at .ensures) in
+    let e = c .before .ends-at .ensures .0 (c .if1 .taken) in
     (SheetEnds.behind (c .before .before .before .loop .a) refl e (c .before .before .before .loop .inv .1), end-within _ _ e)
 
 add-a : tie.Need-add-a Inv-loop μ-loop
@@ -39,8 +39,7 @@ loop-less c = search needs
 
 loop-again : tie.Need-loop-again Inv-loop μ-loop
 loop-again c =
-    let e : EndLine (now (c .before .before .before .before .before .args .s)) (c .before .before .before .loop .a) → ⊥ = rw (c .if1 .left) at (c .before .ends-at .ensures) in
-    (omega arith, below-more _ _ (c .before .before .before .loop .inv .1) e)
+    (omega arith, below-more _ _ (c .before .before .before .loop .inv .1) (c .before .ends-at .ensures .1 (c .if1 .left)))
 
 returns-2 : tie.Need-returns-2 Inv-loop μ-loop
 returns-2 c =

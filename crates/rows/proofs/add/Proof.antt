@@ -1,5 +1,4 @@
 -- The row stands behind the others and is the last of its digest. Assumes nothing.
-use Prim.Native.Nat.{_-_}
 use Rattle.rows.specs.IndexLaws.{added}
 use borrow.Author.Needs.{needs}
 use Rattle.rows.proofs.add.Statement.{statement}

@@ -2,7 +2,7 @@
 use Prim.Native.Nat.{ℕ, _+_, _-_, _≤_, _<_}
 use mathlib.Core.Path.{_≡_, sym, ap, _∙_}
 use native.Mathlib.Omega.{arith}
-use Rattle.rows.specs.Rows.{mix, mixFrom}
+use Rattle.rows.specs.Rows.{mixFrom}
 use Rattle.rows.specs.RowLaws.{mix-stops, mix-more}
 use borrow.Author.Needs.{needs}
 use Rattle.rows.proofs.mixed_sets.Statement.{statement}

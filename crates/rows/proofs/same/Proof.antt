@@ -4,7 +4,8 @@ use mathlib.Core.Path.{_≡_, sym}
 use native.Mathlib.Omega.{arith}
 use borrow.Author.Count.{below-more}
 use lib.ListN.{getD}
-use Rattle.rows.specs.RowLaws.{part-is, part-not, answer-yes, answer-no}
+use Rattle.gate.specs.GateLaws.{decides-yes, decides-no}
+use Rattle.rows.specs.RowLaws.{part-is, part-not}
 use borrow.Author.Needs.{needs}
 use Rattle.rows.proofs.same.Statement.{statement}
 use Rattle.rows.proofs.same.Tie as tie
@@ -37,7 +38,7 @@ returns : tie.Need-returns Inv-loop μ-loop
 returns c =
     let a = c .before .before .before .before .before .args in
     let i = c .before .before .before .before .loop .i in
-    answer-no (part-not (a .table .now) (a .at) (a .row .now) i (omega arith) (c .if1 .taken))
+    decides-no (part-not (a .table .now) (a .at) (a .row .now) i (omega arith) (c .if1 .taken))
 
 add-i : tie.Need-add-i Inv-loop μ-loop
 add-i c = search needs
@@ -54,7 +55,7 @@ returns-2 : tie.Need-returns-2 Inv-loop μ-loop
 returns-2 c =
     let l = c .before .loop in
     let a = c .before .before .args in
-    answer-yes (part-is (a .table .now) (a .at) (a .row .now) (omega arith) (omega arith) (λ j h. l .inv .1 j (omega arith)))
+    decides-yes (part-is (a .table .now) (a .at) (a .row .now) (omega arith) (omega arith) (λ j h. l .inv .1 j (omega arith)))
 
 pub same-spec : {M : Type 1} → statement M
 same-spec =
