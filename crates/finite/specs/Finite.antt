@@ -51,7 +51,8 @@ pigeon (suc n) f h = go (find (λ k. f k ≡ f (suc n)) (λ k. ℕ-discrete (f k
     same : ((k : ℕ) → k < suc n → f k ≡ f (suc n) → ⊥) → (a b : ℕ) → a ≤ n → b ≤ n → g a ≡ g b → f a ≡ f b
     same none a b la lb e = by (gs a) (gs b) (none a (omega arith)) (none b (omega arith))
       where
-        by : ((f a ≡ n) × (g a ≡ f (suc n))) ⊎ (((f a ≡ n) → ⊥) × (g a ≡ f a)) → ((f b ≡ n) × (g b ≡ f (suc n))) ⊎ (((f b ≡ n) → ⊥) × (g b ≡ f b)) → (f a ≡ f (suc n) → ⊥) → (f b ≡ f (suc n) → ⊥) → f a ≡ f b
+        by : ((f a ≡ n) × (g a ≡ f (suc n))) ⊎ (((f a ≡ n) → ⊥) × (g a ≡ f a)) → ((f b ≡ n) × (g b ≡ f (suc n))) ⊎ (((f b ≡ n) → ⊥) × (g b ≡ f b))
+            → (f a ≡ f (suc n) → ⊥) → (f b ≡ f (suc n) → ⊥) → f a ≡ f b
         by (inl x) (inl y) na nb = omega arith
         by (inl x) (inr y) na nb = omega arith
         by (inr x) (inl y) na nb = omega arith
@@ -173,31 +174,42 @@ module _ (E : ℕ → ℕ → ℕ → Type 0) where
     pub loop : (f : ℕ → ℕ) → f (A + L) ≡ f A → ((s : ℕ) → s < A + L → E s (f s) (f (suc s)))
         → (g : ℕ → ℕ) × ((t : ℕ) → t < A + L → g t ≡ f t) × ((t : ℕ) → E t (g t) (g (suc t)))
     unfolding idx
-    loop f e h = (λ t. f (idx t), λ t l. rw (early t l), λ t. lift t (f (idx t)) (f (idx (suc t))) (at t (pick-spec (ℕ-discrete (suc (idx t)) (A + L)) A (suc (idx t)))))
+    loop f e h =
+        (λ t. f (idx t), λ t l. rw (early t l), λ t. lift t (f (idx t)) (f (idx (suc t))) (at t (pick-spec (ℕ-discrete (suc (idx t)) (A + L)) A (suc (idx t)))))
       where
-        at : (t : ℕ) → ((suc (idx t) ≡ A + L) × (idx (suc t) ≡ A)) ⊎ ((suc (idx t) ≡ A + L → ⊥) × (idx (suc t) ≡ suc (idx t))) → E (idx t) (f (idx t)) (f (idx (suc t)))
+        at : (t : ℕ) → ((suc (idx t) ≡ A + L) × (idx (suc t) ≡ A)) ⊎ ((suc (idx t) ≡ A + L → ⊥) × (idx (suc t) ≡ suc (idx t)))
+            → E (idx t) (f (idx t)) (f (idx (suc t)))
         at t (inl (x, y)) = rw (y, ← e, ← x) (h (idx t) (inv t .1))
         at t (inr (x, y)) = rw y (h (idx t) (inv t .1))
 
   -- A path made longer by one transition.
-  pub extend : (A u r : ℕ) (f : ℕ → ℕ) → ((s : ℕ) → A ≤ s → s < u → E s (f s) (f (suc s))) → E u (f u) r → (s : ℕ) → A ≤ s → s < suc u → E s (glue f (λ s. r) (suc u) s) (glue f (λ s. r) (suc u) (suc s))
+  pub extend : (A u r : ℕ) (f : ℕ → ℕ) → ((s : ℕ) → A ≤ s → s < u → E s (f s) (f (suc s))) → E u (f u) r → (s : ℕ) → A ≤ s → s < suc u
+      → E s (glue f (λ s. r) (suc u) s) (glue f (λ s. r) (suc u) (suc s))
   extend A u r f es e s a b = by (decLt s u)
     where
       by : Dec (s < u) → E s (glue f (λ s. r) (suc u) s) (glue f (λ s. r) (suc u) (suc s))
       by (yes m) = cast refl (sym (glue-lt f (λ s. r) (suc u) s (omega arith))) (sym (glue-lt f (λ s. r) (suc u) (suc s) (omega arith))) (es s a m)
-      by (no m) = let d : s ≡ u = omega arith in cast (sym d) (rw d (sym (glue-lt f (λ s. r) (suc u) u (omega arith)))) (sym (glue-ge f (λ s. r) (suc u) (suc s) (omega arith))) e
+      by (no m) =
+          let d : s ≡ u = omega arith in
+          cast (sym d) (rw d (sym (glue-lt f (λ s. r) (suc u) u (omega arith)))) (sym (glue-ge f (λ s. r) (suc u) (suc s) (omega arith))) e
 
   -- A path traced back: where each state of each set has a predecessor in the set before, each state of the last set ends a path.
   pub trace : (Z : ℕ → ℕ → Type 0) (A : ℕ) → ((t r : ℕ) → A ≤ t → Z (suc t) r → (q : ℕ) × Z t q × E t q r) → (u : ℕ) → A ≤ u → (r : ℕ) → Z u r
       → (f : ℕ → ℕ) × (f u ≡ r) × ((s : ℕ) → A ≤ s → s ≤ u → Z s (f s)) × ((s : ℕ) → A ≤ s → s < u → E s (f s) (f (suc s)))
-  trace Z A back u a = le-ind (λ u. (r : ℕ) → Z u r → (f : ℕ → ℕ) × (f u ≡ r) × ((s : ℕ) → A ≤ s → s ≤ u → Z s (f s)) × ((s : ℕ) → A ≤ s → s < u → E s (f s) (f (suc s)))) base more u a
+  trace Z A back u a =
+      le-ind (λ u. (r : ℕ) → Z u r → (f : ℕ → ℕ) × (f u ≡ r) × ((s : ℕ) → A ≤ s → s ≤ u → Z s (f s)) × ((s : ℕ) → A ≤ s → s < u → E s (f s) (f (suc s)))) base
+      more u a
     where
       base : (r : ℕ) → Z A r → (f : ℕ → ℕ) × (f A ≡ r) × ((s : ℕ) → A ≤ s → s ≤ A → Z s (f s)) × ((s : ℕ) → A ≤ s → s < A → E s (f s) (f (suc s)))
       base r z = (λ s. r, refl, λ s l m. (let e : A ≡ s = omega arith in rw (← e) z), λ s l m. absurd (omega arith))
 
-      more : (u : ℕ) → A ≤ u → ((r : ℕ) → Z u r → (f : ℕ → ℕ) × (f u ≡ r) × ((s : ℕ) → A ≤ s → s ≤ u → Z s (f s)) × ((s : ℕ) → A ≤ s → s < u → E s (f s) (f (suc s))))
+      more : (u : ℕ) → A ≤ u
+          → ((r : ℕ) → Z u r → (f : ℕ → ℕ) × (f u ≡ r) × ((s : ℕ) → A ≤ s → s ≤ u → Z s (f s)) × ((s : ℕ) → A ≤ s → s < u → E s (f s) (f (suc s))))
           → (r : ℕ) → Z (suc u) r → (f : ℕ → ℕ) × (f (suc u) ≡ r) × ((s : ℕ) → A ≤ s → s ≤ suc u → Z s (f s)) × ((s : ℕ) → A ≤ s → s < suc u → E s (f s) (f (suc s)))
-      more u l ih r z = let (q, x, e) = back u r l z in let (f, y, zs, es) = ih q x in (glue f (λ s. r) (suc u), glue-ge f (λ s. r) (suc u) (suc u) (omega arith), sets f zs, extend A u r f es (rw y e))
+      more u l ih r z =
+          let (q, x, e) = back u r l z in
+          let (f, y, zs, es) = ih q x in
+          (glue f (λ s. r) (suc u), glue-ge f (λ s. r) (suc u) (suc u) (omega arith), sets f zs, extend A u r f es (rw y e))
         where
           sets : (f : ℕ → ℕ) → ((s : ℕ) → A ≤ s → s ≤ u → Z s (f s)) → (s : ℕ) → A ≤ s → s ≤ suc u → Z s (glue f (λ s. r) (suc u) s)
           sets f zs s a b = by (decLe s u)
@@ -225,7 +237,8 @@ unfolding lowest
 lowest-at f a zero = (a, omega arith, omega arith, refl)
 lowest-at f a (suc d) = by (decLe (f a) (lowest f (suc a) d)) (lowest-at f (suc a) d)
   where
-    by : Dec (f a ≤ lowest f (suc a) d) → (s : ℕ) × (suc a ≤ s) × (s ≤ suc a + d) × (f s ≡ lowest f (suc a) d) → (s : ℕ) × (a ≤ s) × (s ≤ a + suc d) × (f s ≡ min (f a) (lowest f (suc a) d))
+    by : Dec (f a ≤ lowest f (suc a) d) → (s : ℕ) × (suc a ≤ s) × (s ≤ suc a + d) × (f s ≡ lowest f (suc a) d)
+        → (s : ℕ) × (a ≤ s) × (s ≤ a + suc d) × (f s ≡ min (f a) (lowest f (suc a) d))
     by (yes l) r = (a, omega arith, omega arith, omega arith)
     by (no l) (s, x, y, z) = (s, omega arith, omega arith, omega arith)
 

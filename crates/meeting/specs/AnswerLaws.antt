@@ -19,7 +19,8 @@ same-tables v = record { word = refl; one = refl; other = refl }
 pub answer-free : (A : Automaton) (Counts : ℕ → Type 0) (v : Tables) → Free A Counts → Answered A Counts v v 0
 answer-free A Counts v f = record { free = λ e. f; kept = λ e. refl; witness = λ l. absurd (omega arith); lengths = same-tables v }
 
-pub answer-witness : (A : Automaton) (Counts : ℕ → Type 0) (v w : Tables) (r : ℕ) → 0 < r → Witness A Counts r (w .word) (w .one) (w .other) → SameLengths v w → Answered A Counts v w r
+pub answer-witness : (A : Automaton) (Counts : ℕ → Type 0) (v w : Tables) (r : ℕ) → 0 < r → Witness A Counts r (w .word) (w .one) (w .other)
+    → SameLengths v w → Answered A Counts v w r
 answer-witness A Counts v w r l x s = record { free = λ e. absurd (omega arith); kept = λ e. absurd (omega arith); witness = λ m. x; lengths = s }
 
 -- Every state counts

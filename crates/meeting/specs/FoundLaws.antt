@@ -25,7 +25,8 @@ module _ (A : Automaton) (fits : Fits A) (counts : ℕ) (back : Backwards A (Mem
       where
         go : Has T count u (x u) (y u) → Has T count (suc u) (x (suc u)) (y (suc u))
         go (i, h, d, a, b) =
-            let (j, k, e, f, g) = s .closed i (done i h (omega arith)) (w u) (x (suc u)) (y (suc u)) (rw a (v .goes u (omega arith))) (rw b (v' .goes u (omega arith))) in
+            let (j, k, e, f, g) =
+            s .closed i (done i h (omega arith)) (w u) (x (suc u)) (y (suc u)) (rw a (v .goes u (omega arith))) (rw b (v' .goes u (omega arith))) in
             (j, k, omega arith, f, g)
 
     none-joins : (u : ℕ) → u < t → u < D → Joins (Member counts) x y u → ⊥
@@ -64,18 +65,22 @@ module _ (A : Automaton) (fits : Fits A) (counts : ℕ) (back : Backwards A (Mem
   ends a zero i h l = absurd (omega arith)
   ends a (suc f) i h l = by (a i l) (ends a f)
     where
-      by : Sound A T i → ((j : ℕ) → j < f → j < count → Both A (depth (pair T j)) (one (pair T j)) (other (pair T j))) → Both A (depth (pair T i)) (one (pair T i)) (other (pair T i))
+      by : Sound A T i → ((j : ℕ) → j < f → j < count → Both A (depth (pair T j)) (one (pair T j)) (other (pair T j)))
+          → Both A (depth (pair T i)) (one (pair T i)) (other (pair T i))
       by (inl z) ih = rw (z .deep) (both-start A (one (pair T i)) (other (pair T i)) (z .left) (z .right))
       by (inr z) ih =
           let j = origin T i / 8 in
           let k = z .earlier in
-          rw (z .deep) (both-step A (depth (pair T j)) (origin T i % 8) (one (pair T j)) (other (pair T j)) (one (pair T i)) (other (pair T i)) (ih j (omega arith) (omega arith)) (z .left) (z .right))
+          rw (z .deep)
+          (both-step A (depth (pair T j)) (origin T i % 8) (one (pair T j)) (other (pair T j)) (one (pair T i)) (other (pair T i)) (ih j (omega arith) (omega arith)) (z .left) (z .right))
 
   pub search-found : head < count → (l : ℕ) → l < 8 → JoinsOn (A .table) counts (pair T head) l → Found A counts T head
   search-found h l m j =
       let none = search-shortest h in
       let e = pair T head in
-      let (w, x, y, z) = both-meet A (Member counts) (depth e) l (one e) (other e) (j .state) (ends (s .sound) (suc head) head (omega arith) h) (j .apart) (edge-of A fits l (one e) (j .state) m (j .left)) (edge-of A fits l (other e) (j .state) m (j .right)) (j .counted) in
+      let (w, x, y, z) =
+      both-meet A (Member counts) (depth e) l (one e) (other e) (j .state) (ends (s .sound) (suc head) head (omega arith) h) (j .apart)
+      (edge-of A fits l (one e) (j .state) m (j .left)) (edge-of A fits l (other e) (j .state) m (j .right)) (j .counted) in
       let most = shortest-136 A fits (Member counts) back w (suc (depth e)) x y z none in
       let room = s .queue .room in
       record { size = s .queue .size; some = omega arith; most = omega arith; sound = λ i k. s .sound i (omega arith); letter = l; low = m; joins = j; shortest = none }

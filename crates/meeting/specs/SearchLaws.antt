@@ -21,7 +21,8 @@ search-start A counts T count s = record {
   none = λ i c l. absurd (omega arith);
 }
 
-pub search-ready : (A : Automaton) (counts : ℕ) (T : List ℕ) (count head : ℕ) → Fits A → 128 ≤ length (A .table) → head < count → Search A counts T count head → Ready A T count head
+pub search-ready : (A : Automaton) (counts : ℕ) (T : List ℕ) (count head : ℕ) → Fits A → 128 ≤ length (A .table) → head < count
+    → Search A counts T count head → Ready A T count head
 search-ready A counts T count head fits cells l s = record { fits = fits; cells = cells; queue = s .queue; sound = s .sound; some = l; near = s .near l }
 
 pub search-more : (A : Automaton) (counts : ℕ) (T : List ℕ) (count head : ℕ) (T' : List ℕ) (count' : ℕ) → head < count

@@ -16,7 +16,8 @@ pub grown-none : (A : Automaton) (T : List ℕ) (count d : ℕ) → Queue T coun
 grown-none A T count d q s m = record { queue = q; sound = s; more = omega arith; keeps = λ i l. (refl, refl); most = m }
 
 -- Step j is on letter j / 16 to state j % 16; e is the pair whose steps they are.
-module _ (A : Automaton) (fits : Fits A) (T₀ : List ℕ) (count₀ head e d : ℕ) (h : head < count₀) (is : e ≡ pair T₀ head) (deep : d ≡ depth e + 1) (T : List ℕ) (count j : ℕ) (g : Grown A T₀ count₀ d T count) where
+module _ (A : Automaton) (fits : Fits A) (T₀ : List ℕ) (count₀ head e d : ℕ) (h : head < count₀) (is : e ≡ pair T₀ head) (deep : d ≡ depth e + 1)
+    (T : List ℕ) (count j : ℕ) (g : Grown A T₀ count₀ d T count) where
   pub step-open : Queue T₀ count₀ → Open T count d (j % 16)
   step-open q = let m = g .more in let u = q .early head h in let v : depth e ≤ head = rw is u in record { queue = g .queue; most = g .most; deep = omega arith; state = omega arith }
 

@@ -23,16 +23,22 @@ tail-step A d u word states l p h hw hs e t = record {
   where
     by : (s : ℕ) → u ≤ s → s ≤ d → Dec (s ≡ u) → Edge A (getD (set word u l) s 0) (getD (set states u p) s 0) (getD (set states u p) (suc s) 0)
     by s x y (yes z) = rw (z, getD-set-same word u l 0 hw, getD-set-same states u p 0 hs, getD-set-other states u (suc u) p 0 (λ v. omega arith)) e
-    by s x y (no z) = rw (getD-set-other word u s l 0 z, getD-set-other states u s p 0 z, getD-set-other states u (suc s) p 0 (λ v. omega arith)) (t .goes s (omega arith) y)
+    by s x y (no z) =
+        rw (getD-set-other word u s l 0 z, getD-set-other states u s p 0 z, getD-set-other states u (suc s) p 0 (λ v. omega arith)) (t .goes s (omega arith) y)
 
 -- a pair at a depth above 0 comes from an earlier pair
-comes-from : (A : Automaton) (T : List ℕ) (i : ℕ) → 0 < depth (pair T i) → Sound A T i → Next A T i (depth (pair T i)) (one (pair T i)) (other (pair T i)) (origin T i)
+comes-from : (A : Automaton) (T : List ℕ) (i : ℕ) → 0 < depth (pair T i) → Sound A T i
+    → Next A T i (depth (pair T i)) (one (pair T i)) (other (pair T i)) (origin T i)
 comes-from A T i h (inl f) = absurd (let z = f .deep in omega arith)
 comes-from A T i h (inr n) = n
 
-module _ (A : Automaton) (counts : ℕ) (T : List ℕ) (head d t i : ℕ) (word first second : List ℕ) (sound : AllSound A T (suc head)) (x : Traced A counts T head d t i word first second) where
+module _ (A : Automaton) (counts : ℕ) (T : List ℕ) (head d t i : ℕ) (word first second : List ℕ) (sound : AllSound A T (suc head))
+    (x : Traced A counts T head d t i word first second) where
   trace-next : 0 < t → Next A T i t (one (pair T i)) (other (pair T i)) (origin T i)
-  trace-next h = let e = x .deep in let b = x .before in subst (λ (z : ℕ). Next A T i z (one (pair T i)) (other (pair T i)) (origin T i)) e (comes-from A T i (omega arith) (sound i (omega arith)))
+  trace-next h =
+      let e = x .deep in
+      let b = x .before in
+      subst (λ (z : ℕ). Next A T i z (one (pair T i)) (other (pair T i)) (origin T i)) e (comes-from A T i (omega arith) (sound i (omega arith)))
 
   trace-step : (o e u : ℕ) → t ≡ suc u → o ≡ origin T i → e ≡ pair T (o / 8) → d < length word → d < length first → d < length second
       → Traced A counts T head d u (o / 8) (set word u (o % 8)) (set first u (one e)) (set second u (other e))

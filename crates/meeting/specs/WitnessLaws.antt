@@ -56,7 +56,8 @@ abbrev pub ended : Tables → ℕ → ℕ → Tables
 ended v d z = tables (v .word) (set (v .one) (d + 1) z) (set (v .other) (d + 1) z)
 
 pub witness-of : (A : Automaton) (counts : ℕ) (T : List ℕ) (head e l r z i : ℕ) (v w : Tables) {u : Tables} → Asked A v → Found A counts T head → e ≡ pair T head
-    → Joining (A .table) counts e l → Common (A .table) counts (one e) (other e) l r → Member r z → u ≡ noted v (depth e) l e → Leads T head (depth e) 0 i (ended u (depth e) z) w
+    → Joining (A .table) counts e l → Common (A .table) counts (one e) (other e) l r → Member r z → u ≡ noted v (depth e) l e
+    → Leads T head (depth e) 0 i (ended u (depth e) z) w
     → Witness A (Member counts) (depth e + 1) (w .word) (w .one) (w .other)
 witness-of A counts T head e l r z i v w a f he j c m k g =
     let low = found-letter A counts T head e l f he j in
@@ -65,5 +66,8 @@ witness-of A counts T head e l r z i v w a f he j c m k g =
     let hw = a .long .word in
     let ho = a .long .one in
     let hr = a .long .other in
-    let start = trace-start A (a .fits) counts T head e l z (v .word) (v .one) (v .other) he (omega arith) (omega arith) (omega arith) (a .zero-word) (a .zero-one) (a .zero-other) low (j .joins low .apart) x y n in
-    rw add-one (traced-witness A counts T head (depth e) i (w .word) (w .one) (w .other) (ap depth he) f (subst (λ (u : Tables). Leads T head (depth e) 0 i (ended u (depth e) z) w) k g A counts (f .sound) start))
+    let start =
+    trace-start A (a .fits) counts T head e l z (v .word) (v .one) (v .other) he (omega arith) (omega arith) (omega arith) (a .zero-word) (a .zero-one)
+    (a .zero-other) low (j .joins low .apart) x y n in
+    let g' = subst (λ (u : Tables). Leads T head (depth e) 0 i (ended u (depth e) z) w) k g in
+    rw add-one (traced-witness A counts T head (depth e) i (w .word) (w .one) (w .other) (ap depth he) f (g' A counts (f .sound) start))

@@ -251,7 +251,8 @@ name-ends s x rest start n e =
     let k : drop start s ≡ nameBytes (n .parts) ++ (lf ∷ rest) = e ∙ ap (λ (y : List ℕ). y ++ (lf ∷ rest)) (n .is) in
     let f : partsEnd s start 25 ≡ start + length x =
     parts-all (n .parts) s (lf ∷ rest) start 25 (n .right) (omega arith) (few-parts x n) k ∙ ap (λ (y : List ℕ). start + length y) (sym (n .is)) in
-    let b : getD s (start + length x) 0 ≡ lf = sym (getD-drop start s (length x) 0) ∙ (ap (λ (y : List ℕ). getD y (length x) 0) e ∙ getD-at x lf rest 0 (length x) refl) in
+    let b : getD s (start + length x) 0 ≡ lf =
+    sym (getD-drop start s (length x) 0) ∙ (ap (λ (y : List ℕ). getD y (length x) 0) e ∙ getD-at x lf rest 0 (length x) refl) in
     let i = n .some in
     let j = n .most in
     simp (f, ne-eqb (start + length x) start (λ (q : start + length x ≡ start). omega arith), le-ltb (start + 24) (start + length x) (omega arith), eq-eqb _ _ b)

@@ -16,7 +16,8 @@ use Rattle.pairs.specs.Cutting.{cut-meet}
 abbrev pub NoneShorter : Automaton → (ℕ → Type 0) → ℕ → Type 0
 NoneShorter A Counts t = (w : ℕ → ℕ) (s : ℕ) (x y : ℕ → ℕ) → s < t → Meet A Counts w s x y → ⊥
 
-module _ (A : Automaton) (fits : Fits A) (Counts : ℕ → Type 0) (back : Backwards A Counts) (w : ℕ → ℕ) (t : ℕ) (x y : ℕ → ℕ) (m : Meet A Counts w t x y) (none : NoneShorter A Counts t) where
+module _ (A : Automaton) (fits : Fits A) (Counts : ℕ → Type 0) (back : Backwards A Counts) (w : ℕ → ℕ) (t : ℕ) (x y : ℕ → ℕ) (m : Meet A Counts w t x y)
+    (none : NoneShorter A Counts t) where
   -- the walks join at the last letter, and up to there no pair of states comes twice
   joins-last : (s : ℕ) → s < t → Joins Counts x y s → t ≤ suc s
   joins-last s l j = by (decLe t (suc s))
@@ -47,7 +48,9 @@ module _ (A : Automaton) (fits : Fits A) (Counts : ℕ → Type 0) (back : Backw
       by : (s : ℕ) → s < t → Joins Counts x y s → t ≤ suc s → Dec (triangle (A .n) ≤ s) → t ≤ triangle (A .n)
       by s l j h (no z) = omega arith
       by s l j h (yes z) =
-          let (u, v, a, b, e) = pigeon (triangle (A .n)) (λ i. pairNumber (x i) (y i)) (λ i k. pair-lt (A .n) (x i) (y i) (walk-in A fits w t x (m .one) i (omega arith)) (walk-in A fits w t y (m .other) i (omega arith))) in
+          let (u, v, a, b, e) =
+          pigeon (triangle (A .n)) (λ i. pairNumber (x i) (y i))
+          (λ i k. pair-lt (A .n) (x i) (y i) (walk-in A fits w t x (m .one) i (omega arith)) (walk-in A fits w t y (m .other) i (omega arith))) in
           absurd (never-twice s u v l j a (omega arith) e)
 
   pub shortest-bound : t ≤ A .n * (A .n + 1) / 2

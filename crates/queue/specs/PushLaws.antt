@@ -30,7 +30,8 @@ module _ (T : List ℕ) (count d p q o : ℕ) (a : Open T count d p) (hq : q < 1
   unfolding first second last
   pair-new =
       let s = a .queue .size in
-      getD-set-other second (512 + p) count last 0 (λ z. omega arith) ∙ getD-set-other first (256 + count) count o 0 (λ z. omega arith) ∙ getD-set-same T count (256 * d + 16 * p + q) 0 (omega arith)
+      getD-set-other second (512 + p) count last 0 (λ z. omega arith) ∙ getD-set-other first (256 + count) count o 0 (λ z. omega arith)
+      ∙ getD-set-same T count (256 * d + 16 * p + q) 0 (omega arith)
 
   origin-new : origin (pushed T count d p q o) count ≡ o
   unfolding first second last
@@ -102,9 +103,12 @@ module _ (T : List ℕ) (count d p q o : ℕ) (a : Open T count d p) (hq : q < 1
           let h = a .state in
           not-listed T count p q (a .queue) (a .state) hq new i (omega arith) (omega arith)
 
-      noted-at : (i : ℕ) → i < count + 1 → Dec (i < count) → Member (companions (pushed T count d p q o) (one (pair (pushed T count d p q o) i))) (other (pair (pushed T count d p q o) i))
+      noted-at : (i : ℕ) → i < count + 1 → Dec (i < count)
+          → Member (companions (pushed T count d p q o) (one (pair (pushed T count d p q o) i))) (other (pair (pushed T count d p q o) i))
       noted-at i l (yes m) = rw (keeps i m .0) (companions-more (one (pair T i)) (other (pair T i)) (a .queue .noted i m))
-      noted-at i l (no m) = let z : i ≡ count = omega arith in rw (z, pushed-one, pushed-other, companions-new) (union-right (companions T p) (2 ^ q) q (bit-single q))
+      noted-at i l (no m) =
+          let z : i ≡ count = omega arith in
+          rw (z, pushed-one, pushed-other, companions-new) (union-right (companions T p) (2 ^ q) q (bit-single q))
 
       old : (r s : ℕ) → Listed T count r s → Listed (pushed T count d p q o) (count + 1) r s
       old r s (i, l, x, y) = (i, omega arith, rw (keeps i l .0) x, rw (keeps i l .0) y)

@@ -52,7 +52,8 @@ pub record NewPair (T : List ℕ) (count p x q : ℕ) : Type 0 where
   pub new : Member (companions T p) q → ⊥
   pub room : count < 256
 
-module _ (x q : ℕ) {T : List ℕ} {count d p rest : ℕ} {b : Bool} (o : Open T count d p) (hq : q < 16) (e : rest ≡ minusOf x (companions T p)) (t : b ≡ eqb (bit rest q) 1) where
+module _ (x q : ℕ) {T : List ℕ} {count d p rest : ℕ} {b : Bool} (o : Open T count d p) (hq : q < 16) (e : rest ≡ minusOf x (companions T p))
+    (t : b ≡ eqb (bit rest q) 1) where
   pub new-pair : b ≡ true → NewPair T count p x q
   new-pair y =
       let m = subst (λ (z : ℕ). Member z q) e (member-yes rest q b t y) in

@@ -16,7 +16,8 @@ pub has-longer : (T T' : List ℕ) (count count' d p q : ℕ) → Keeps T count 
 has-longer T T' count count' d p q k l (i, h, x, a, b) = let e = k i h .0 in (i, omega arith, rw e x, rw e a, rw e b)
 
 -- nothing to add
-pub unchanged : (T : List ℕ) (count d p : ℕ) (S : ℕ → Type 0) (o : ℕ) → Open T count d p → ((q : ℕ) → S q → Member (companions T p) q) → Longer T count d p S o T count
+pub unchanged : (T : List ℕ) (count d p : ℕ) (S : ℕ → Type 0) (o : ℕ) → Open T count d p → ((q : ℕ) → S q → Member (companions T p) q)
+    → Longer T count d p S o T count
 unchanged T count d p S o a f = record {
   queue = a .queue;
   more = omega arith;
@@ -26,7 +27,8 @@ unchanged T count d p S o a f = record {
   has = λ q s. listed-has T count d p q (a .most) (a .queue .listed p q (a .state) (f q s));
 }
 
-pub open-longer : (T : List ℕ) (count d p : ℕ) (S : ℕ → Type 0) (o : ℕ) (T' : List ℕ) (count' r : ℕ) → r < 16 → d ≤ count → Longer T count d p S o T' count' → Open T' count' d r
+pub open-longer : (T : List ℕ) (count d p : ℕ) (S : ℕ → Type 0) (o : ℕ) (T' : List ℕ) (count' r : ℕ) → r < 16 → d ≤ count → Longer T count d p S o T' count'
+    → Open T' count' d r
 open-longer T count d p S o T' count' r h l x = let m = x .more in record { queue = x .queue; most = x .most; deep = omega arith; state = h }
 
 -- first the members of S, then those of S′
@@ -57,7 +59,8 @@ longer-both T count d p S S′ U o T₁ count₁ T₂ count₂ split f g x y =
 -- one member more
 pub row-more : (T : List ℕ) (count d p x q o : ℕ) (T₁ : List ℕ) (count₁ : ℕ) (T₂ : List ℕ) (count₂ : ℕ)
     → Longer T count d p (Below x q) o T₁ count₁ → Longer T₁ count₁ d p (Only x q) o T₂ count₂ → Longer T count d p (Below x (q + 1)) o T₂ count₂
-row-more T count d p x q o T₁ count₁ T₂ count₂ = longer-both T count d p (Below x q) (Only x q) (Below x (q + 1)) o T₁ count₁ T₂ count₂ split (λ r s. (omega arith, s .1)) (λ r s. (omega arith, s .1))
+row-more T count d p x q o T₁ count₁ T₂ count₂ =
+    longer-both T count d p (Below x q) (Only x q) (Below x (q + 1)) o T₁ count₁ T₂ count₂ split (λ r s. (omega arith, s .1)) (λ r s. (omega arith, s .1))
   where
     split : (r : ℕ) → Below x (q + 1) r → Below x q r ⊎ Only x q r
     split r (l, m) = by (decLt r q)

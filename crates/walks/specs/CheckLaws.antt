@@ -29,7 +29,8 @@ judged A v w (Refused r) l (inr (f, m)) = inr (l, NumbersRefuse.meeting f (recor
     same = let s = m .lengths in record { word = s .word ∙ length-cleared (v .word); one = s .one ∙ length-cleared (v .one); other = s .other ∙ length-cleared (v .other) }
 judged A v w Free l (f, x, z) = (l, f, x, z)
 
-module _ (A : Automaton) (v : Tables) (l : Lengths A v) {word one other : List ℕ} (w : word ≡ cleared (v .word)) (o : one ≡ cleared (v .one)) (r : other ≡ cleared (v .other)) where
+module _ (A : Automaton) (v : Tables) (l : Lengths A v) {word one other : List ℕ} (w : word ≡ cleared (v .word)) (o : one ≡ cleared (v .one))
+    (r : other ≡ cleared (v .other)) where
   -- the tables once they are cleared
   pub ready : Lengths A (tables word one other) × Zero word × Zero one × Zero other
   ready = rw (w, o, r) (lengths-cleared A v l, zero-cleared (v .word), zero-cleared (v .one), zero-cleared (v .other))
@@ -40,5 +41,6 @@ module _ (A : Automaton) (v : Tables) (l : Lengths A v) {word one other : List �
 pub judge-free : (A : Automaton) (v w : Tables) (r : ℕ) → Fits A → Answered A Everywhere v w r → r ≡ 0 → Judges A v w Free
 judge-free A v w r f a e = (f, a .free e, a .kept e)
 
-pub judge-meets : (A : Automaton) (v w : Tables) (r : ℕ) → Fits A → Answered A Everywhere v w r → (r ≡ 0 → ⊥) → Judges A v w (Refused (record { number = 10; line = 0; length = r }))
+pub judge-meets : (A : Automaton) (v w : Tables) (r : ℕ) → Fits A → Answered A Everywhere v w r → (r ≡ 0 → ⊥)
+    → Judges A v w (Refused (record { number = 10; line = 0; length = r }))
 judge-meets A v w r f a e = inr (f, record { number = refl; line = refl; some = omega arith; witness = a .witness (omega arith); lengths = a .lengths })

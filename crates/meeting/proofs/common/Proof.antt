@@ -43,7 +43,8 @@ returns : tie.Need-returns
 returns c =
     let a = c .before .before .before .before .before .args in
     let t = a .table .now in
-    let e : c .inter2 .result ≡ interOf (interOf (getD t (8 * a .p + a .letter) 0) (getD t (8 * a .q + a .letter) 0)) (a .counts) = c .inter2 .ensures ∙ ap (λ (x : ℕ). interOf x (a .counts)) (c .before .inter .ensures) in
+    let e : c .inter2 .result ≡ interOf (interOf (getD t (8 * a .p + a .letter) 0) (getD t (8 * a .q + a .letter) 0)) (a .counts) =
+    c .inter2 .ensures ∙ ap (λ (x : ℕ). interOf x (a .counts)) (c .before .inter .ensures) in
     subst (Common t (a .counts) (a .p) (a .q) (a .letter)) (sym e) (inter-both (getD t (8 * a .p + a .letter) 0) (getD t (8 * a .q + a .letter) 0) (a .counts))
 
 pub common-spec : {M : Type 1} → statement M

@@ -11,7 +11,8 @@ use Rattle.meeting.proofs.expand.Statement.{statement}
 use Rattle.meeting.proofs.expand.Tie as tie
 
 abbrev Inv-loop : tie.InvT-loop
-Inv-loop a table queue₀ count head e d p q reached₀ j₀ queue reached j = (j ≤ 16 * a .k) × Grown (automaton a table) queue₀ count d queue reached × Stepped (automaton a table) (one e) (other e) d queue reached j
+Inv-loop a table queue₀ count head e d p q reached₀ j₀ queue reached j =
+    (j ≤ 16 * a .k) × Grown (automaton a table) queue₀ count d queue reached × Stepped (automaton a table) (one e) (other e) d queue reached j
 
 abbrev μ-loop : tie.MeasureT-loop
 μ-loop a table queue₀ count head e d p q reached₀ j₀ queue reached j = 16 * a .k - j

@@ -79,7 +79,8 @@ loop-again c =
     let g = c .before .before .expand in
     let e = c .before .before .before .before .before .before .number .ensures in
     let j = c .before .before .before .before .before .joining .ensures in
-    search-more A (a .counts) (l .queue) (l .count) (l .head) (g .last .1 .1 .0) (g .result) (c .before .before .before .before .before .before .before .before .loop-test .taken)
+    search-more A (a .counts) (l .queue) (l .count) (l .head) (g .last .1 .1 .0) (g .result)
+    (c .before .before .before .before .before .before .before .before .loop-test .taken)
     (λ x h z. j .none x (omega arith) (subst (λ (y : ℕ). JoinsOn (a .table .now) (a .counts) y x) (sym e) z)) (g .ensures .0) (g .ensures .1) (l .inv)
 
 same-length-2 : tie.Need-same-length-2 Inv-loop μ-loop

@@ -38,11 +38,14 @@ same-length-3 c = search needs
 
 returns : tie.Need-returns
 returns c =
-    let a = c .before .before .before .before .before .before .before .before .before .before .before .before .before .before .before .before .before .before .before .args in
+    let a =
+    c .before .before .before .before .before .before .before .before .before .before .before .before .before .before .before .before .before .before .before .args
+    in
     let g = c .before .before .before .before .before .before .witness in
     let k = g .kept .1 .1 .1 .1 .1 in
     let l = g .last .1 .1 .1 .1 .1 in
-    answer-witness (automaton (a .a) (a .table .now)) (Member (a .counts)) (tables (a .word .now) (a .one .now) (a .other .now)) (tables (l .0) (l .1 .0) (l .1 .1 .0)) (g .result) (g .ensures .0) (g .ensures .1) (record { word = k .0; one = k .1 .0; other = k .1 .1 .0 })
+    answer-witness (automaton (a .a) (a .table .now)) (Member (a .counts)) (tables (a .word .now) (a .one .now) (a .other .now))
+    (tables (l .0) (l .1 .0) (l .1 .1 .0)) (g .result) (g .ensures .0) (g .ensures .1) (record { word = k .0; one = k .1 .0; other = k .1 .1 .0 })
 
 returns-2 : tie.Need-returns-2
 returns-2 c =

@@ -20,7 +20,8 @@ low : (c : tie.After-joining) → c .joining .result < 8
 low c =
     let s = c .before .before .before .before .before .before .before in
     let e = c .before .number in
-    found-letter (automaton (s .args .a) (s .args .table .now)) (s .args .counts) (s .args .queue .now) (s .args .head) (e .result) (c .joining .result) (s .pre .1) (e .ensures) (c .joining .ensures)
+    found-letter (automaton (s .args .a) (s .args .table .now)) (s .args .counts) (s .args .queue .now) (s .args .head) (e .result) (c .joining .result)
+    (s .pre .1) (e .ensures) (c .joining .ensures)
 
 number-requires : tie.Need-number-requires
 number-requires c κs = search needs
@@ -91,11 +92,13 @@ same-length c = search needs
 
 same-length-2 : tie.Need-same-length-2
 same-length-2 c =
-    c .before .before .before .before .before .before .trace .kept .1 .1 .1 .1 .0 ∙ simp length-set (c .before .before .before .before .before .before .before .before .before .before .before .before .before .before .before .before .note .kept .1 .0)
+    c .before .before .before .before .before .before .trace .kept .1 .1 .1 .1 .0
+    ∙ simp length-set (c .before .before .before .before .before .before .before .before .before .before .before .before .before .before .before .before .note .kept .1 .0)
 
 same-length-3 : tie.Need-same-length-3
 same-length-3 c =
-    c .before .before .before .before .before .before .trace .kept .1 .1 .1 .1 .1 .0 ∙ simp length-set (c .before .before .before .before .before .before .before .before .before .before .before .before .before .before .before .before .note .kept .1 .1 .0)
+    c .before .before .before .before .before .before .trace .kept .1 .1 .1 .1 .1 .0
+    ∙ simp length-set (c .before .before .before .before .before .before .before .before .before .before .before .before .before .before .before .before .note .kept .1 .1 .0)
 
 returns : tie.Need-returns
 returns c =
@@ -110,7 +113,8 @@ returns c =
     let z = n .before .before .before .before .member in
     let w = tables (g .last .1 .1 .1 .0) (g .last .1 .1 .1 .1 .0) (g .last .1 .1 .1 .1 .1 .0) in (
       omega arith,
-      witness-of A (a .counts) (a .queue .now) (a .head) (e .result) (j .result) (r .result) (z .result) (g .ensures .0) (tables (a .word .now) (a .one .now) (a .other .now)) w
+      witness-of A (a .counts) (a .queue .now) (a .head) (e .result) (j .result) (r .result) (z .result) (g .ensures .0)
+          (tables (a .word .now) (a .one .now) (a .other .now)) w
           (s .pre .0) (s .pre .1) (e .ensures) (j .ensures) (r .ensures) (z .ensures .1) (n .note .ensures) (g .ensures .1),
     )
 

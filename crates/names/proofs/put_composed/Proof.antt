@@ -26,22 +26,26 @@ abbrev μ-loop : tie.MeasureT-loop
 μ-loop s start end out₀ at i₀ n₀ out i n = end - i
 
 -- the test of this turn, and what is left to store then
-two : (c : tie.Then1 Inv-loop μ-loop) → diaeresisAt (now (c .before .before .before .before .before .before .args .s)) (c .before .before .before .loop .i) (c .before .before .before .before .before .before .args .end) ≡ true
+two : (c : tie.Then1 Inv-loop μ-loop)
+    → diaeresisAt (now (c .before .before .before .before .before .before .args .s)) (c .before .before .before .loop .i) (c .before .before .before .before .before .before .args .end) ≡ true
 two c = sym (c .before .diaeresis-at .ensures) ∙ c .if1 .taken
 
 two-left :
     (c : tie.Then1 Inv-loop μ-loop) →
-    (c .before .before .before .loop .i + 3 ≤ c .before .before .before .before .before .before .args .end) × (c .before .before .before .before .before .before .args .at + c .before .before .before .loop .n + 2 ≤ length (c .before .before .before .loop .out))
+    (c .before .before .before .loop .i + 3 ≤ c .before .before .before .before .before .before .args .end) ×
+    (c .before .before .before .before .before .before .args .at + c .before .before .before .loop .n + 2 ≤ length (c .before .before .before .loop .out))
 two-left c =
     let l = c .before .before .before .loop in
     let a = c .before .before .before .before .before .before .args in
     let k = ap length (composed-two (now (a .s)) (l .i) (a .end) (omega arith) (omega arith) (two c)) in
     (composed-fits (now (a .s)) (l .i) (a .end) (omega arith) (omega arith) (two c), omega (arith, l .inv .4, c .before .before .before .before .before .before .pre .1))
 
-one : (c : tie.Else1 Inv-loop μ-loop) → diaeresisAt (now (c .before .before .before .before .before .before .args .s)) (c .before .before .before .loop .i) (c .before .before .before .before .before .before .args .end) ≡ false
+one : (c : tie.Else1 Inv-loop μ-loop)
+    → diaeresisAt (now (c .before .before .before .before .before .before .args .s)) (c .before .before .before .loop .i) (c .before .before .before .before .before .before .args .end) ≡ false
 one c = sym (c .before .diaeresis-at .ensures) ∙ c .if1 .left
 
-one-left : (c : tie.Else1 Inv-loop μ-loop) → c .before .before .before .before .before .before .args .at + c .before .before .before .loop .n + 1 ≤ length (c .before .before .before .loop .out)
+one-left : (c : tie.Else1 Inv-loop μ-loop)
+    → c .before .before .before .before .before .before .args .at + c .before .before .before .loop .n + 1 ≤ length (c .before .before .before .loop .out)
 one-left c =
     let l = c .before .before .before .loop in
     let a = c .before .before .before .before .before .before .args in

@@ -24,7 +24,9 @@ put-column-requires-2 : tie.Need-put-column-requires-2
 put-column-requires-2 c κs = search needs
 
 returns : tie.Need-returns
-returns c = cc (pieces (now (c .before .before .before .before .before .before .before .before .before .before .args .word)) (c .before .before .before .before .before .before .before .before .before .before .args .a) (c .before .before .before .before .before .before .before .before .before .before .args .b) (c .before .before .before .before .before .before .before .before .before .before .pre))
+returns c =
+    let s = c .before .before .before .before .before .before .before .before .before .before in
+    cc (pieces (now (s .args .word)) (s .args .a) (s .args .b) (s .pre))
 
 pub line-spec : {M : Type 1} → statement M
 line-spec =

@@ -56,7 +56,8 @@ loop-less : tie.Need-loop-less Inv-loop μ-loop
 loop-less c =
     let p = c .before .before .before .before .before .before .before .before .before .before .pre in
     let l = c .before .before .before .before .loop in
-    let f : c .before .before .before .before .loop .p - 1 < c .before .before .before .before .before .before .before .before .before .before .args .m = omega arith in
+    let f : c .before .before .before .before .loop .p - 1 < c .before .before .before .before .before .before .before .before .before .before .args .m =
+    omega arith in
     omega (arith, p .0 .index .link-is (l .p - 1) f)
 
 loop-again : tie.Need-loop-again Inv-loop μ-loop
@@ -64,7 +65,8 @@ loop-again c =
     let a = c .before .before .before .before .before .before .before .before .before .before .args in
     let p = c .before .before .before .before .before .before .before .before .before .before .pre in
     let l = c .before .before .before .before .loop in
-    walk-goes (a .table .now) (a .m) (a .row .now) (a .h) (a .head .now) (a .link .now) (p .0) (p .1) (l .p) (l .p - 1) (l .inv) (omega arith) (c .before .before .same .ensures .1 (c .before .if1 .left))
+    walk-goes (a .table .now) (a .m) (a .row .now) (a .h) (a .head .now) (a .link .now) (p .0) (p .1) (l .p) (l .p - 1) (l .inv) (omega arith)
+    (c .before .before .same .ensures .1 (c .before .if1 .left))
 
 returns-2 : tie.Need-returns-2 Inv-loop μ-loop
 returns-2 c =

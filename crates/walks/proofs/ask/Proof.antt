@@ -24,7 +24,10 @@ returns : tie.Need-returns
 returns c =
     let a = c .before .before .before .before .before .before .before .before .before .before .before .before .before .before .args in
     let g = c .before .before .before .before .before .before .search in
-    answer-everywhere (automaton (a .a) (a .table .now)) (c .before .before .before .before .before .before .before .before .before .before .before .before .before .before .pre .fits) (tables (a .word .now) (a .one .now) (a .other .now)) (tables (g .last .1 .1 .1 .0) (g .last .1 .1 .1 .1 .0) (g .last .1 .1 .1 .1 .1 .0)) (g .result) (g .ensures)
+    answer-everywhere (automaton (a .a) (a .table .now))
+    (c .before .before .before .before .before .before .before .before .before .before .before .before .before .before .pre .fits)
+    (tables (a .word .now) (a .one .now) (a .other .now)) (tables (g .last .1 .1 .1 .0) (g .last .1 .1 .1 .1 .0) (g .last .1 .1 .1 .1 .1 .0)) (g .result)
+    (g .ensures)
 
 pub ask-spec : {M : Type 1} → statement M
 ask-spec = tie.close (tie.spec search-requires same-length same-length-2 same-length-3 returns)

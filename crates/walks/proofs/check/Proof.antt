@@ -40,8 +40,9 @@ clear-requires-3 c κs = search needs
 judge-requires : tie.Need-judge-requires
 judge-requires c κs =
     let k = c .before .before .before .before .before in
-    let a = k .before .before .before .before .before .before .before .before .before .before .before .before .before .before .before .before .before .before .args in
-    ready (automaton (a .a) (a .table .now)) (tables (a .word .now) (a .one .now) (a .other .now)) (long (k .before .before .before .before .before .before .before .before .before .before))
+    let e = k .before .before .before .before .before .before .before .before .before .before in
+    let a = e .before .before .before .before .before .before .before .before .args in
+    ready (automaton (a .a) (a .table .now)) (tables (a .word .now) (a .one .now) (a .other .now)) (long e)
     (k .before .before .before .before .before .before .before .before .clear .ensures) (k .before .before .before .before .clear2 .ensures) (k .clear3 .ensures)
 
 same-length : tie.Need-same-length
@@ -57,8 +58,9 @@ returns-5 : tie.Need-returns-5
 returns-5 c =
     let g = c .before .before .before .before .before .before .judge in
     let k = c .before .before .before .before .before .before .before .before .before .before .before .before in
-    let a = k .before .before .before .before .before .before .before .before .before .before .before .before .before .before .before .before .before .before .args in
-    checked (automaton (a .a) (a .table .now)) (tables (a .word .now) (a .one .now) (a .other .now)) (long (k .before .before .before .before .before .before .before .before .before .before))
+    let e = k .before .before .before .before .before .before .before .before .before .before in
+    let a = e .before .before .before .before .before .before .before .before .args in
+    checked (automaton (a .a) (a .table .now)) (tables (a .word .now) (a .one .now) (a .other .now)) (long e)
     (k .before .before .before .before .before .before .before .before .clear .ensures) (k .before .before .before .before .clear2 .ensures) (k .clear3 .ensures)
     (tables (g .last .1 .1 .0) (g .last .1 .1 .1 .0) (g .last .1 .1 .1 .1 .0)) (g .result) (g .ensures)
 

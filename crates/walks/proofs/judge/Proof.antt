@@ -34,7 +34,9 @@ returns-2 : tie.Need-returns-2
 returns-2 c =
     let a = c .before .before .before .before .before .before .before .before .before .before .before .before .before .before .before .before .before .args in
     let g = c .before .before .before .before .before .before .before .ask in
-    judge-free (automaton (a .a) (a .table .now)) (tables (a .word .now) (a .one .now) (a .other .now)) (tables (g .last .1 .1 .0) (g .last .1 .1 .1 .0) (g .last .1 .1 .1 .1 .0)) (g .result) (c .before .before .before .before .before .before .before .before .before .before .before .before .first-no .ensures .0 (c .before .before .before .before .before .before .before .before .before .before .before .if1 .left)) (g .ensures) (c .if2 .taken)
+    let fits = c .before .before .before .before .before .before .before .before .before .before .before .before .first-no .ensures .0 (c .before .before .before .before .before .before .before .before .before .before .before .if1 .left) in
+    judge-free (automaton (a .a) (a .table .now)) (tables (a .word .now) (a .one .now) (a .other .now))
+    (tables (g .last .1 .1 .0) (g .last .1 .1 .1 .0) (g .last .1 .1 .1 .1 .0)) (g .result) fits (g .ensures) (c .if2 .taken)
 
 same-length-4 : tie.Need-same-length-4
 same-length-4 c = search needs
@@ -49,7 +51,9 @@ returns-3 : tie.Need-returns-3
 returns-3 c =
     let a = c .before .before .before .before .before .before .before .before .before .before .before .before .before .before .before .before .before .args in
     let g = c .before .before .before .before .before .before .before .ask in
-    judge-meets (automaton (a .a) (a .table .now)) (tables (a .word .now) (a .one .now) (a .other .now)) (tables (g .last .1 .1 .0) (g .last .1 .1 .1 .0) (g .last .1 .1 .1 .1 .0)) (g .result) (c .before .before .before .before .before .before .before .before .before .before .before .before .first-no .ensures .0 (c .before .before .before .before .before .before .before .before .before .before .before .if1 .left)) (g .ensures) (c .if2 .left)
+    let fits = c .before .before .before .before .before .before .before .before .before .before .before .before .first-no .ensures .0 (c .before .before .before .before .before .before .before .before .before .before .before .if1 .left) in
+    judge-meets (automaton (a .a) (a .table .now)) (tables (a .word .now) (a .one .now) (a .other .now))
+    (tables (g .last .1 .1 .0) (g .last .1 .1 .1 .0) (g .last .1 .1 .1 .1 .0)) (g .result) fits (g .ensures) (c .if2 .left)
 
 pub judge-spec : {M : Type 1} → statement M
 judge-spec =
