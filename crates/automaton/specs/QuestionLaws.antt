@@ -1,12 +1,14 @@
 -- The answers to questions 4, 7 and 8 exclude each other. Assumes nothing.
-use Prim.Native.Nat.{ℕ, _<_}
-use mathlib.Core.Path.{_≡_, refl, subst}
+use Prim.Native.Nat.{ℕ, _≤_, _<_}
+use mathlib.Core.Path.{_≡_, refl, ap, subst}
 use native.Mathlib.Omega.{arith}
 use native.Mathlib.Decide.{decLt}
 use lib.ListN.{length, getD, List·getD-eq-default}
+use Rattle.gate.specs.declared.Refusal.{Refusal}
 use Rattle.sets.specs.Sets.{Member}
 use Rattle.sets.specs.SetLaws.{no-member}
 use Rattle.automaton.specs.Automaton.{Automaton, CellFits, CellsFit, Fits, FirstNo, Answers}
+use Rattle.automaton.specs.Lent.{Tables, NumbersRefuse}
 
 -- The numbers
 
@@ -26,16 +28,21 @@ first-no-unique A x y (FirstNo.cells r s h) (FirstNo.range h') = absurd (h' r)
 first-no-unique A x y (FirstNo.cells r s h) (FirstNo.states r' h') = absurd (h' s)
 first-no-unique A x y (FirstNo.cells r s h) (FirstNo.cells r' s' h') = refl
 
+first-no-number : {A : Automaton} {x : ℕ} → FirstNo A x → 4 ≤ x
+first-no-number (FirstNo.range h) = omega arith
+first-no-number (FirstNo.states r h) = omega arith
+first-no-number (FirstNo.cells r s h) = omega arith
+
+-- only question 1 has number 1
+pub numbers-number : {A : Automaton} {v w : Tables} {r : Refusal} → NumbersRefuse A v w r → r .number ≡ 1 → ⊥
+numbers-number (NumbersRefuse.unfit x f e z) h = omega (arith, first-no-number f, ap (λ (r : Refusal). r .number) e)
+numbers-number (NumbersRefuse.meeting f m) h = omega (arith, m .number)
+
 pub answers-yes : (A : Automaton) → Fits A → Answers A 0
 answers-yes A f = (λ e. f, λ e. absurd (e refl))
 
 pub answers-no : (A : Automaton) (x : ℕ) → FirstNo A x → Answers A x
-answers-no A x n = (λ e. absurd (by n e), λ e. n)
-  where
-    by : {x : ℕ} → FirstNo A x → x ≡ 0 → ⊥
-    by (FirstNo.range h) e = omega arith
-    by (FirstNo.states r h) e = omega arith
-    by (FirstNo.cells r s h) e = omega arith
+answers-no A x n = (λ e. (let h = first-no-number n in omega arith), λ e. n)
 
 -- Cells
 

@@ -2,12 +2,11 @@
 // listing's length and sum, and the length and sum of the sheet written out; or refusals in their places.
 ghost use Prim.Native.Nat.{_<_, _≤_};
 ghost use lib.ListN.{length};
+use gate::Written;
 use judge::Answer;
 use judge::Outcome;
 use judge::Verdict;
 use libc::STDOUT_FILENO;
-use listing::Listed;
-use writer::Written;
 
 fn say(text: &[u8]) {
     io::write_all(STDOUT_FILENO, text);
@@ -74,8 +73,8 @@ fn say_listing(sheet: &[u8], room: usize) {
         &mut other,
         &mut out,
     ) {
-        Listed::Bytes(n) => say_text(b"LIST", &out, n),
-        Listed::Refused(r) => say_line(report::refusal_line(r)),
+        Written::Bytes(n) => say_text(b"LIST", &out, n),
+        Written::Refused(r) => say_line(report::refusal_line(r)),
     }
 }
 

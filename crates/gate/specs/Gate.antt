@@ -5,6 +5,8 @@ use mathlib.Core.Bool.{Bool, true, false}
 use mathlib.Core.List.{List, _++_}
 use lib.ListN.{length, getD, replicate}
 use Rattle.gate.specs.declared.Refusal.{Refusal}
+use Rattle.gate.specs.declared.Written.{Written}
+use Rattle.gate.specs.declared.Written.the-variants.{Refused}
 
 -- "A refusal is the number with the line"; no number but 10 has a witness
 abbrev pub refusal : ℕ → ℕ → Refusal
@@ -25,3 +27,9 @@ cleared table = replicate (length table) 0
 -- a text in a lent buffer: "On success every cell of these tables without a meaning is zero"
 abbrev pub lentText : List ℕ → List ℕ → List ℕ
 lentText text out = text ++ replicate (length out - length text) 0
+
+-- a refusal by a question before the text, whose buffer was b and is c: "Refusal 1 asked first touches nothing", every other leaves it all zero
+pub record RefusedWith (x : Refusal) (b c : List ℕ) (r : Written) : Type 0 where
+  pub is : r ≡ Refused x
+  pub untouched : x .number ≡ 1 → c ≡ b
+  pub zero : (x .number ≡ 1 → ⊥) → c ≡ cleared b

@@ -1,4 +1,4 @@
--- Answers; lists of zeros, tables that are cleared, and a text stored in one. Assumes nothing.
+-- Answers; lists of zeros, tables that are cleared, and a text with zeros behind it. Assumes nothing.
 use Prim.Native.Nat.{ℕ, zero, suc, _+_, _-_, _≤_, _<_}
 use mathlib.Core.Path.{_≡_, refl, sym, ap, _∙_}
 use mathlib.Core.Bool.{true, false}
@@ -6,8 +6,8 @@ use mathlib.Core.List.{List, _++_, append-nil}
 use native.Mathlib.Omega.{arith}
 use native.Mathlib.Nat.{zero-add, sub-zero, zero-sub}
 use borrow.Author.Fill.{fill-none, fill-more}
-use lib.ListN.{length, replicate, set, drop, length-set, length-replicate}
-use lib.Seq.{sets, sets-eq, drop-length}
+use lib.ListN.{length, replicate, set, take, drop, length-set, length-replicate, length-drop, drop-of-length-le}
+use lib.Seq.{sets, sets-eq, take-all, take-at, drop-at, drop-length}
 use Rattle.gate.specs.Gate.{Decides, Zero, cleared, lentText}
 
 -- Answers
@@ -61,9 +61,14 @@ module _ {table result : List ℕ} {i : ℕ} (c : Clearing table result i) where
       let e : result ≡ replicate (length table) 0 ++ drop (length table) table = rw k at (c .zero-front) in
       e ∙ rw (drop-length table, append-nil)
 
--- A text stored in a cleared buffer has zeros behind it
+-- A text of n bytes stored at the start of a buffer, with all that lies behind it cleared
 
-pub lent-text : (text out : List ℕ) → length text ≤ length out → sets (cleared out) 0 text ≡ lentText text out
-lent-text text out h =
-    let e : 0 + length text ≡ length text = zero-add (length text) in
-    sets-eq text (cleared out) 0 (rw (e, length-cleared out) h) ∙ rw (e, drop-zeros (length text) (length out))
+pub text-lent : (text b : List ℕ) {n : ℕ} {l m : List ℕ} → l ≡ sets b 0 text → n ≡ length text → n ≤ length b → m ≡ cleared (take (length l - n) (drop n l))
+    → take n l ++ (m ++ drop (length l - n) (drop n l)) ≡ lentText text b
+text-lent text b {n} {l} {m} put e h clear =
+    let rest = drop n b in
+    let is : l ≡ text ++ rest = put ∙ sets-eq text b 0 (rw zero-add (omega arith)) ∙ rw (zero-add, e) in
+    let front : take n l ≡ text = rw is (take-at text rest n (sym e)) in
+    let back : drop n l ≡ rest = rw is (drop-at text rest n (sym e)) in
+    let size : length l - n ≡ length rest = rw (← back) (sym (length-drop n l)) in
+    rw (clear, front, back, size, take-all (length rest) rest (omega arith), drop-of-length-le rest {i = length rest} (omega arith), append-nil, length-drop n b, e)

@@ -11,8 +11,8 @@ use Rattle.automaton.specs.Lent.{Tables}
 use Rattle.tracker.specs.Build.{Store, clearedStore, Lent, BuildsNumbers, Builds}
 use Rattle.tracker.specs.declared.Tracker.{Tracker}
 use Rattle.tracker.specs.declared.Built.the-variants.{Refused as BuildRefused, Is}
-use Rattle.listing.specs.declared.Listed.{Listed}
-use Rattle.listing.specs.declared.Listed.the-variants.{Refused, Bytes}
+use Rattle.gate.specs.declared.Written.{Written}
+use Rattle.gate.specs.declared.Written.the-variants.{Refused, Bytes}
 use Rattle.listing.specs.Listing.{listing}
 
 -- the listing of a tracker that is built in g
@@ -20,7 +20,7 @@ abbrev pub listingOf : Tracker → Store → List ℕ
 listingOf x g = listing (x .numbers .n) (x .numbers .k) (x .tuples) (g .tuples) (g .nexts)
 
 -- LISTING FROM NUMBERS. The sheet as numbers is A; the witness was v and is w, the tuples and nexts were f and are g.
-pub data ListsNumbers (A : Automaton) (room : ℕ) (v w : Tables) (f g : Store) (b c : List ℕ) (l : Listed) : Type 0 where
+pub data ListsNumbers (A : Automaton) (room : ℕ) (v w : Tables) (f g : Store) (b c : List ℕ) (l : Written) : Type 0 where
   -- 1, asked first: nothing is touched
   short : (Lent room (A .table) v f → ⊥) → l ≡ Refused (refusal 1 0) → w ≡ v → g ≡ f → c ≡ b → ListsNumbers A room v w f g b c l
   -- 4, 7, 8, 10 and 11, as building refuses
@@ -34,7 +34,7 @@ pub data ListsNumbers (A : Automaton) (room : ℕ) (v w : Tables) (f g : Store) 
       → l ≡ Bytes (length (listingOf x g)) → c ≡ lentText (listingOf x g) b → ListsNumbers A room v w f g b c l
 
 -- LISTING FROM A SHEET FILE s. The successor sets' table was t and is u.
-pub data Lists (s : List ℕ) (room : ℕ) (t u : List ℕ) (v w : Tables) (f g : Store) (b c : List ℕ) (l : Listed) : Type 0 where
+pub data Lists (s : List ℕ) (room : ℕ) (t u : List ℕ) (v w : Tables) (f g : Store) (b c : List ℕ) (l : Written) : Type 0 where
   -- 1, asked first: nothing is touched
   short : (Lent room t v f → ⊥) → l ≡ Refused (refusal 1 0) → u ≡ t → w ≡ v → g ≡ f → c ≡ b → Lists s room t u v w f g b c l
   -- 2 to 11, as building refuses

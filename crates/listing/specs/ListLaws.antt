@@ -4,21 +4,23 @@ use mathlib.Core.Path.{_≡_, sym, ap, _∙_}
 use mathlib.Core.List.{List}
 use native.Mathlib.Omega.{arith}
 use lib.ListN.{length}
-use Rattle.gate.specs.Gate.{refusal, cleared}
+use Rattle.gate.specs.Gate.{refusal, cleared, RefusedWith}
 use Rattle.gate.specs.declared.Refusal.{Refusal}
-use Rattle.automaton.specs.Automaton.{Automaton, InRange, FirstNo}
-use Rattle.automaton.specs.Lent.{Tables, NumbersRefuse}
-use Rattle.format.specs.Format.{Faulty, numbers}
-use Rattle.sheet.specs.Read.{Refuses, AreNumbers}
+use Rattle.automaton.specs.Automaton.{Automaton, InRange}
+use Rattle.automaton.specs.Lent.{Tables}
+use Rattle.format.specs.Format.{numbers}
+use Rattle.automaton.specs.QuestionLaws.{numbers-number}
+use Rattle.sheet.specs.ReadLaws.{refuses-number}
+use Rattle.sheet.specs.Read.{AreNumbers}
 use Rattle.tracker.specs.Build.{Store, RoomFits, Fitted, BuildsNumbers, Builds}
 use Rattle.tracker.specs.BuildLaws.{numbers-built, file-built}
 use Rattle.tracker.specs.FillLaws.{cleared-alike}
 use Rattle.tracker.specs.declared.Tracker.{Tracker}
 use Rattle.tracker.specs.declared.Built.the-variants.{Refused as BuildRefused, Is}
-use Rattle.listing.specs.declared.Listed.{Listed}
-use Rattle.listing.specs.declared.Listed.the-variants.{Refused, Bytes}
+use Rattle.gate.specs.declared.Written.{Written}
+use Rattle.gate.specs.declared.Written.the-variants.{Refused, Bytes}
 use Rattle.listing.specs.List.{listingOf, ListsNumbers, Lists}
-use Rattle.listing.specs.Put.{Sized, RefusedWith, Finishes}
+use Rattle.listing.specs.Put.{Sized, Finishes}
 
 -- the tables of a tracker are as long as they were
 pub record SameLengths (f h : Store) : Type 0 where
@@ -35,31 +37,7 @@ sized x range room are fitted same =
     let e = fitted .room-is in
     record { states = omega arith; letters = omega arith; most = omega arith; tuple-cells = omega arith; next-cells = omega arith }
 
--- ONLY QUESTION 1 HAS NUMBER 1
-
-first-no-number : (A : Automaton) (x : ℕ) → FirstNo A x → x ≡ 1 → ⊥
-first-no-number A x (FirstNo.range h) e = omega arith
-first-no-number A x (FirstNo.states r h) e = omega arith
-first-no-number A x (FirstNo.cells r s h) e = omega arith
-
-numbers-number : (A : Automaton) (v w : Tables) (r : Refusal) → NumbersRefuse A v w r → r .number ≡ 1 → ⊥
-numbers-number A v w r (NumbersRefuse.unfit x f e z) n = first-no-number A x f (sym (ap (λ (r : Refusal). r .number) e) ∙ n)
-numbers-number A v w r (NumbersRefuse.meeting f m) n = let k = m .number in omega arith
-
-faulty-number : (s : List ℕ) (x line : ℕ) → Faulty s x line → x ≡ 1 → ⊥
-faulty-number s x line (Faulty.size h) e = omega arith
-faulty-number s x line (Faulty.head h f) e = omega arith
-faulty-number s x line (Faulty.range h n k rest a b t f) e = omega arith
-faulty-number s x line (Faulty.name σ rest a d f) e = omega arith
-faulty-number s x line (Faulty.twice σ rest a d y after i t f) e = omega arith
-faulty-number s x line (Faulty.state σ rest a d f) e = omega arith
-faulty-number s x line (Faulty.transition σ rest a d t f) e = omega arith
-faulty-number s x line (Faulty.end σ rest a d t f) e = omega arith
-faulty-number s x line (Faulty.behind σ after a d f) e = omega arith
-
-file-number : (s : List ℕ) (v w : Tables) (r : Refusal) → Refuses s v w r → r .number ≡ 1 → ⊥
-file-number s v w r (Refuses.faulty x line f e z) n = faulty-number s x line f (sym (ap (λ (r : Refusal). r .number) e) ∙ n)
-file-number s v w r (Refuses.meeting σ f m) n = let k = m .number in omega arith
+-- NO QUESTION BEHIND THE FIRST HAS NUMBER 1
 
 room-number : (r : Refusal) → r ≡ refusal 11 0 → r .number ≡ 1 → ⊥
 room-number r e n = let k : _≡_ {A = ℕ} 11 1 = sym (ap (λ (r : Refusal). r .number) e) ∙ n in omega arith
@@ -67,11 +45,11 @@ room-number r e n = let k : _≡_ {A = ℕ} 11 1 = sym (ap (λ (r : Refusal). r 
 -- FROM NUMBERS
 
 module _ {A : Automaton} {room : ℕ} {v w : Tables} {f h : Store} where
-  pub numbers-refused : {r : Refusal} {b c : List ℕ} {l : Listed} → BuildsNumbers A room v w f h (BuildRefused r) → RefusedWith r b c l
+  pub numbers-refused : {r : Refusal} {b c : List ℕ} {l : Written} → BuildsNumbers A room v w f h (BuildRefused r) → RefusedWith r b c l
       → ListsNumbers A room v w f h b c l
   numbers-refused {r} (BuildsNumbers.short n e p q) a = let i : r .number ≡ 1 = cc in ListsNumbers.short n (let j = a .is in cc) p q (a .untouched i)
   numbers-refused {r} (BuildsNumbers.refused l q x e z) a =
-      ListsNumbers.refused l r (BuildsNumbers.refused l q x e z) (a .is) (a .zero (λ n. numbers-number A v w q x (cc)))
+      ListsNumbers.refused l r (BuildsNumbers.refused l q x e z) (a .is) (a .zero (λ n. numbers-number x (cc)))
   numbers-refused {r} (BuildsNumbers.asked l fits free z (m, e, q)) a =
       ListsNumbers.refused l r (BuildsNumbers.asked l fits free z (m, e, q)) (a .is) (a .zero (room-number r e))
 
@@ -79,18 +57,18 @@ module _ {A : Automaton} {room : ℕ} {v w : Tables} {f h : Store} where
     pub numbers-sized : Sized (x .numbers .n) (x .numbers .k) (x .tuples) (h .tuples) (h .nexts)
     numbers-sized = let (l, fits, are, fitted) = numbers-built built in sized x (fits .range) (l .store) are fitted same
 
-    pub numbers-finished : {g : Store} {b c : List ℕ} (l : Listed) → Finishes (listingOf x h) h g b c l → ListsNumbers A room v w f g b c l
+    pub numbers-finished : {g : Store} {b c : List ℕ} (l : Written) → Finishes (listingOf x h) h g b c l → ListsNumbers A room v w f g b c l
     numbers-finished (Refused r) (s, e, z, d) = ListsNumbers.last h x built s (ap Refused e) (z ∙ cleared-alike h f (same .tuples) (same .nexts)) d
     numbers-finished (Bytes count) (s, e, z, d) = rw z (ListsNumbers.bytes x built s (ap Bytes e) d)
 
 -- FROM A SHEET FILE
 
 module _ {s : List ℕ} {room : ℕ} {t m : List ℕ} {v w : Tables} {f h : Store} where
-  pub file-refused : {r : Refusal} {b c : List ℕ} {l : Listed} → Builds s room t m v w f h (BuildRefused r) → RefusedWith r b c l
+  pub file-refused : {r : Refusal} {b c : List ℕ} {l : Written} → Builds s room t m v w f h (BuildRefused r) → RefusedWith r b c l
       → Lists s room t m v w f h b c l
   file-refused {r} (Builds.short n e o p q) a = let i : r .number ≡ 1 = cc in Lists.short n (let j = a .is in cc) o p q (a .untouched i)
   file-refused {r} (Builds.refused l q x e o z) a =
-      Lists.refused l r (Builds.refused l q x e o z) (a .is) (a .zero (λ n. file-number s v w q x (cc)))
+      Lists.refused l r (Builds.refused l q x e o z) (a .is) (a .zero (λ n. refuses-number x (cc)))
   file-refused {r} (Builds.asked l σ x z (y, e, q) o) a =
       Lists.refused l r (Builds.asked l σ x z (y, e, q) o) (a .is) (a .zero (room-number r e))
 

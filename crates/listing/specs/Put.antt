@@ -4,10 +4,9 @@ use mathlib.Core.Path.{_≡_}
 use mathlib.Core.List.{List}
 use lib.ListN.{length, getD}
 use Rattle.gate.specs.Gate.{refusal, cleared, lentText}
-use Rattle.gate.specs.declared.Refusal.{Refusal}
 use Rattle.tracker.specs.Build.{Store, clearedStore}
-use Rattle.listing.specs.declared.Listed.{Listed}
-use Rattle.listing.specs.declared.Listed.the-variants.{Refused, Bytes}
+use Rattle.gate.specs.declared.Written.{Written}
+use Rattle.gate.specs.declared.Written.the-variants.{Refused, Bytes}
 
 -- the cells of a table from `from` on, as a sequence
 abbrev pub cellsFrom : List ℕ → ℕ → ℕ → ℕ
@@ -34,13 +33,7 @@ pub record Sized (n k count : ℕ) (tuples nexts : List ℕ) : Type 0 where
   pub tuple-cells : 17 * count ≤ length tuples
   pub next-cells : 8 * count ≤ length nexts
 
--- a refusal by building; the buffer was b and is c then: "Refusal 1 asked first touches nothing", and every other leaves the buffer all zero
-pub record RefusedWith (r : Refusal) (b c : List ℕ) (answer : Listed) : Type 0 where
-  pub is : answer ≡ Refused r
-  pub untouched : r .number ≡ 1 → c ≡ b
-  pub zero : (r .number ≡ 1 → ⊥) → c ≡ cleared b
-
 -- the last question, on a text over tables that were h and are g: 1 with every table all zero, or the text
-abbrev pub Finishes : List ℕ → Store → Store → List ℕ → List ℕ → Listed → Type 0
+abbrev pub Finishes : List ℕ → Store → Store → List ℕ → List ℕ → Written → Type 0
 Finishes text h g b c (Refused r) = (length b < length text) × (r ≡ refusal 1 0) × (g ≡ clearedStore h) × (c ≡ cleared b)
 Finishes text h g b c (Bytes count) = (length text ≤ length b) × (count ≡ length text) × (g ≡ h) × (c ≡ lentText text b)

@@ -1,13 +1,12 @@
 -- The text of a listing: its length, and how it is written part by part. Assumes nothing.
 use Prim.Native.Nat.{ℕ, zero, suc, _+_, _-_, _*_, _≤_, _<_}
 use mathlib.Core.Path.{_≡_, refl, ap, _∙_}
-use mathlib.Core.List.{List, [], _∷_, _++_, append-nil}
+use mathlib.Core.List.{List, [], _∷_, _++_}
 use native.Mathlib.Numerals.{add-one}
 use native.Mathlib.Nat.{mul-le-mul, mul-suc, suc-mul}
 use native.Mathlib.Omega.{arith}
-use lib.ListN.{length, getD, take, drop, replicate, length-append, length-drop}
-use lib.Seq.{sets, sets-eq, take-at, drop-at, take-length, drop-length}
-use Rattle.gate.specs.Gate.{cleared, lentText}
+use lib.ListN.{length, getD, length-append}
+use lib.Seq.{sets}
 use Rattle.text.specs.Bytes.{lf, endWord}
 use Rattle.text.specs.Column.{column}
 use Rattle.text.specs.ColumnLaws.{column-length}
@@ -142,16 +141,3 @@ listing-put out n k count tuples nexts =
     let ls = tupleLines n k tuples nexts 0 count in
     sets-part (firstLine n k count) (ls ++ (endWord ++ (lf ∷ []))) out 0 17 (omega (arith, first-length n k count))
     ∙ sets-part ls (endWord ++ (lf ∷ [])) (sets out 0 (firstLine n k count)) 17 (17 + count * lineBytes n k) (omega (arith, lines-length n k tuples nexts 0 count))
-
--- ZEROS BEHIND A TEXT of n bytes at the start of a buffer: what lies behind it is cleared, and then z
-pub zeros-behind : (text out l z : List ℕ) (n : ℕ) → length text ≡ n → n ≤ length out → l ≡ sets out 0 text → z ≡ cleared (take (length l - n) (drop n l))
-    → take n l ++ (z ++ drop (length l - n) (drop n l)) ≡ lentText text out
-zeros-behind text out l z n m h e y =
-    let o : 0 + length text ≡ n = omega arith in
-    let q : l ≡ text ++ drop n out = e ∙ sets-eq text out 0 (rw o h) ∙ rw o in
-    let a : take n l ≡ text = ap (take n) q ∙ take-at text (drop n out) n m in
-    let b : drop n l ≡ drop n out = ap (drop n) q ∙ drop-at text (drop n out) n m in
-    let k : length l - n ≡ length (drop n out) = omega (arith, simp length-append at (ap length q)) in
-    let w : z ≡ replicate (length out - length text) 0 = y ∙ rw (k, b, take-length (drop n out), length-drop n out, m) in
-    let v : drop (length l - n) (drop n l) ≡ [] = rw (k, b, drop-length (drop n out)) in
-    rw (a, w, v, append-nil (replicate {A = ℕ} (length out - length text) 0))

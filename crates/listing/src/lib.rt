@@ -3,30 +3,14 @@ mod writing;
 
 use automaton::Numbers;
 use gate::Refusal;
+use gate::Written;
 use tracker::Built;
 ghost use Rattle.automaton.specs.Automaton.{automaton};
 ghost use Rattle.automaton.specs.Lent.{tables};
 ghost use Rattle.tracker.specs.Build.{store};
 ghost use Rattle.listing.specs.Listing.{listing};
 ghost use Rattle.listing.specs.List.{ListsNumbers, Lists};
-ghost use Rattle.listing.specs.Put.{Sized, RefusedWith, Finishes};
-
-// The answer of listing: a refusal, or the count of bytes written.
-pub enum Listed {
-    Refused(Refusal),
-    Bytes(usize),
-}
-
-// A refusal by building: with 1, which is asked first, the buffer is not touched, and with every other number it is cleared.
-fn refuse(r: Refusal, out: &mut [u8]) -> Listed
-    ensures { λ l. ⌜ RefusedWith r (now (out .entry)) (now (out .exit)) l ⌝ }
-{
-    if r.number == 1 {
-        return Listed::Refused(r);
-    }
-    gate::clear_bytes(out);
-    Listed::Refused(r)
-}
+ghost use Rattle.listing.specs.Put.{Sized, Finishes};
 
 // The last question, whether the buffer is long enough, and the listing with zeros behind it.
 fn finish(
@@ -36,7 +20,7 @@ fn finish(
     tuples: &mut [u16],
     nexts: &mut [u16],
     out: &mut [u8],
-) -> Listed
+) -> Written
     requires { ⌜ Sized n k count (now tuples) (now nexts) ⌝ }
     ensures { λ l. ⌜ Finishes (listing n k count (now (tuples .entry)) (now (nexts .entry)))
         (store (now (tuples .entry)) (now (nexts .entry))) (store (now (tuples .exit)) (now (nexts .exit))) (now (out .entry)) (now (out .exit)) l ⌝ }
@@ -46,14 +30,14 @@ fn finish(
         gate::clear(tuples);
         gate::clear(nexts);
         gate::clear_bytes(out);
-        return Listed::Refused(Refusal {
+        return Written::Refused(Refusal {
             number: 1,
             line: 0,
             length: 0,
         });
     }
     writing::write(out, n, k, count, tuples, nexts);
-    Listed::Bytes(bytes)
+    Written::Bytes(bytes)
 }
 
 // The listing of the tracker of a sheet as numbers.
@@ -67,13 +51,13 @@ pub fn list_numbers(
     one: &mut [u16],
     other: &mut [u16],
     out: &mut [u8],
-) -> Listed
+) -> Written
     ensures { λ r. ⌜ ListsNumbers (automaton a (now (table .entry))) room
         (tables (now (word .entry)) (now (one .entry)) (now (other .entry))) (tables (now (word .exit)) (now (one .exit)) (now (other .exit)))
         (store (now (tuples .entry)) (now (nexts .entry))) (store (now (tuples .exit)) (now (nexts .exit))) (now (out .entry)) (now (out .exit)) r ⌝ }
 {
     match tracker::build_numbers(a, table, room, tuples, nexts, word, one, other) {
-        Built::Refused(r) => refuse(r, out),
+        Built::Refused(r) => gate::refuse(r, out),
         Built::Is(x) => finish(x.numbers.n, x.numbers.k, x.tuples, tuples, nexts, out),
     }
 }
@@ -89,16 +73,16 @@ pub fn list(
     one: &mut [u16],
     other: &mut [u16],
     out: &mut [u8],
-) -> Listed
+) -> Written
     ensures { λ r. ⌜ Lists (now (sheet .entry)) room (now (table .entry)) (now (table .exit))
         (tables (now (word .entry)) (now (one .entry)) (now (other .entry))) (tables (now (word .exit)) (now (one .exit)) (now (other .exit)))
         (store (now (tuples .entry)) (now (nexts .entry))) (store (now (tuples .exit)) (now (nexts .exit))) (now (out .entry)) (now (out .exit)) r ⌝ }
 {
     match tracker::build(sheet, room, table, tuples, nexts, word, one, other) {
-        Built::Refused(r) => refuse(r, out),
+        Built::Refused(r) => gate::refuse(r, out),
         Built::Is(x) => {
             let listed = finish(x.numbers.n, x.numbers.k, x.tuples, tuples, nexts, out);
-            if let Listed::Refused(_) = listed {
+            if let Written::Refused(_) = listed {
                 gate::clear(table);
             }
             listed

@@ -1,7 +1,7 @@
 // Writes the sheet on standard input out again, with composed letters; or prints its refusal, with the two walks of a 10.
+use gate::Written;
 use libc::STDIN_FILENO;
 use libc::STDOUT_FILENO;
-use writer::Written;
 
 fn wide(x: u16) -> u64 {
     x as u64

@@ -15,5 +15,6 @@ pub mod TransitionLaws
 pub mod ParseLaws
 pub mod CompleteLaws
 pub mod UniqueLaws
+pub mod ReadLaws
 pub mod RowsLaws
 pub mod SpellingLaws

@@ -1,6 +1,6 @@
 // Lists the tracker of the sheet on standard input (room 1,024), or prints its refusal.
+use gate::Written;
 use libc::STDIN_FILENO;
-use listing::Listed;
 
 fn main() {
     // One byte more than a sheet may have decides question 2, whatever follows.
@@ -25,8 +25,8 @@ fn main() {
         &mut other,
         &mut out,
     ) {
-        Listed::Bytes(m) => console::show(&out, m),
-        Listed::Refused(r) => {
+        Written::Bytes(m) => console::show(&out, m),
+        Written::Refused(r) => {
             let line = report::refusal_line(r);
             console::say(&line);
         }

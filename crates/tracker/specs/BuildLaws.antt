@@ -12,7 +12,7 @@ use Rattle.gate.specs.declared.Refusal.{Refusal}
 use Rattle.sets.specs.Sets.{unionOf}
 use Rattle.automaton.specs.Automaton.{Automaton, automaton, Fits}
 use Rattle.automaton.specs.Lent.{Tables, clearedTables}
-use Rattle.automaton.specs.Questions.{Decides}
+use Rattle.gate.specs.Gate.{Decides}
 use Rattle.walks.specs.Check.{Checks}
 use Rattle.walks.specs.declared.Checked.the-variants.{Refused as CheckRefused}
 use Rattle.format.specs.Format.{Sheet, Transition, tableOf, numbers, entered as cellEntered}

@@ -4,16 +4,15 @@ use mathlib.Core.Path.{_≡_}
 use mathlib.Core.List.{List, _++_}
 use mathlib.Core.Logic.{_⊎_}
 use lib.ListN.{length}
-use Rattle.gate.specs.Gate.{refusal, cleared}
-use Rattle.gate.specs.declared.Refusal.{Refusal}
+use Rattle.gate.specs.Gate.{refusal}
 use Rattle.automaton.specs.Automaton.{Automaton}
 use Rattle.automaton.specs.Lent.{Tables, clearedTables}
 use Rattle.walks.specs.declared.Checked.{Checked}
 use Rattle.walks.specs.declared.Checked.the-variants as K
 use Rattle.walks.specs.Check.{Lengths}
 use Rattle.format.specs.Format.{Sheet, FileIs, written, headLine, nameLines, stateLines, transitionLines, endLine, statesOf, transitionsOf}
-use Rattle.writer.specs.declared.Written.{Written}
-use Rattle.writer.specs.declared.Written.the-variants.{Refused}
+use Rattle.gate.specs.declared.Written.{Written}
+use Rattle.gate.specs.declared.Written.the-variants.{Refused}
 use Rattle.writer.specs.RowNames.{rowNames}
 use Rattle.writer.specs.Write.{Put, NamedRefuse, NamedAccepted}
 
@@ -35,12 +34,6 @@ pub record Writable (A : Automaton) : Type 0 where
 -- the last question, for the text with the names of the sheet file s
 abbrev pub PutNamed : Automaton → List ℕ → List ℕ → List ℕ → Written → Type 0
 PutNamed A s b c r = (σ : Sheet) → FileIs s σ → σ .k ≡ A .k → Put (written A (σ .names)) b c r
-
--- a refusal before the text: "Refusal 1 asked first touches nothing", every other leaves the buffer all zero
-pub record RefusedWith (x : Refusal) (b c : List ℕ) (r : Written) : Type 0 where
-  pub is : r ≡ Refused x
-  pub untouched : x .number ≡ 1 → c ≡ b
-  pub zero : (x .number ≡ 1 → ⊥) → c ≡ cleared b
 
 -- the questions before the last, on numbers with the names' file s
 abbrev pub Asks : Automaton → List ℕ → Tables → Tables → Checked → Type 0

@@ -11,8 +11,8 @@ use Rattle.automaton.specs.Lent.{Tables, Long, clearedTables, NumbersRefuse}
 use Rattle.walks.specs.Check.{Lengths}
 use Rattle.format.specs.Format.{Sheet, written}
 use Rattle.sheet.specs.Read.{Accepted, Refuses}
-use Rattle.writer.specs.declared.Written.{Written}
-use Rattle.writer.specs.declared.Written.the-variants.{Refused, Bytes}
+use Rattle.gate.specs.declared.Written.{Written}
+use Rattle.gate.specs.declared.Written.the-variants.{Refused, Bytes}
 use Rattle.writer.specs.Same.{writing}
 
 -- THE LAST QUESTION: is the buffer long enough for the text? "Lengths for writing and listing are known late, so that part is asked last of all"

@@ -1,34 +1,35 @@
 -- The ends of the two calls: refused before the last question, or asked it with the names that the rows hold. Assumes nothing.
-use Prim.Native.Nat.{ℕ, _+_, _-_, _≤_}
+use Prim.Native.Nat.{ℕ, _-_, _≤_}
 use mathlib.Core.Path.{_≡_, refl, sym, ap, _∙_, subst}
-use mathlib.Core.List.{List, _++_, map, append-nil}
+use mathlib.Core.List.{List, map, append-nil}
 use mathlib.Core.Logic.{inl, inr}
 use native.Mathlib.Omega.{arith}
-use native.Mathlib.Nat.{zero-add}
-use lib.ListN.{length, take, drop, length-map, length-replicate, length-drop, drop-of-length-le}
-use lib.Seq.{sets, sets-eq, take-all, take-at, drop-at}
-use Rattle.gate.specs.Gate.{refusal, cleared, lentText}
+use lib.ListN.{length, length-map, length-replicate}
+use lib.Seq.{sets}
+use Rattle.gate.specs.Gate.{refusal, cleared, RefusedWith}
 use Rattle.gate.specs.declared.Refusal.{Refusal}
 use Rattle.names.specs.Name.{compose}
 use Rattle.automaton.specs.declared.Numbers.{Numbers}
-use Rattle.automaton.specs.Automaton.{Automaton, Fits, FirstNo, automaton}
+use Rattle.automaton.specs.Automaton.{Automaton, Fits, automaton}
 use Rattle.automaton.specs.Lent.{Tables, Long, SameLengths, clearedTables, NumbersRefuse}
-use Rattle.format.specs.Format.{Sheet, FileIs, Faulty, numbers}
+use Rattle.format.specs.Format.{Sheet, FileIs, numbers}
+use Rattle.automaton.specs.QuestionLaws.{numbers-number}
+use Rattle.sheet.specs.ReadLaws.{refuses-number}
 use Rattle.format.specs.NumbersLaws.{sheet-fits}
 use Rattle.walks.specs.declared.Checked.{Checked}
 use Rattle.walks.specs.declared.Checked.the-variants as K
 use Rattle.walks.specs.Check.{Checks}
 use Rattle.sheet.specs.declared.Read.the-variants as R
-use Rattle.sheet.specs.Read.{Refuses, Reads}
+use Rattle.sheet.specs.Read.{Reads}
 use Rattle.sheet.specs.Rows.{Holds}
 use Rattle.sheet.specs.declared.File.{File}
 use Rattle.sheet.specs.declared.File.the-variants as F
 use Rattle.sheet.specs.Answers.{LettersRead}
 use Rattle.sheet.specs.UniqueLaws.{file-unique, file-or-fault}
-use Rattle.writer.specs.declared.Written.{Written}
-use Rattle.writer.specs.declared.Written.the-variants.{Refused}
+use Rattle.gate.specs.declared.Written.{Written}
+use Rattle.gate.specs.declared.Written.the-variants.{Refused}
 use Rattle.writer.specs.Write.{Put, Writes, NamedRefuse, WritesNumbers}
-use Rattle.writer.specs.Text.{textOf, rowsText, Writable, PutNamed, RefusedWith, Asks}
+use Rattle.writer.specs.Text.{textOf, rowsText, Writable, PutNamed, Asks}
 use Rattle.writer.specs.TextLaws.{text-written}
 use Rattle.writer.specs.RowNames.{rowNames}
 use Rattle.writer.specs.RowNamesLaws.{rows-hold}
@@ -36,47 +37,12 @@ use Rattle.writer.specs.TrimmedLaws.{table-whole}
 
 -- No question but the first has number 1
 
-faulty-number : (s : List ℕ) (number line : ℕ) → Faulty s number line → 2 ≤ number
-faulty-number s number line (Faulty.size a) = omega arith
-faulty-number s number line (Faulty.head a b) = omega arith
-faulty-number s number line (Faulty.range a n k rest b c d e) = omega arith
-faulty-number s number line (Faulty.name σ rest a b c) = omega arith
-faulty-number s number line (Faulty.twice σ rest a b x after c d e) = omega arith
-faulty-number s number line (Faulty.state σ rest a b c) = omega arith
-faulty-number s number line (Faulty.transition σ rest a b c d) = omega arith
-faulty-number s number line (Faulty.end σ rest a b c d) = omega arith
-faulty-number s number line (Faulty.behind σ after a b c) = omega arith
-
-first-number : (A : Automaton) (number : ℕ) → FirstNo A number → 2 ≤ number
-first-number A number (FirstNo.range a) = omega arith
-first-number A number (FirstNo.states a b) = omega arith
-first-number A number (FirstNo.cells a b c) = omega arith
-
-refuses-number : {s : List ℕ} {v w : Tables} {x : Refusal} → Refuses s v w x → x .number ≡ 1 → ⊥
-refuses-number {s} (Refuses.faulty number line f e z) h = omega (arith, faulty-number s number line f, ap (λ (x : Refusal). x .number) e)
-refuses-number (Refuses.meeting σ f m) h = omega (arith, m .number)
-
-numbers-number : {A : Automaton} {v w : Tables} {x : Refusal} → NumbersRefuse A v w x → x .number ≡ 1 → ⊥
-numbers-number {A} (NumbersRefuse.unfit number f e z) h = omega (arith, first-number A number f, ap (λ (x : Refusal). x .number) e)
-numbers-number (NumbersRefuse.meeting f m) h = omega (arith, m .number)
-
 named-number : {A : Automaton} {s : List ℕ} {v w : Tables} {x : Refusal} → NamedRefuse A s v w x → x .number ≡ 1 → ⊥
 named-number (NamedRefuse.by-names f) h = refuses-number f h
 named-number (NamedRefuse.by-letters σ a d e z) h = omega (arith, ap (λ (x : Refusal). x .number) e)
 named-number (NamedRefuse.by-numbers σ a e f) h = numbers-number f h
 
 -- THE LAST QUESTION
-
--- a text of n bytes stored in the buffer, and all that lies behind it cleared
-pub text-lent : (text b : List ℕ) {n : ℕ} {l m : List ℕ} → l ≡ sets b 0 text → n ≡ length text → n ≤ length b → m ≡ cleared (take (length l - n) (drop n l))
-    → take n l ++ (m ++ drop (length l - n) (drop n l)) ≡ lentText text b
-text-lent text b {n} {l} {m} put e h clear =
-    let rest = drop n b in
-    let is : l ≡ text ++ rest = put ∙ sets-eq text b 0 (rw zero-add (omega arith)) ∙ rw (zero-add, e) in
-    let front : take n l ≡ text = rw is (take-at text rest n (sym e)) in
-    let back : drop n l ≡ rest = rw is (drop-at text rest n (sym e)) in
-    let size : length l - n ≡ length rest = rw (← back) (sym (length-drop n l)) in
-    rw (clear, front, back, size, take-all (length rest) rest (omega arith), drop-of-length-le rest {i = length rest} (omega arith), append-nil, length-drop n b, e)
 
 -- the rows hold the names of the sheet, whichever way it is known
 letters-hold : (s rows : List ℕ) (letters : File) → LettersRead s rows letters → (σ : Sheet) → FileIs s σ → Holds (map compose (σ .names)) rows

@@ -6,7 +6,7 @@ ghost use lib.Seq.{sets};
 ghost use Rattle.automaton.specs.Automaton.{automaton};
 ghost use Rattle.automaton.specs.Lent.{tables};
 ghost use Rattle.writer.specs.Write.{Writes, WritesNumbers};
-ghost use Rattle.writer.specs.Text.{rowsText, Writable, PutNamed, RefusedWith, Asks};
+ghost use Rattle.writer.specs.Text.{rowsText, Writable, PutNamed, Asks};
 
 pub mod lines;
 pub mod name_lines;
@@ -15,14 +15,9 @@ pub mod transition_lines;
 
 use automaton::Numbers;
 use gate::Refusal;
+use gate::Written;
 use sheet::Read;
 use walks::Checked;
-
-// The answer of writing: a refusal, or the count of bytes written.
-pub enum Written {
-    Refused(Refusal),
-    Bytes(usize),
-}
 
 // How many bytes the text of a sheet has.
 fn text_length(a: Numbers, table: &[u16], rows: &[u8]) -> usize
@@ -68,17 +63,6 @@ fn finish(a: Numbers, table: &[u16], names: &[u8], out: &mut [u8]) -> Written
     Written::Bytes(count)
 }
 
-// A refusal before the text: with 1, which is asked first, the output is not touched, and with every other number it is cleared.
-fn refuse(r: Refusal, out: &mut [u8]) -> Written
-    ensures { λ q. ⌜ RefusedWith r (now (out .entry)) (now (out .exit)) q ⌝ }
-{
-    if r.number == 1 {
-        return Written::Refused(r);
-    }
-    gate::clear_bytes(out);
-    Written::Refused(r)
-}
-
 // A sheet file written anew, with composed letters: questions 1 to 10, and last of all whether the output is long enough.
 pub fn write(
     sheet: &[u8],
@@ -92,7 +76,7 @@ pub fn write(
 {
     let mut table = [0u16; 128];
     match sheet::read_sheet(sheet, &mut table, word, one, other) {
-        Read::Refused(r) => refuse(r, out),
+        Read::Refused(r) => gate::refuse(r, out),
         Read::Is(a) => finish(a, &table, sheet, out),
     }
 }
@@ -148,7 +132,7 @@ pub fn write_numbers(
         (tables (now (word .exit)) (now (one .exit)) (now (other .exit))) (now (out .entry)) (now (out .exit)) r ⌝ }
 {
     match ask(a, table, names, word, one, other) {
-        Checked::Refused(r) => refuse(r, out),
+        Checked::Refused(r) => gate::refuse(r, out),
         Checked::Free => finish(a, table, names, out),
     }
 }

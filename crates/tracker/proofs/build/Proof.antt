@@ -5,7 +5,7 @@ use native.Mathlib.Omega.{arith}
 use lib.ListN.{replicate}
 use lib.Seq.{length-take-le}
 use Rattle.automaton.specs.Lent.{Tables, tables}
-use Rattle.automaton.specs.Questions.{Decides}
+use Rattle.gate.specs.Gate.{Decides}
 use Rattle.sheet.specs.Read.{Reads}
 use Rattle.sheet.specs.declared.Read.{Read}
 use Rattle.sheet.specs.declared.Read.the-variants.{Is}

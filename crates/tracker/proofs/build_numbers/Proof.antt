@@ -2,7 +2,7 @@
 use mathlib.Core.Path.{refl}
 use Rattle.automaton.specs.Automaton.{Automaton, automaton}
 use Rattle.automaton.specs.Lent.{Tables, tables}
-use Rattle.automaton.specs.Questions.{Decides}
+use Rattle.gate.specs.Gate.{Decides}
 use Rattle.walks.specs.Check.{Checks}
 use Rattle.walks.specs.declared.Checked.{Checked}
 use Rattle.walks.specs.declared.Checked.the-variants.{Free}

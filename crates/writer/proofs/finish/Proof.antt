@@ -3,10 +3,11 @@ use mathlib.Core.Path.{refl}
 use native.Mathlib.Omega.{arith}
 use denote.Ref.{now}
 use Rattle.gate.specs.Gate.{refusal}
+use Rattle.gate.specs.GateLaws.{text-lent}
 use Rattle.automaton.specs.Automaton.{automaton}
-use Rattle.writer.specs.declared.Written.the-variants.{Refused, Bytes}
+use Rattle.gate.specs.declared.Written.the-variants.{Refused, Bytes}
 use Rattle.writer.specs.Text.{rowsText}
-use Rattle.writer.specs.WriteLaws.{text-lent, put-named}
+use Rattle.writer.specs.WriteLaws.{put-named}
 use borrow.Author.Needs.{needs}
 use Rattle.writer.proofs.finish.Statement.{statement}
 use Rattle.writer.proofs.finish.Tie as tie

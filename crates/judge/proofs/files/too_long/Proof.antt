@@ -2,7 +2,7 @@
 use mathlib.Core.Path.{refl}
 use mathlib.Core.Logic.{inl, inr}
 use Rattle.automaton.specs.Lent.{tables}
-use Rattle.automaton.specs.Questions.{Decides}
+use Rattle.gate.specs.Gate.{Decides}
 use Rattle.tracker.specs.Build.{store, Lent}
 use Rattle.tracker.specs.BuildLaws.{lent-decided}
 use Rattle.judge.specs.VerdictLaws.{tables-cleared, store-cleared}

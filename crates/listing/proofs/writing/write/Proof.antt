@@ -1,8 +1,9 @@
 -- The listing is written at the start, and what lies behind it cleared. Assumes nothing.
 use mathlib.Core.Path.{sym, _∙_}
 use native.Mathlib.Omega.{arith}
+use Rattle.gate.specs.GateLaws.{text-lent}
 use Rattle.listing.specs.Listing.{listing}
-use Rattle.listing.specs.PutLaws.{listing-length, zeros-behind}
+use Rattle.listing.specs.PutLaws.{listing-length}
 use borrow.Author.Needs.{needs}
 use Rattle.listing.proofs.writing.write.Statement.{statement}
 use Rattle.listing.proofs.writing.write.Tie as tie
@@ -37,9 +38,8 @@ returns c =
     let a = start .args in
     let e = measured .listing-length .ensures in
     let h = start .pre .1 in
-    zeros-behind (listing (a .n) (a .k) (a .count) (a .tuples .now) (a .nexts .now)) (a .out .now) (put .put-listing .last .0) (emptied .clear-bytes .last .0)
-    (measured .listing-length .result) (listing-length (a .n) (a .k) (a .count) (a .tuples .now) (a .nexts .now) ∙ sym e) (omega arith) (put .put-listing .ensures)
-    (emptied .clear-bytes .ensures)
+    text-lent (listing (a .n) (a .k) (a .count) (a .tuples .now) (a .nexts .now)) (a .out .now) (put .put-listing .ensures)
+    (e ∙ sym (listing-length (a .n) (a .k) (a .count) (a .tuples .now) (a .nexts .now))) (omega arith) (emptied .clear-bytes .ensures)
 
 pub write-spec : {M : Type 1} → statement M
 write-spec =
