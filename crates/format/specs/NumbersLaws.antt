@@ -4,10 +4,11 @@ use Prim.Native.Nat.{ℕ, zero, suc, _+_, _*_, _/_, _%_, _^_, _≤_, _<_}
 use mathlib.Core.Path.{_≡_, refl, sym, subst, _∙_}
 use mathlib.Core.List.{List, [], _∷_}
 use mathlib.Core.Logic.{_⊎_, inl, inr, _↔_}
-use lib.ListN.{length, getD, set, replicate, length-set, getD-replicate, List·getD-eq-default}
+use Rattle.gate.specs.GateLaws.{zeros}
+use lib.ListN.{length, getD, set, replicate, length-set}
 use lib.Seq.{getD-set-same, getD-set-other}
 use native.Mathlib.Omega.{arith}
-use native.Mathlib.Decide.{decLt, ℕ-discrete}
+use native.Mathlib.Decide.{ℕ-discrete}
 use native.Mathlib.Nat.{add-zero, pow-suc, one-mul, mul-le-mul-right}
 use Rattle.sets.specs.Sets.{Member, unionOf}
 use Rattle.sets.specs.SetLaws.{no-member, some-member, member-lt, union-in, union-left, union-right, bit-single, single-in}
@@ -138,11 +139,7 @@ module _ (n k : ℕ) (range : InRange n k) where
 
 -- no cell of the empty table has a member
 none-yet : (c r : ℕ) → Member (getD (replicate {A = ℕ} 128 0) c 0) r → ⊥
-none-yet c r m = no-member r (subst (λ (x : ℕ). Member x r) (by (decLt c 128)) m)
-  where
-    by : Dec (c < 128) → getD (replicate {A = ℕ} 128 0) c 0 ≡ 0
-    by (yes l) = getD-replicate 128 c 0 0 l
-    by (no l) = List·getD-eq-default (replicate {A = ℕ} 128 0) 0 {n = c} (omega arith)
+none-yet c r m = no-member r (subst (λ (x : ℕ). Member x r) (zeros 128 c) m)
 
 module _ (σ : Sheet) (right : Right σ) where
   -- the members of the successor sets are the transitions

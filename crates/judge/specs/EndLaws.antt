@@ -5,7 +5,8 @@ use mathlib.Core.List.{List}
 use mathlib.Core.Logic.{_⊎_, inl, inr}
 use native.Mathlib.Omega.{arith}
 use native.Mathlib.Decide.{ℕ-discrete, decLt}
-use lib.ListN.{length, getD, set, replicate, getD-replicate, length-replicate, List·getD-eq-default}
+use Rattle.gate.specs.GateLaws.{zeros}
+use lib.ListN.{length, getD, set, replicate}
 use lib.Seq.{getD-set-same, getD-set-other}
 use Rattle.finite.specs.Finite.{FirstRepeat, pigeon}
 use Rattle.judge.specs.TableRun.{Least}
@@ -16,11 +17,7 @@ pub record Seen (end : ℕ → ℕ) (passes : ℕ) (seen : List ℕ) : Type 0 wh
   pub only : (x : ℕ) → (getD seen x 0 ≡ 0) ⊎ ((j : ℕ) × (j < passes) × (end j ≡ x))
 
 pub seen-none : (end : ℕ → ℕ) (n : ℕ) → Seen end 0 (replicate {A = ℕ} n 0)
-seen-none end n = record { told = λ j l. absurd (omega arith); only = λ x. inl (by x (decLt x n)) }
-  where
-    by : (x : ℕ) → Dec (x < n) → getD (replicate {A = ℕ} n 0) x 0 ≡ 0
-    by x (yes l) = getD-replicate n x 0 0 l
-    by x (no l) = List·getD-eq-default (replicate {A = ℕ} n 0) 0 (let e = length-replicate {A = ℕ} n 0 in omega arith)
+seen-none end n = record { told = λ j l. absurd (omega arith); only = λ x. inl (zeros n x) }
 
 module _ (end : ℕ → ℕ) (passes : ℕ) (seen : List ℕ) (h : Seen end passes seen) where
   -- no number stands at two of these ends

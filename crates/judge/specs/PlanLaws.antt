@@ -2,7 +2,8 @@
 use Prim.Native.Nat.{ℕ, _+_, _-_, _≤_, _<_}
 use mathlib.Core.Path.{_≡_, sym, ap, _∙_}
 use mathlib.Core.List.{List, _++_, append-assoc}
-use lib.ListN.{length, getD, take, drop, replicate, length-append, length-replicate, length-map, getD-replicate, List·getD-append, List·getD-eq-default}
+use Rattle.gate.specs.GateLaws.{zeros}
+use lib.ListN.{length, getD, take, drop, replicate, length-append, length-map, List·getD-append}
 use lib.Seq.{take-at, drop-at, getD-append-add, getD-drop}
 use native.Mathlib.Omega.{arith}
 use native.Mathlib.Decide.{decLt}
@@ -33,13 +34,6 @@ few-letters s rows a z = omega (arith, z .range .3, names-in s rows a z .letters
 -- a buffer that was all zero, with the letters of a plan in front
 module _ (σ : Sheet) (k : σ .k ≤ 8) (p lead cycle : List ℕ) (plan : PlanIs σ p lead cycle) (n m c : ℕ) (u : List ℕ)
     (lead-is : m ≡ length lead) (cycle-is : c ≡ length cycle) (is : u ≡ lead ++ (cycle ++ drop (m + c) (replicate n 0))) where
-  zero-cell : (i : ℕ) → getD (replicate {A = ℕ} n 0) i 0 ≡ 0
-  zero-cell i = by (decLt i n)
-    where
-      by : Dec (i < n) → getD (replicate {A = ℕ} n 0) i 0 ≡ 0
-      by (yes l) = getD-replicate n i 0 0 l
-      by (no l) = List·getD-eq-default (replicate {A = ℕ} n 0) 0 (let e = length-replicate {A = ℕ} n 0 in omega arith)
-
   abbrev behind : List ℕ
   behind = drop (m + c) (replicate n 0)
 
@@ -60,7 +54,7 @@ module _ (σ : Sheet) (k : σ .k ≤ 8) (p lead cycle : List ℕ) (plan : PlanIs
           ap (λ (y : List ℕ). getD y i 0) in-front
           ∙ (ap (λ (y : ℕ). getD ((lead ++ cycle) ++ behind) y 0) e
           ∙ (getD-append-add (lead ++ cycle) (behind) j 0
-          ∙ (getD-drop (m + c) (replicate n 0) j 0 ∙ zero-cell (m + c + j)))) in
+          ∙ (getD-drop (m + c) (replicate n 0) j 0 ∙ zeros n (m + c + j)))) in
           omega arith
 
   pub letters-fit : LettersFit u m c

@@ -65,7 +65,7 @@ unfolding rightColours
 no-witness ts word one other c = true-is-not-false (sym c)
 
 -- THE PLAN, on a sheet file read as x
-module _ (s p : List ℕ) (f g : Store) (σ : Sheet) (file : FileIs s σ) (x : Contents) (are : AreContents s σ x) (ts : List Tuple) where
+module _ (s p : List ℕ) (f g : Store) (σ : Sheet) (file : FileIs s σ) (x : Contents) (are : AreContents σ x) (ts : List Tuple) where
   abbrev A : Automaton
   A = automatonOf x
 

@@ -44,7 +44,7 @@ no-longer {m = m} {n = n} h k = by (decLt n m)
     by (no l) = omega arith
 
 -- the numbers of a sheet file are those that are read
-pub numbers-are : (s : List ℕ) (σ : Sheet) (x : Contents) → AreContents s σ x → numbers σ ≡ automatonOf x
+pub numbers-are : (s : List ℕ) (σ : Sheet) (x : Contents) → AreContents σ x → numbers σ ≡ automatonOf x
 numbers-are s σ x h =
     λ i. record { n = sym (h .n) i; k = sym (h .k) i; initial = sym (h .initial) i; recurring = sym (h .recurring) i; table = sym (h .table) i }
 
@@ -53,7 +53,7 @@ module _ (s p : List ℕ) (room : ℕ) (Outcomes : Type 0) (refuse : Refusal →
     (Says : Expected → Type 0)
     (says-refused : (number line : ℕ) (e : Expected) → isRefused number line e ≡ true → o ≡ refuse (refusal number line) → Says e)
     (says-meeting : (word one other : List ℕ) → o ≡ refuse (met (length word)) → Shortest s word one other → Says (meeting word one other))
-    (says-numbered : (σ : Sheet) → FileIs s σ → (x : Contents) → AreContents s σ x → (ts : List Tuple) → Then σ ts
+    (says-numbered : (σ : Sheet) → FileIs s σ → (x : Contents) → AreContents σ x → (ts : List Tuple) → Then σ ts
     → (e : Expected) → rightColours ts e ≡ true → rightPlan (automatonOf x) (planOf (x .names) p) e ≡ true → Says e) where
   abbrev Causes : Type 0
   Causes = Cause s room Outcomes refuse Then o
@@ -81,12 +81,12 @@ module _ (s p : List ℕ) (room : ℕ) (Outcomes : Type 0) (refuse : Refusal →
     no-fault : (number line : ℕ) → Faulty s number line → ⊥
     no-fault number line h = refused-not-passed (parse s) number line x (faulty-parse s number line h) read
 
-    read-as : (σ : Sheet) → FileIs s σ → AreContents s σ x
+    read-as : (σ : Sheet) → FileIs s σ → AreContents σ x
     read-as σ file =
         let (c, e, h) = accepts-parse s σ file in
         let r : passed c ≡ passed x = sym e ∙ read in
         let q : c ≡ x = cc in
-        subst (AreContents s σ) q h
+        subst (AreContents σ) q h
 
     same-numbers : (σ : Sheet) → FileIs s σ → numbers σ ≡ A
     same-numbers σ file = numbers-are s σ x (read-as σ file)

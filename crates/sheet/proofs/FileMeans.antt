@@ -31,7 +31,7 @@ pub record FileAccepted (s t u rows : List ℕ) (a : Numbers) : Type 0 where
   pub sheet : Sheet
   pub file : FileIs s sheet
   pub contents : Contents
-  pub are : AreContents s sheet contents
+  pub are : AreContents sheet contents
   pub is : a ≡ numbersOf contents
   pub table : u ≡ lentTable (contents .table) t
   pub range : InRange (a .n) (a .k)

@@ -7,7 +7,7 @@ use native.Mathlib.Omega.{arith}
 use lib.ListN.{length, take, replicate, length-set, length-replicate}
 use lib.Seq.{take-at}
 use Rattle.gate.specs.Gate.{Zero, cleared}
-use Rattle.gate.specs.GateLaws.{zero-cleared}
+use Rattle.gate.specs.GateLaws.{zero-cleared, length-cleared}
 use Rattle.gate.specs.declared.Refusal.{Refusal}
 use Rattle.automaton.specs.Automaton.{Automaton, automaton, Fits}
 use Rattle.automaton.specs.declared.Numbers.{Numbers}
@@ -91,9 +91,6 @@ fault-refuses s t u rows r v e zeros =
     (read.Refuses.faulty (h .number) (h .line) (h .faulty) (h .is) zeros, h .clear)
 
 -- TABLES THAT ARE CLEARED FIRST
-length-cleared : (t : List ℕ) → length (cleared t) ≡ length t
-length-cleared t = length-replicate {A = ℕ} (length t) 0
-
 pub cleared-twice : (t : List ℕ) → cleared (cleared t) ≡ cleared t
 cleared-twice t = ap (λ (n : ℕ). replicate {A = ℕ} n 0) (length-cleared t)
 

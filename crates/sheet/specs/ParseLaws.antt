@@ -33,7 +33,7 @@ unfolding lines
 upper-text s r1 r2 r3 rest n k names states transitions e1 e2 e3 e4 = e1 ∙ rw (e2, e3, e4) (simp append-assoc)
 
 -- what is read of a sheet file
-pub record AreContents (s : List ℕ) (σ : Sheet) (c : Contents) : Type 0 where
+pub record AreContents (σ : Sheet) (c : Contents) : Type 0 where
   pub n : c .n ≡ numbers σ .n
   pub k : c .k ≡ numbers σ .k
   pub initial : c .initial ≡ numbers σ .initial
@@ -44,7 +44,7 @@ pub record AreContents (s : List ℕ) (σ : Sheet) (c : Contents) : Type 0 where
 -- WHAT READING GIVES
 abbrev pub Means : List ℕ → Phase Contents → Type 0
 Means s (refused number line) = Faulty s number line
-Means s (passed c) = (σ : Sheet) × FileIs s σ × AreContents s σ c
+Means s (passed c) = (σ : Sheet) × FileIs s σ × AreContents σ c
 
 module _ (s : List ℕ) (size : length s ≤ most) (z : Sizes) (range : InRange (z .n) (z .k)) (head : s ≡ headLine (z .n) (z .k) ++ drop 12 s) where
   names-refuse : (number line : ℕ) → NamesRefused s 2 12 [] (z .k) number line → Faulty s number line
@@ -137,7 +137,7 @@ module _ (s : List ℕ) (size : length s ≤ most) (z : Sizes) (range : InRange 
             text = upper-text s (drop 12 s) (drop (y .at) s) (drop (q .at) s) endLine (z .n) (z .k) (g .names) (h .states) (t .transitions) head (g .text) (h .text) (t .text);
           }
 
-          holds : AreContents s σ (contents z y q table)
+          holds : AreContents σ (contents z y q table)
           holds = record {
             n = refl;
             k = refl;
@@ -174,7 +174,7 @@ parse-means s = by (ltb most (length s)) refl
     by true e = Faulty.size (ltb-true most (length s) e)
     by false e = head-means s (ltb-false most (length s) e) (headOf s) (head-outcome s (ltb-false most (length s) e))
 
-pub parse-accepts : (s : List ℕ) (c : Contents) → parse s ≡ passed c → (σ : Sheet) × FileIs s σ × AreContents s σ c
+pub parse-accepts : (s : List ℕ) (c : Contents) → parse s ≡ passed c → (σ : Sheet) × FileIs s σ × AreContents σ c
 parse-accepts s c e = subst (Means s) e (parse-means s)
 
 pub parse-refuses : (s : List ℕ) (number line : ℕ) → parse s ≡ refused number line → Faulty s number line

@@ -156,8 +156,8 @@ every-file s = by (parse s) (parse-means s)
     by (passed c) h = inl (h .0, h .1)
 
 -- EVERY SHEET FILE is read as what it holds
-pub accepts-parse : (s : List ℕ) (σ : Sheet) → FileIs s σ → (c : Contents) × (parse s ≡ passed c) × AreContents s σ c
+pub accepts-parse : (s : List ℕ) (σ : Sheet) → FileIs s σ → (c : Contents) × (parse s ≡ passed c) × AreContents σ c
 accepts-parse s σ h =
     let (c, e) = file-read s σ h in
     let (τ, g, holds) = parse-accepts s c e in
-    (c, e, subst (λ (υ : Sheet). AreContents s υ c) (file-unique s τ σ g h) holds)
+    (c, e, subst (λ (υ : Sheet). AreContents υ c) (file-unique s τ σ g h) holds)

@@ -8,7 +8,7 @@ use native.Mathlib.Omega.{arith}
 use borrow.Author.Tests.{eq-eqb, ne-eqb}
 use lib.ListN.{length, getD, set, replicate, length-append, length-set, length-replicate}
 use lib.Seq.{take-at, drop-at, drop-drop, sets, sets-eq, length-sets, getD-set-same, getD-set-other}
-use Rattle.gate.specs.GateLaws.{drop-zeros}
+use Rattle.gate.specs.GateLaws.{zeros, drop-zeros, length-cleared}
 use Rattle.rows.specs.Rows.{rowAt, Found, Added}
 use Rattle.automaton.specs.Automaton.{Automaton, Fits}
 use Rattle.gate.specs.Gate.{cleared}
@@ -26,11 +26,6 @@ use Rattle.tracker.specs.Build.{Store, store, clearedStore, RoomFits, Fi
 use Rattle.tracker.specs.Fill.{NextsBefore, Filled, Taken, Goes, firstCells, Filling, Fills}
 
 -- ROWS
-
-pub getD-zeros : (n i : ℕ) → getD {A = ℕ} (replicate n 0) i 0 ≡ 0
-getD-zeros zero i = refl
-getD-zeros (suc n) zero = refl
-getD-zeros (suc n) (suc i) = getD-zeros n i
 
 -- each row has 17 cells
 abbrev pub Whole : List Tuple → Type 0
@@ -350,7 +345,7 @@ module _ (A : Automaton) (fits : Fits A) (room : ℕ) (v : Store) (r : RoomFits 
         tuples-are = first-tuples;
         nexts-are = record {
           next = λ d h. absurd (omega arith);
-          zero = λ d z. getD-zeros (length (v .nexts)) d;
+          zero = λ d z. zeros (length (v .nexts)) d;
         };
         index = a .indexed;
       }
@@ -376,9 +371,6 @@ fills-all A room c m tuples nexts head link f v p q h =
     record { fitting = λ l. filled-all A room c m tuples nexts head link f v p q h; over = λ l. absurd (omega arith) }
 
 -- IN TABLES WITH ANY CONTENTS
-
-pub length-cleared : (l : List ℕ) → length (cleared l) ≡ length l
-length-cleared l = length-replicate {A = ℕ} (length l) 0
 
 pub cleared-filling : (A : Automaton) (room : ℕ) (v : Store) → Fits A → RoomFits room v → Filling A room (clearedStore v)
 cleared-filling A room v f r = record {

@@ -15,7 +15,8 @@ use Rattle.tuple.specs.RowLaws.{formed-length, row-set, row-colour}
 use Rattle.tracker.specs.Numbering.{tupleAt, rows}
 use Rattle.tracker.specs.NumberingLaws.{reachable-all, numbering-reachable}
 use Rattle.tracker.specs.Build.{Store, Fitted}
-use Rattle.tracker.specs.FillLaws.{Whole, whole, rows-length, row-is, getD-zeros}
+use Rattle.gate.specs.GateLaws.{zeros}
+use Rattle.tracker.specs.FillLaws.{Whole, whole, rows-length, row-is}
 
 module _ (A : Automaton) (fits : Fits A) (room m : ℕ) (v w : Store) (f : Fitted A room v w m) where
   -- tuple t of the tracker
@@ -55,4 +56,4 @@ module _ (A : Automaton) (fits : Fits A) (room m : ℕ) (v w : Store) (f : Fitte
       ap (λ (l : List ℕ). getD l i 0) (f .holds .tuples)
       ∙ ap (λ (i : ℕ). getD (rows (f .list) ++ replicate n 0) i 0) j
       ∙ getD-append-add (rows (f .list)) (replicate n 0) (i - 17 * m) 0
-      ∙ getD-zeros n (i - 17 * m)
+      ∙ zeros n (i - 17 * m)

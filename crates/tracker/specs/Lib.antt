@@ -7,4 +7,3 @@ pub mod Fill
 pub mod FillLaws
 pub mod BuildLaws
 pub mod FittedLaws
-pub mod Example

@@ -6,7 +6,7 @@ use mathlib.Core.List.{List, [], _∷_, _++_}
 use native.Mathlib.Omega.{arith}
 use native.Mathlib.Numerals.{add-one}
 use native.Mathlib.Nat.{add-zero, zero-add}
-use lib.ListN.{length, getD, take, drop, replicate, length-append, length-take}
+use lib.ListN.{length, getD, take, drop, replicate, length-append}
 use lib.Seq.{sets, drop-cons}
 use borrow.Author.Tests.{ne-eqb}
 use Rattle.text.specs.Bytes.{stretch}
@@ -19,15 +19,6 @@ use Rattle.format.specs.FormatLaws.{name-length}
 use Rattle.writer.specs.RowNames.{upToZero, rowName, rowNames}
 
 -- The name in a row
-
-up-to-most : (x : List ℕ) → length (upToZero x) ≤ length x
-unfolding upToZero
-up-to-most [] = omega arith
-up-to-most (zero ∷ x) = omega arith
-up-to-most (suc b ∷ x) = omega (arith, up-to-most x)
-
-pub row-most : (rows : List ℕ) (l : ℕ) → length (rowName rows l) ≤ 24
-row-most rows l = omega (arith, up-to-most (take 24 (drop (24 * l) rows)), length-take 24 (drop (24 * l) rows))
 
 -- a name is the row's first bytes
 take-up-to : (x : List ℕ) (n : ℕ) → take (length (upToZero (take n x))) x ≡ upToZero (take n x)

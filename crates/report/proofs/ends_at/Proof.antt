@@ -16,7 +16,7 @@ shared-slice-read-if2 : tie.Need-shared-slice-read-if2
 shared-slice-read-if2 c = search needs
 
 returns : tie.Need-returns
-returns c = decides-no (λ e. c .if2 .taken (e .start (c .before .before .before .before .args .a - 1) (omega arith)))
+returns c = decides-no (λ e. omega (arith, c .if2 .taken, e .start (c .before .before .before .before .args .a - 1) (omega arith)))
 
 sub-starts-at : tie.Need-sub-starts-at
 sub-starts-at c = search needs

@@ -24,7 +24,10 @@ is-one : (c : tie.Else1) → IsName (now (c .before .before .before .before .bef
 is-one c = c .before .is-name .ensures .0 (not-false _ (c .if1 .left))
 
 -- the rows were searched for it
-first : (c : tie.After-letter-of) → FirstName (map compose (letters (c .before .before .before .before) .sheet .names)) (compose (now (c .before .before .before .before .before .before .before .before .before .before .before .before .args .name))) (c .letter-of .result)
+first :
+    (c : tie.After-letter-of) →
+    FirstName (map compose (letters (c .before .before .before .before) .sheet .names))
+    (compose (now (c .before .before .before .before .before .before .before .before .before .before .before .before .args .name))) (c .letter-of .result)
 first c =
     let h = letters (c .before .before .before .before) in
     let whole = whole-stretch (now (c .before .before .before .before .before .before .before .before .before .before .before .before .args .name)) in
@@ -51,7 +54,8 @@ returns c =
     inr (
       h .sheet,
       h .file,
-      no-name h (now (c .before .before .before .before .before .before .before .before .before .before .args .name)) (λ is. true-is-not-false (sym (c .before .is-name .ensures .1 is) ∙ not-true _ (c .if1 .taken))),
+      no-name h (now (c .before .before .before .before .before .before .before .before .before .before .args .name))
+          (λ is. true-is-not-false (sym (c .before .is-name .ensures .1 is) ∙ not-true _ (c .if1 .taken))),
       refl,
     )
 
@@ -72,15 +76,17 @@ returns-2 c = inl (rw (c .before .r .given .1) at (c .before .before .before .be
 returns-3 : tie.Need-returns-3
 returns-3 c =
     let h = letters (c .before .before .before .before .before .before) in
-    (h .sheet, h .file, letter-found h (now (c .before .before .before .before .before .before .before .before .before .before .before .before .before .before .args .name)) (is-one (c .before .before .before .before)) (c .before .before .letter-of .result) (first (c .before .before)) (c .if2 .taken))
+    let name = now (c .before .before .before .before .before .before .before .before .before .before .before .before .before .before .args .name) in
+    (h .sheet, h .file, letter-found h name (is-one (c .before .before .before .before)) (c .before .before .letter-of .result) (first (c .before .before)) (c .if2 .taken))
 
 returns-4 : tie.Need-returns-4
 returns-4 c =
     let h = letters (c .before .before .before .before .before .before) in
+    let name = now (c .before .before .before .before .before .before .before .before .before .before .before .before .before .before .args .name) in
     inr (
       h .sheet,
       h .file,
-      letter-nowhere h (now (c .before .before .before .before .before .before .before .before .before .before .before .before .before .before .args .name)) (is-one (c .before .before .before .before)) (c .before .before .letter-of .result) (first (c .before .before)) (c .if2 .left),
+      letter-nowhere h name (is-one (c .before .before .before .before)) (c .before .before .letter-of .result) (first (c .before .before)) (c .if2 .left),
       refl,
     )
 

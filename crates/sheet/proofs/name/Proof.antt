@@ -48,7 +48,9 @@ returns-2 c =
     (name-given (letters (c .before .before .before)) (a .letter) (c .before .if1 .taken))
 
 returns-3 : tie.Need-returns-3
-returns-3 c = NameIs.nothing 14 0 (no-letter (letters (c .before .before .before)) (c .before .before .before .before .before .before .before .before .before .before .args .letter) (c .before .if1 .left)) refl
+returns-3 c =
+    NameIs.nothing 14 0
+    (no-letter (letters (c .before .before .before)) (c .before .before .before .before .before .before .before .before .before .before .args .letter) (c .before .if1 .left)) refl
 
 pub name-spec : {M : Type 1} → statement M
 name-spec =

@@ -37,7 +37,9 @@ returns-2 c =
     NumberIs.named (h .sheet) (h .file) (omega arith) refl
 
 returns-3 : tie.Need-returns-3
-returns-3 c = NumberIs.refused 14 0 (no-letter (letters (c .before .before)) (c .before .before .before .before .before .before .before .before .before .args .letter) (c .if1 .left)) refl
+returns-3 c =
+    NumberIs.refused 14 0
+    (no-letter (letters (c .before .before)) (c .before .before .before .before .before .before .before .before .before .args .letter) (c .if1 .left)) refl
 
 pub name-number-spec : {M : Type 1} → statement M
 name-number-spec =

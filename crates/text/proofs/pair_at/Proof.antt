@@ -30,7 +30,13 @@ enum-told-2 : tie.Need-enum-told-2
 enum-told-2 c = search needs
 
 returns-2 : tie.Need-returns-2
-returns-2 c = simp (sym (c .before .before .before .before .before .before .number-at .ensures), c .before .before .before .before .a .given .1, sym (c .before .before .number-at2 .ensures), c .enum-told2 .given .1)
+returns-2 c =
+    simp (
+      sym (c .before .before .before .before .before .before .number-at .ensures),
+      c .before .before .before .before .a .given .1,
+      sym (c .before .before .number-at2 .ensures),
+      c .enum-told2 .given .1,
+    )
 
 add-byte-at : tie.Need-add-byte-at
 add-byte-at c = search needs
@@ -39,10 +45,26 @@ byte-at-requires : tie.Need-byte-at-requires
 byte-at-requires c κs = search needs
 
 returns-3 : tie.Need-returns-3
-returns-3 c = simp (sym (c .before .before .before .before .before .before .before .before .before .number-at .ensures), c .before .before .before .before .before .before .before .a .given .1, sym (c .before .before .before .before .before .number-at2 .ensures), c .before .before .before .b .given .1, sym (c .before .byte-at .ensures), ne-eqb _ _ (c .if1 .taken))
+returns-3 c =
+    simp (
+      sym (c .before .before .before .before .before .before .before .before .before .number-at .ensures),
+      c .before .before .before .before .before .before .before .a .given .1,
+      sym (c .before .before .before .before .before .number-at2 .ensures),
+      c .before .before .before .b .given .1,
+      sym (c .before .byte-at .ensures),
+      ne-eqb _ _ (c .if1 .taken),
+    )
 
 returns-4 : tie.Need-returns-4
-returns-4 c = simp (sym (c .before .before .before .before .before .before .before .before .before .number-at .ensures), c .before .before .before .before .before .before .before .a .given .1, sym (c .before .before .before .before .before .number-at2 .ensures), c .before .before .before .b .given .1, sym (c .before .byte-at .ensures), eq-eqb _ _ (c .if1 .left))
+returns-4 c =
+    simp (
+      sym (c .before .before .before .before .before .before .before .before .before .number-at .ensures),
+      c .before .before .before .before .before .before .before .a .given .1,
+      sym (c .before .before .before .before .before .number-at2 .ensures),
+      c .before .before .before .b .given .1,
+      sym (c .before .byte-at .ensures),
+      eq-eqb _ _ (c .if1 .left),
+    )
 
 pub pair-at-spec : {M : Type 1} → statement M
 pair-at-spec =

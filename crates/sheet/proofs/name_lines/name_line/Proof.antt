@@ -27,11 +27,28 @@ enum-told c = search needs
 
 returns-2 : tie.Need-returns-2
 unfolding nameLineAt
-returns-2 c = (simp (sym (c .before .before .before .before .opening .ensures), eq-eqb _ _ (c .before .before .before .if1 .left), sym (c .before .before .number-at .ensures), c .enum-told .given .1), tt)
+returns-2 c = (
+  simp (
+    sym (c .before .before .before .before .opening .ensures),
+    eq-eqb _ _ (c .before .before .before .if1 .left),
+    sym (c .before .before .number-at .ensures),
+    c .enum-told .given .1,
+  ),
+  tt,
+)
 
 returns-3 : tie.Need-returns-3
 unfolding nameLineAt
-returns-3 c = (simp (sym (c .before .before .before .before .before .before .opening .ensures), eq-eqb _ _ (c .before .before .before .before .before .if1 .left), sym (c .before .before .before .before .number-at .ensures), c .before .before .v .given .1, ne-eqb _ _ (c .if2 .taken)), tt)
+returns-3 c = (
+  simp (
+    sym (c .before .before .before .before .before .before .opening .ensures),
+    eq-eqb _ _ (c .before .before .before .before .before .if1 .left),
+    sym (c .before .before .before .before .number-at .ensures),
+    c .before .before .v .given .1,
+    ne-eqb _ _ (c .if2 .taken),
+  ),
+  tt,
+)
 
 add-byte-at : tie.Need-add-byte-at
 add-byte-at c = search needs
@@ -41,7 +58,18 @@ byte-at-requires c κs = search needs
 
 returns-4 : tie.Need-returns-4
 unfolding nameLineAt
-returns-4 c = (simp (sym (c .before .before .before .before .before .before .before .before .opening .ensures), eq-eqb _ _ (c .before .before .before .before .before .before .before .if1 .left), sym (c .before .before .before .before .before .before .number-at .ensures), c .before .before .before .before .v .given .1, eq-eqb _ _ (c .before .before .if2 .left), sym (c .before .byte-at .ensures), ne-eqb _ _ (c .if3 .taken)), tt)
+returns-4 c = (
+  simp (
+    sym (c .before .before .before .before .before .before .before .before .opening .ensures),
+    eq-eqb _ _ (c .before .before .before .before .before .before .before .if1 .left),
+    sym (c .before .before .before .before .before .before .number-at .ensures),
+    c .before .before .before .before .v .given .1,
+    eq-eqb _ _ (c .before .before .if2 .left),
+    sym (c .before .byte-at .ensures),
+    ne-eqb _ _ (c .if3 .taken),
+  ),
+  tt,
+)
 
 add-name-end : tie.Need-add-name-end
 add-name-end c = search needs
@@ -51,7 +79,19 @@ name-end-requires c κs = search needs
 
 returns-5 : tie.Need-returns-5
 unfolding nameLineAt
-returns-5 c = (simp (sym (c .before .before .before .before .before .before .before .before .before .opening .ensures), eq-eqb _ _ (c .before .before .before .before .before .before .before .before .if1 .left), sym (c .before .before .before .before .before .before .before .number-at .ensures), c .before .before .before .before .before .v .given .1, eq-eqb _ _ (c .before .before .before .if2 .left), sym (c .before .before .byte-at .ensures), eq-eqb _ _ (c .before .if3 .left), sym (c .name-end .ensures .0)), c .name-end .ensures .1)
+returns-5 c = (
+  simp (
+    sym (c .before .before .before .before .before .before .before .before .before .opening .ensures),
+    eq-eqb _ _ (c .before .before .before .before .before .before .before .before .if1 .left),
+    sym (c .before .before .before .before .before .before .before .number-at .ensures),
+    c .before .before .before .before .before .v .given .1,
+    eq-eqb _ _ (c .before .before .before .if2 .left),
+    sym (c .before .before .byte-at .ensures),
+    eq-eqb _ _ (c .before .if3 .left),
+    sym (c .name-end .ensures .0),
+  ),
+  c .name-end .ensures .1,
+)
 
 pub name-line-spec : {M : Type 1} → statement M
 name-line-spec =
