@@ -19,6 +19,13 @@ pub record Automaton : Type 0 where
 abbrev pub automaton : Numbers → List ℕ → Automaton
 automaton a table = record { n = a .n; k = a .k; initial = a .initial; recurring = a .recurring; table = table }
 
+-- an answer's numbers are those of an automaton
+pub record AreNumbers (A : Automaton) (a : Numbers) : Type 0 where
+  pub n : a .n ≡ A .n
+  pub k : a .k ≡ A .k
+  pub initial : a .initial ≡ A .initial
+  pub recurring : a .recurring ≡ A .recurring
+
 -- "The successor set of state q on letter l is number 8q+l of its table."
 abbrev pub successorSet : Automaton → ℕ → ℕ → ℕ
 successorSet A q l = getD (A .table) (8 * q + l) 0

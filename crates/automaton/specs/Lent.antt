@@ -1,8 +1,8 @@
 -- The lent witness tables of the walk check, and what the questions on numbers leave in them.
-use Prim.Native.Nat.{ℕ, _≤_, _<_}
+use Prim.Native.Nat.{ℕ, _-_, _≤_, _<_}
 use mathlib.Core.Path.{_≡_}
-use mathlib.Core.List.{List}
-use lib.ListN.{length}
+use mathlib.Core.List.{List, _++_}
+use lib.ListN.{length, replicate}
 use Rattle.gate.specs.Gate.{refusal, cleared}
 use Rattle.gate.specs.declared.Refusal.{Refusal}
 use Rattle.automaton.specs.Automaton.{Automaton, Fits, FirstNo}
@@ -26,6 +26,10 @@ pub record Long (v : Tables) : Type 0 where
 -- each table all zero, as long as before
 abbrev pub clearedTables : Tables → Tables
 clearedTables v = record { word = cleared (v .word); one = cleared (v .one); other = cleared (v .other) }
+
+-- a table of 128 successor sets, in a lent one: zero behind it
+abbrev pub lentTable : List ℕ → List ℕ → List ℕ
+lentTable sets table = sets ++ replicate (length table - 128) 0
 
 -- each table as long as before
 pub record SameLengths (v w : Tables) : Type 0 where

@@ -2,15 +2,14 @@
 use Prim.Native.Nat.{ℕ, _≤_}
 use mathlib.Core.Path.{_≡_}
 use mathlib.Core.List.{List}
-use mathlib.Core.Logic.{_⊎_}
 use lib.ListN.{length}
 use Rattle.gate.specs.Gate.{refusal, cleared}
 use Rattle.gate.specs.declared.Refusal.{Refusal}
 use Rattle.automaton.specs.Automaton.{Automaton}
 use Rattle.automaton.specs.Reading.{Passes}
-use Rattle.automaton.specs.Lent.{Tables, clearedTables}
+use Rattle.automaton.specs.Lent.{Tables, clearedTables, lentTable}
 use Rattle.format.specs.Format.{Sheet, numbers, most}
-use Rattle.sheet.specs.Read.{Accepted, Refuses, lentTable}
+use Rattle.sheet.specs.Read.{Accepted, Refuses}
 use Rattle.plan.specs.Letter.{letterAt}
 use Rattle.plan.specs.Plan.{PlanIs, Faulty, mostPlan}
 use Rattle.tracker.specs.Numbering.{MoreThan}
@@ -52,13 +51,13 @@ pub data Refusing (s p : List ℕ) (room : ℕ) (v w : Tables) (f : Store) (r : 
       → (number line : ℕ) → Faulty σ p number line → r ≡ refusal number line → w ≡ clearedTables v → Refusing s p room v w f r
 
 -- THE VERDICT. s and p are the two files; the successor sets' table was t and is u, the witness v and w, the tuples and nexts f and g.
-abbrev pub Judgement : List ℕ → List ℕ → ℕ → List ℕ → List ℕ → Tables → Tables → Store → Store → Outcome → Type 0
-Judgement s p room t u v w f g (Refused r) =
-    ((Lent room t v f → ⊥) × (r ≡ refusal 1 0) × (u ≡ t) × (w ≡ v) × (g ≡ f))
-    ⊎ (Lent room t v f × Refusing s p room v w f r × (u ≡ cleared t) × (g ≡ clearedStore f))
-Judgement s p room t u v w f g (Judged z) =
-    Lent room t v f × SizesFit s p
-    × ((σ : Sheet) × Accepted s σ × (u ≡ lentTable (numbers σ .table) t)
-    × ((count : ℕ) × Fitted (numbers σ) room f g count
-    × ((lead : List ℕ) × (cycle : List ℕ) × Verdicts σ p lead cycle count z)))
-    × (w ≡ clearedTables v)
+pub data Judgement (s p : List ℕ) (room : ℕ) (t u : List ℕ) (v w : Tables) (f g : Store) (o : Outcome) : Type 0 where
+  -- 1, asked first: nothing is touched
+  short : (Lent room t v f → ⊥) → o ≡ Refused (refusal 1 0) → u ≡ t → w ≡ v → g ≡ f → Judgement s p room t u v w f g o
+  -- 2 to 14
+  refused : Lent room t v f → (r : Refusal) → Refusing s p room v w f r → o ≡ Refused r → u ≡ cleared t → g ≡ clearedStore f
+      → Judgement s p room t u v w f g o
+  -- yes or no, with the sheet's successor sets and its tracker in the tables
+  judged : Lent room t v f → SizesFit s p → (σ : Sheet) → Accepted s σ → (count : ℕ) → Fitted (numbers σ) room f g count
+      → (lead cycle : List ℕ) (z : Verdict) → Verdicts σ p lead cycle count z → o ≡ Judged z → u ≡ lentTable (numbers σ .table) t → w ≡ clearedTables v
+      → Judgement s p room t u v w f g o

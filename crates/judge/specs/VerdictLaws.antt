@@ -1,6 +1,6 @@
 -- The verdict's contract from what its parts ensure. Assumes nothing.
 use Prim.Native.Nat.{ℕ, _+_, _<_}
-use mathlib.Core.Path.{_≡_, subst, _∙_}
+use mathlib.Core.Path.{refl, ap, _≡_, subst, _∙_}
 use mathlib.Core.List.{List}
 use mathlib.Core.Logic.{inl, inr}
 use lib.ListN.{length, length-append, List·getD-append}
@@ -11,7 +11,7 @@ use Rattle.gate.specs.declared.Refusal.{Refusal}
 use Rattle.automaton.specs.Lent.{Tables, tables, clearedTables}
 use Rattle.format.specs.Format.{Sheet, FileIs, numbers}
 use Rattle.format.specs.NumbersLaws.{sheet-fits}
-use Rattle.sheet.specs.Read.{Accepted, Refuses}
+use Rattle.sheet.specs.Read.{Accepted}
 use Rattle.plan.specs.Letter.{letterAt}
 use Rattle.plan.specs.LetterLaws.{letter-below}
 use Rattle.plan.specs.Plan.{PlanIs}
@@ -66,15 +66,15 @@ same-cleared t u e = rw e
 module _ {s p : List ℕ} {room : ℕ} {t u : List ℕ} {v w : Tables} {f g : Store} where
   -- 1 and 2
   pub size-refused : {r : Refusal} → (SizesFit s p → ⊥) → TooLong room t u v w f g r → Judgement s p room t u v w f g (Refused r)
-  size-refused not-both (inl h) = inl h
-  size-refused not-both (inr (l, e, x, y, z)) = inr (l, Refusing.by-size not-both e y, x, z)
+  size-refused not-both (inl (n, e, x, y, z)) = Judgement.short n (ap Refused e) x y z
+  size-refused {r} not-both (inr (l, e, x, y, z)) = Judgement.refused l r (Refusing.by-size not-both e y) refl x z
 
   module _ (sizes : SizesFit s p) where
     -- 1, and 3 to 11
     pub built-refused : {r : Refusal} → Builds s room t u v w f g (B.Refused r) → Judgement s p room t u v w f g (Refused r)
-    built-refused (Builds.short n e x y z) = inl (n, (cc), x, y, z)
-    built-refused {r} (Builds.refused l q h e x z) = let i : q ≡ r = cc in inr (l, Refusing.by-sheet sizes (subst (Refuses s v w) i h), x, z)
-    built-refused (Builds.asked l σ h y (m, e, z) x) = inr (l, Refusing.by-room sizes σ h m e y, x, z)
+    built-refused (Builds.short n e x y z) = Judgement.short n (cc) x y z
+    built-refused (Builds.refused l q h e x z) = Judgement.refused l q (Refusing.by-sheet sizes h) (cc) x z
+    built-refused {r} (Builds.asked l σ h y (m, e, z) x) = Judgement.refused l r (Refusing.by-room sizes σ h m e y) refl x z
 
     module _ {x : Tracker} (built : Builds s room t u v w f g (B.Is x)) where
       pub built-tables : length (g .tuples) ≡ length (f .tuples) → TablesFit (g .tuples) (g .nexts) (x .tuples)
@@ -86,15 +86,11 @@ module _ {s p : List ℕ} {room : ℕ} {t u : List ℕ} {v w : Tables} {f g : St
       pub plan-refused : {r : Refusal} {u′ : List ℕ} {g′ : Store} → ((σ : Sheet) → FileIs s σ → PlanJudged σ p (g .tuples) (g .nexts) (x .tuples) (Refused r))
           → length u ≡ length t → length (g .tuples) ≡ length (f .tuples) → length (g .nexts) ≡ length (f .nexts)
           → u′ ≡ cleared u → g′ ≡ clearedStore g → Judgement s p room t u′ v w f g′ (Refused r)
-      plan-refused h lu lt ln cu cg =
+      plan-refused {r} h lu lt ln cu cg =
           let (l, (σ, accepted, are, is, fitted), y) = file-built built in
           let (number, line, faulty, e) = h σ (accepted .file) in
-          inr (
-            l,
-            Refusing.by-plan sizes σ accepted g (x .tuples) fitted number line faulty e y,
-            cu ∙ same-cleared t u lu,
-            cg ∙ store-cleared f (cleared (g .tuples)) (cleared (g .nexts)) (same-cleared (f .tuples) (g .tuples) lt) (same-cleared (f .nexts) (g .nexts) ln),
-          )
+          Judgement.refused l r (Refusing.by-plan sizes σ accepted g (x .tuples) fitted number line faulty e y) refl (cu ∙ same-cleared t u lu)
+          (cg ∙ store-cleared f (cleared (g .tuples)) (cleared (g .nexts)) (same-cleared (f .tuples) (g .tuples) lt) (same-cleared (f .nexts) (g .nexts) ln))
 
       -- the answer
       pub plan-judged : {z : Verdict} → ((σ : Sheet) → FileIs s σ → PlanJudged σ p (g .tuples) (g .nexts) (x .tuples) (Judged z))
@@ -102,4 +98,5 @@ module _ {s p : List ℕ} {room : ℕ} {t u : List ℕ} {v w : Tables} {f g : St
       plan-judged {z} h =
           let (l, (σ, accepted, are, is, fitted), y) = file-built built in
           let (lead, cycle, plan, table) = h σ (accepted .file) in
-          (l, sizes, (σ, accepted, is, (x .tuples, fitted, (lead, cycle, verdicts s σ accepted room f g (x .tuples) fitted p lead cycle z plan table))), y)
+          Judgement.judged l sizes σ accepted (x .tuples) fitted lead cycle z
+          (verdicts s σ accepted room f g (x .tuples) fitted p lead cycle z plan table) refl is y

@@ -11,9 +11,9 @@ ghost use Rattle.judge.specs.Verdict.{Judgement};
 use super::Outcome;
 use super::table::judge_letters;
 use gate::Refusal;
+use parser::File;
 use plan::Planned;
 use plan::whole_file::read_plan;
-use sheet::File;
 use sheet::letters::read_letters;
 use tracker::Built;
 

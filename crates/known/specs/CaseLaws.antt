@@ -12,9 +12,9 @@ use Rattle.text.specs.ChoiceLaws.{true-is-not-false}
 use Rattle.gate.specs.Gate.{refusal}
 use Rattle.automaton.specs.Automaton.{Automaton}
 use Rattle.format.specs.Format.{Sheet, FileIs, numbers, most}
-use Rattle.sheet.specs.Parse.{Phase, refused, passed, Contents}
-use Rattle.sheet.specs.LetterLaws.{same-is}
-use Rattle.sheet.specs.ParseLaws.{AreContents}
+use Rattle.parser.specs.Parse.{Phase, refused, passed, Contents}
+use Rattle.parser.specs.LetterLaws.{same-is}
+use Rattle.parser.specs.ParseLaws.{AreContents}
 use Rattle.tuple.specs.Step.{Tuple}
 use Rattle.tracker.specs.declared.Built.{Built}
 use Rattle.tracker.specs.declared.Built.the-variants as B

@@ -7,8 +7,8 @@ use lib.ListN.{length, take, drop}
 use Rattle.text.specs.Choice.{choose}
 use Rattle.automaton.specs.Automaton.{Automaton}
 use Rattle.format.specs.Format.{most}
-use Rattle.sheet.specs.Parse.{Phase, refused, passed, same, parse}
-use Rattle.sheet.specs.Parse as S
+use Rattle.parser.specs.Parse.{Phase, refused, passed, same, parse}
+use Rattle.parser.specs.Parse as S
 use Rattle.tuple.specs.Step.{Tuple}
 use Rattle.tracker.specs.Explore.{found}
 use Rattle.plan.specs.Plan.{mostPlan}

@@ -3,7 +3,6 @@
 use Prim.Native.Nat.{ℕ, _≤_}
 use mathlib.Core.Path.{_≡_, refl, ap, _∙_}
 use mathlib.Core.List.{List}
-use mathlib.Core.Logic.{inl, inr}
 use native.Mathlib.Omega.{arith}
 use lib.ListN.{length}
 use Rattle.gate.specs.Gate.{refusal}
@@ -67,19 +66,19 @@ module _ (s : List ℕ) (room : ℕ) (t u : List ℕ) (v w : Tables) (f g : Stor
   room-is σ h count fitted = omega (arith, fitted .count-is, fitted .room-is)
 
   module _ (p : List ℕ) (size : SizesFit s p) where
-    refusing-cause : (r : Refusal) → Refusing s p room v w f r → Cause s room Outcome O.Refused (Planned p f g (O.Refused r)) (O.Refused r)
-    refusing-cause r (Refusing.by-size long e c) = absurd (long size)
-    refusing-cause r (Refusing.by-sheet fit h) = sheet-cause Outcome O.Refused (Planned p f g (O.Refused r)) (O.Refused r) r h refl
-    refusing-cause r (Refusing.by-room fit σ accepted h e c) = Cause.no-room σ accepted h (ap O.Refused e)
-    refusing-cause r (Refusing.by-plan fit σ accepted h count fitted number line fault e c) =
-        Cause.numbered σ accepted (fitted .list) (fitted .holds .numbering) (room-is σ h count fitted) (Planned.plan-fault number line fault (ap O.Refused e))
+    refusing-cause : (o : Outcome) (r : Refusal) → Refusing s p room v w f r → o ≡ O.Refused r → Cause s room Outcome O.Refused (Planned p f g o) o
+    refusing-cause o r (Refusing.by-size long e c) is = absurd (long size)
+    refusing-cause o r (Refusing.by-sheet fit h) is = sheet-cause Outcome O.Refused (Planned p f g o) o r h is
+    refusing-cause o r (Refusing.by-room fit σ accepted h e c) is = Cause.no-room σ accepted h (is ∙ ap O.Refused e)
+    refusing-cause o r (Refusing.by-plan fit σ accepted h count fitted number line fault e c) is =
+        Cause.numbered σ accepted (fitted .list) (fitted .holds .numbering) (room-is σ h count fitted) (Planned.plan-fault number line fault (is ∙ ap O.Refused e))
 
     pub verdict-cause : (o : Outcome) → Judgement s p room t u v w f g o → Cause s room Outcome O.Refused (Planned p f g o) o
-    verdict-cause (O.Refused r) (inl (short, e, x, y, z)) = absurd (short lent)
-    verdict-cause (O.Refused r) (inr (l, h, x, y)) = refusing-cause r h
-    verdict-cause (O.Judged z) (l, d, (σ, accepted, e, (count, fitted, (lead, cycle, h))), x) =
+    verdict-cause o (Judgement.short short e x y z) = absurd (short lent)
+    verdict-cause o (Judgement.refused l r h e x y) = refusing-cause o r h e
+    verdict-cause o (Judgement.judged l d σ accepted count fitted lead cycle z h is e x) =
         Cause.numbered σ accepted (fitted .list) (fitted .holds .numbering) (room-is σ g count fitted)
-        (Planned.verdict (fitted .holds) lead cycle (h .plan) z (h .judged) refl)
+        (Planned.verdict (fitted .holds) lead cycle (h .plan) z (h .judged) is)
 
   pub build-cause : (o : Built) → Builds s room t u v w f g o → Cause s room Built B.Refused (IsBuilt f g o) o
   build-cause o (Builds.short short e x y z) = absurd (short lent)

@@ -12,7 +12,7 @@ use Rattle.text.specs.Column.{digitByte, column}
 use Rattle.names.specs.Name.{oneOf, isUmlaut, isVowel, umlautOf, compose}
 use Rattle.names.specs.Scan.{widthOf, widthAt, partsEnd, nameEndAt}
 use Rattle.format.specs.Format.{entered}
-use Rattle.sheet.specs.Parse as S
+use Rattle.parser.specs.Parse as S
 use Rattle.tuple.specs.Step.{places, unionAll, isMarked, removed, turns, pass, colourAt, least, deadOr, colourOf, unlessEmpty, closed, closeUp, first, next, run}
 use Rattle.tracker.specs.Explore.{sameSets, sameTuple, numberOf, addNew, step, found}
 use Rattle.plan.specs.Letter.{letterAt}

@@ -16,10 +16,10 @@ use Rattle.automaton.specs.Meeting.{Everywhere, Witness}
 use Rattle.format.specs.Format.{Sheet, FileIs, numbers, Faulty}
 use Rattle.format.specs.NumbersLaws.{sheet-fits}
 use Rattle.sheet.specs.Read.{Accepted}
-use Rattle.sheet.specs.Parse.{Phase, refused, passed, parse, Contents}
-use Rattle.sheet.specs.ParseLaws.{AreContents}
-use Rattle.sheet.specs.CompleteLaws.{faulty-parse}
-use Rattle.sheet.specs.UniqueLaws.{accepts-parse}
+use Rattle.parser.specs.Parse.{Phase, refused, passed, parse, Contents}
+use Rattle.parser.specs.ParseLaws.{AreContents}
+use Rattle.parser.specs.CompleteLaws.{faulty-parse}
+use Rattle.parser.specs.UniqueLaws.{accepts-parse}
 use Rattle.tuple.specs.Step.{Tuple}
 use Rattle.tracker.specs.Numbering.{Numbering, MoreThan}
 use Rattle.tracker.specs.NumberingLaws.{found-all, found-more, more-excludes, numbering-unique}

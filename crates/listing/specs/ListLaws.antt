@@ -6,12 +6,11 @@ use native.Mathlib.Omega.{arith}
 use lib.ListN.{length}
 use Rattle.gate.specs.Gate.{refusal, cleared, RefusedWith}
 use Rattle.gate.specs.declared.Refusal.{Refusal}
-use Rattle.automaton.specs.Automaton.{Automaton, InRange}
+use Rattle.automaton.specs.Automaton.{Automaton, InRange, AreNumbers}
 use Rattle.automaton.specs.Lent.{Tables}
 use Rattle.format.specs.Format.{numbers}
 use Rattle.automaton.specs.QuestionLaws.{numbers-number}
 use Rattle.sheet.specs.ReadLaws.{refuses-number}
-use Rattle.sheet.specs.Read.{AreNumbers}
 use Rattle.tracker.specs.Build.{Store, RoomFits, Fitted, BuildsNumbers, Builds}
 use Rattle.tracker.specs.BuildLaws.{numbers-built, file-built}
 use Rattle.tracker.specs.FillLaws.{cleared-alike}

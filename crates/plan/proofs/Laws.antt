@@ -11,9 +11,9 @@ use Rattle.names.specs.Scan.{nameEndAt}
 use Rattle.names.specs.declared.Ending.the-variants as E
 use Rattle.gate.specs.Gate.{refusal}
 use Rattle.gate.specs.declared.Refusal.{Refusal}
-use Rattle.sheet.specs.declared.Place.{Place}
-use Rattle.sheet.specs.Parse.{Phase, refused, passed, andThen}
-use Rattle.sheet.specs.Rows.{Holds}
+use Rattle.parser.specs.declared.Place.{Place}
+use Rattle.parser.specs.Parse.{Phase, refused, passed, andThen}
+use Rattle.parser.specs.Rows.{Holds}
 use Rattle.plan.specs.declared.LetterLine.the-variants as L
 use Rattle.plan.specs.declared.Lengths.{Lengths}
 use Rattle.plan.specs.declared.Letters.the-variants as A
@@ -22,8 +22,8 @@ use Rattle.plan.specs.declared.Planned.the-variants as P
 use Rattle.plan.specs.Plan.{LengthsRight}
 use Rattle.plan.specs.Parse.{Lettered, lettered, letterFrom, letterLineAt, lettersAt, endAt, Contents, contents, afterHead}
 use Rattle.plan.specs.Answers.{headAnswer, LengthsFit, LettersRead, planned, PlanRead}
-use Rattle.sheet.specs.PhaseAnswers.{endAnswer}
-use Rattle.sheet.specs.EndLaws.{end-same}
+use Rattle.parser.specs.PhaseAnswers.{endAnswer}
+use Rattle.parser.specs.EndLaws.{end-same}
 
 -- ONE LINE
 module _ (names : List (List ℕ)) (p : List ℕ) (at : ℕ) where

@@ -4,9 +4,9 @@ use mathlib.Core.Path.{_≡_}
 use mathlib.Core.List.{List, _++_}
 use lib.ListN.{drop}
 use Rattle.gate.specs.Gate.{refusal}
-use Rattle.sheet.specs.Parse.{Phase, refused, passed}
-use Rattle.sheet.specs.declared.End.{End}
-use Rattle.sheet.specs.declared.End.the-variants as E
+use Rattle.parser.specs.Parse.{Phase, refused, passed}
+use Rattle.parser.specs.declared.End.{End}
+use Rattle.parser.specs.declared.End.the-variants as E
 use Rattle.plan.specs.declared.Lengths.{Lengths}
 use Rattle.plan.specs.declared.LetterLine.{LetterLine}
 use Rattle.plan.specs.declared.LetterLine.the-variants as L

@@ -10,8 +10,8 @@ use Rattle.text.specs.BytesLaws.{stretch-rest}
 use Rattle.text.specs.Column.{column}
 use Rattle.names.specs.Name.{compose}
 use Rattle.format.specs.Format.{Sheet, NamesRight, endLine}
-use Rattle.sheet.specs.Parse.{refused, passed, andThen}
-use Rattle.sheet.specs.EndLaws.{end-missing, end-behind, end-read}
+use Rattle.parser.specs.Parse.{refused, passed, andThen}
+use Rattle.parser.specs.EndLaws.{end-missing, end-behind, end-read}
 use Rattle.plan.specs.Plan.{planHead, nameLines, PlanIs, Above, Faulty}
 use Rattle.plan.specs.Parse.{lengths, lettered, lettersAt, endAt, contents, afterHead, planOf}
 use Rattle.plan.specs.HeadLaws.{head-right, head-range, head-form}

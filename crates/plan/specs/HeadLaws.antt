@@ -10,7 +10,7 @@ use native.Mathlib.Omega.{arith}
 use Rattle.text.specs.Choice.{choose}
 use Rattle.text.specs.PairLaws.{twoNumbers, first-right, first-outcome}
 use Rattle.format.specs.Format.{Sheet}
-use Rattle.sheet.specs.Parse.{Phase, refused, passed}
+use Rattle.parser.specs.Parse.{Phase, refused, passed}
 use Rattle.plan.specs.declared.Lengths.{Lengths}
 use Rattle.plan.specs.Plan.{planWord, planHead, LengthsRight, Faulty}
 use Rattle.plan.specs.Parse.{lengths, lengthsOf, headOf}

@@ -10,10 +10,10 @@ use Rattle.text.specs.ChoiceLaws.{true-is-not-false}
 use Rattle.names.specs.Name.{IsName, compose}
 use Rattle.format.specs.Format.{Sheet, Distinct, NamesRight}
 use Rattle.sheet.specs.Letters.{StandsFor}
-use Rattle.sheet.specs.Parse.{same, letterOf}
-use Rattle.sheet.specs.Rows.{FirstName}
-use Rattle.sheet.specs.LetterLaws.{same-self, same-is}
-use Rattle.sheet.specs.RowsLaws.{letter-is}
+use Rattle.parser.specs.Parse.{same, letterOf}
+use Rattle.parser.specs.Rows.{FirstName}
+use Rattle.parser.specs.LetterLaws.{same-self, same-is}
+use Rattle.parser.specs.RowsLaws.{letter-is}
 
 -- the search finds the first of some names that is x, or none
 pub letter-first : (names : List (List ℕ)) (x : List ℕ) → FirstName names x (letterOf names x)

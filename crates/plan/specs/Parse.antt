@@ -9,8 +9,8 @@ use Rattle.text.specs.Bytes.{stretch}
 use Rattle.names.specs.Name.{compose}
 use Rattle.names.specs.Scan.{nameEndAt}
 use Rattle.text.specs.Pair.{firstLine}
-use Rattle.sheet.specs.Parse as S
-use Rattle.sheet.specs.Parse.{Phase, refused, passed, andThen, withEnding, letterOf}
+use Rattle.parser.specs.Parse as S
+use Rattle.parser.specs.Parse.{Phase, refused, passed, andThen, withEnding, letterOf}
 use Rattle.plan.specs.declared.Lengths.{Lengths}
 use Rattle.plan.specs.declared.LetterLine.{LetterLine}
 use Rattle.plan.specs.declared.LetterLine.the-variants as L

@@ -6,8 +6,8 @@ use lib.ListN.{length, take, drop, length-take, length-drop, take-append-drop}
 use native.Mathlib.Omega.{arith}
 use Rattle.names.specs.Name.{compose}
 use Rattle.format.specs.Format.{Sheet, endLine}
-use Rattle.sheet.specs.Parse.{Phase, refused, passed, andThen}
-use Rattle.sheet.specs.EndLaws.{end-outcome}
+use Rattle.parser.specs.Parse.{Phase, refused, passed, andThen}
+use Rattle.parser.specs.EndLaws.{end-outcome}
 use Rattle.plan.specs.declared.Lengths.{Lengths}
 use Rattle.plan.specs.Plan.{planHead, nameLines, mostPlan, LengthsRight, Known, none, more, PlanIs, Above, Faulty}
 use Rattle.plan.specs.Parse.{Lettered, lettersAt, endAt, Contents, contents, headOf, afterHead, planOf}

@@ -6,7 +6,7 @@ use lib.ListN.{length, drop}
 use Rattle.gate.specs.Gate.{refusal}
 use Rattle.names.specs.Name.{compose}
 use Rattle.format.specs.Format.{Sheet}
-use Rattle.sheet.specs.Rows.{Holds}
+use Rattle.parser.specs.Rows.{Holds}
 use Rattle.plan.specs.declared.Planned.{Planned}
 use Rattle.plan.specs.declared.Planned.the-variants.{Refused, Is}
 use Rattle.plan.specs.Plan.{PlanIs, Faulty}

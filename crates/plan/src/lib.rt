@@ -4,7 +4,7 @@ pub mod name_lines;
 pub mod whole_file;
 
 use gate::Refusal;
-use sheet::Place;
+use parser::Place;
 
 // How many letters a plan's lead-in and cycle have.
 pub struct Lengths {

@@ -3,7 +3,7 @@ ghost use mathlib.Core.Path.{_≡_};
 ghost use mathlib.Core.List.{List, []};
 ghost use Prim.Native.Nat.{ℕ, _<_, _≤_, _^_};
 ghost use lib.ListN.{length};
-ghost use Rattle.sheet.specs.Rows.{Holds};
+ghost use Rattle.parser.specs.Rows.{Holds};
 ghost use Rattle.plan.specs.Plan.{mostPlan};
 ghost use Rattle.plan.specs.Parse.{letterLineAt, lettersAt};
 ghost use Rattle.plan.specs.Answers.{LineFits, LettersRead, PlaceFits};
@@ -11,7 +11,7 @@ use super::LetterLine;
 use super::Letters;
 use gate::Refusal;
 use names::Ending;
-use sheet::Place;
+use parser::Place;
 use sheet::letters::letter_of;
 
 // The line at `at`. The rows hold the composed names of k letters; the line's own name goes into the row behind them.

@@ -4,7 +4,7 @@ ghost use mathlib.Core.List.{[]};
 ghost use Prim.Native.Nat.{_<_, _≤_, _^_};
 ghost use lib.ListN.{length};
 ghost use Rattle.format.specs.Format.{Sheet};
-ghost use Rattle.sheet.specs.PhaseAnswers.{endAnswer};
+ghost use Rattle.parser.specs.PhaseAnswers.{endAnswer};
 ghost use Rattle.plan.specs.Plan.{mostPlan};
 ghost use Rattle.plan.specs.Parse.{lettered, endAt};
 ghost use Rattle.plan.specs.Answers.{planned, LengthsFit};
@@ -14,15 +14,15 @@ use super::Letters;
 use super::Planned;
 use super::first_line::read_head;
 use super::name_lines::read_letters;
-use sheet::End;
-use sheet::Place;
+use parser::End;
+use parser::Place;
 
 // The last line of a plan of lengths z.
 fn end_line(p: &[u8], z: Lengths, place: Place) -> Planned
     requires { ⌜ (place .at < 2 ^ 30) × (place .line < 2 ^ 30) ⌝ }
     ensures { λ r. ⌜ r ≡ planned z (endAnswer (endAt (now (p .entry)) (lettered [] (place .at) (place .line)))) ⌝ }
 {
-    match sheet::last_line::end_line(p, 12, place.line, place.at) {
+    match parser::last_line::end_line(p, 12, place.line, place.at) {
         End::Refused(r) => Planned::Refused(r),
         End::Reached => Planned::Is(z),
     }

@@ -6,17 +6,17 @@ use native.Mathlib.Omega.{arith}
 use lib.ListN.{length}
 use Rattle.gate.specs.Gate.{refusal, cleared}
 use Rattle.gate.specs.declared.Refusal.{Refusal}
-use Rattle.automaton.specs.Automaton.{InRange}
+use Rattle.automaton.specs.Automaton.{InRange, AreNumbers}
 use Rattle.automaton.specs.declared.Numbers.{Numbers}
 use Rattle.format.specs.Format.{Sheet, FileIs, Faulty, numbers}
-use Rattle.sheet.specs.Read.{AreNumbers, lentTable}
-use Rattle.sheet.specs.Parse.{Phase, refused, passed, Contents, parse}
-use Rattle.sheet.specs.ParseLaws.{Means, AreContents, parse-means}
-use Rattle.sheet.specs.Rows.{Holds}
-use Rattle.sheet.specs.PhaseAnswers.{numbersOf, FileRead}
+use Rattle.automaton.specs.Lent.{lentTable}
+use Rattle.parser.specs.Parse.{Phase, refused, passed, Contents, parse}
+use Rattle.parser.specs.ParseLaws.{Means, AreContents, parse-means}
+use Rattle.parser.specs.Rows.{Holds}
+use Rattle.parser.specs.PhaseAnswers.{numbersOf, FileRead}
 use Rattle.sheet.specs.Answers.{LettersOf, LettersRead}
-use Rattle.sheet.specs.declared.File.{File}
-use Rattle.sheet.specs.declared.File.the-variants as F
+use Rattle.parser.specs.declared.File.{File}
+use Rattle.parser.specs.declared.File.the-variants as F
 
 -- a file that is refused
 pub record FileRefused (s t u : List ℕ) (r : Refusal) : Type 0 where

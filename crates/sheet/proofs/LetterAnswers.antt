@@ -11,7 +11,7 @@ use Rattle.automaton.specs.declared.Numbers.{Numbers}
 use Rattle.names.specs.Name.{IsName, compose}
 use Rattle.format.specs.Format.{numbers}
 use Rattle.sheet.specs.Letters.{NoName, NameIs, StandsFor}
-use Rattle.sheet.specs.Rows.{FirstName}
+use Rattle.parser.specs.Rows.{FirstName}
 use Rattle.sheet.specs.Answers.{LettersOf}
 use Rattle.sheet.specs.Spelling.{spelling}
 use Rattle.sheet.specs.SpellingLaws.{spelling-is}

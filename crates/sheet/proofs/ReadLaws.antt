@@ -9,19 +9,18 @@ use lib.Seq.{take-at}
 use Rattle.gate.specs.Gate.{Zero, cleared}
 use Rattle.gate.specs.GateLaws.{zero-cleared, length-cleared}
 use Rattle.gate.specs.declared.Refusal.{Refusal}
-use Rattle.automaton.specs.Automaton.{Automaton, automaton, Fits}
+use Rattle.automaton.specs.Automaton.{Automaton, automaton, Fits, AreNumbers}
 use Rattle.automaton.specs.declared.Numbers.{Numbers}
 use Rattle.automaton.specs.Meeting.{Everywhere}
-use Rattle.automaton.specs.Lent.{Tables, tables, Long, clearedTables}
+use Rattle.automaton.specs.Lent.{Tables, tables, Long, clearedTables, lentTable}
 use Rattle.meeting.specs.Answer.{Asked, Answered}
 use Rattle.format.specs.Format.{Sheet, Transition, entered, tableOf, numbers}
 use Rattle.format.specs.NumbersLaws.{sheet-fits}
-use Rattle.sheet.specs.Read.{AreNumbers, lentTable}
 use Rattle.sheet.specs.Read as read
-use Rattle.sheet.specs.PhaseAnswers.{FileRead}
+use Rattle.parser.specs.PhaseAnswers.{FileRead}
 use Rattle.sheet.specs.Answers.{Answers}
-use Rattle.sheet.specs.Parse.{parse}
-use Rattle.sheet.specs.declared.File.the-variants as F
+use Rattle.parser.specs.Parse.{parse}
+use Rattle.parser.specs.declared.File.the-variants as F
 use Rattle.sheet.specs.declared.Read.{Read}
 use Rattle.sheet.specs.declared.Read.the-variants as R
 use Rattle.sheet.proofs.FileMeans.{FileAccepted, file-refused, are-numbers, letters-of}

@@ -5,15 +5,15 @@ use mathlib.Core.List.{List, map}
 use lib.ListN.{length}
 use Rattle.gate.specs.Gate.{refusal, cleared}
 use Rattle.automaton.specs.declared.Numbers.{Numbers}
-use Rattle.automaton.specs.Automaton.{InRange}
-use Rattle.automaton.specs.Lent.{Tables, clearedTables}
+use Rattle.automaton.specs.Automaton.{InRange, AreNumbers}
+use Rattle.automaton.specs.Lent.{Tables, clearedTables, lentTable}
 use Rattle.automaton.specs.Meeting.{Free, Everywhere}
-use Rattle.sheet.specs.declared.File.{File}
-use Rattle.sheet.specs.declared.File.the-variants as F
-use Rattle.sheet.specs.Rows.{Holds}
+use Rattle.parser.specs.declared.File.{File}
+use Rattle.parser.specs.declared.File.the-variants as F
+use Rattle.parser.specs.Rows.{Holds}
 use Rattle.names.specs.Name.{compose}
 use Rattle.format.specs.Format.{Sheet, FileIs, Faulty, numbers}
-use Rattle.sheet.specs.Read.{Refuses, AreNumbers, lentTable}
+use Rattle.sheet.specs.Read.{Refuses}
 use Rattle.sheet.specs.declared.Read.{Read}
 use Rattle.sheet.specs.declared.Read.the-variants as R
 

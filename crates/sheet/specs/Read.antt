@@ -1,15 +1,14 @@
 -- What reading a sheet file answers, and what the lent tables hold then.
 use Prim.Native.Nat.{ℕ, _-_, _≤_}
 use mathlib.Core.Path.{_≡_}
-use mathlib.Core.List.{List, _++_}
+use mathlib.Core.List.{List}
 use mathlib.Core.Logic.{_⊎_}
-use lib.ListN.{length, replicate}
+use lib.ListN.{length}
 use Rattle.gate.specs.Gate.{refusal, cleared}
 use Rattle.gate.specs.declared.Refusal.{Refusal}
-use Rattle.automaton.specs.declared.Numbers.{Numbers}
-use Rattle.automaton.specs.Automaton.{Automaton}
+use Rattle.automaton.specs.Automaton.{AreNumbers}
 use Rattle.automaton.specs.Meeting.{Free, Everywhere}
-use Rattle.automaton.specs.Lent.{Tables, Long, clearedTables, Meets}
+use Rattle.automaton.specs.Lent.{Tables, Long, clearedTables, lentTable, Meets}
 use Rattle.sheet.specs.declared.Read.{Read}
 use Rattle.sheet.specs.declared.Read.the-variants.{Refused, Is}
 use Rattle.format.specs.Format.{Sheet, FileIs, Faulty, numbers}
@@ -23,17 +22,6 @@ pub record Accepted (s : List ℕ) (σ : Sheet) : Type 0 where
 pub data Refuses (s : List ℕ) (v w : Tables) (r : Refusal) : Type 0 where
   faulty : (number line : ℕ) → Faulty s number line → r ≡ refusal number line → w ≡ clearedTables v → Refuses s v w r
   meeting : (σ : Sheet) → FileIs s σ → Meets (numbers σ) v w r → Refuses s v w r
-
--- the answer's numbers are those of an automaton
-pub record AreNumbers (A : Automaton) (a : Numbers) : Type 0 where
-  pub n : a .n ≡ A .n
-  pub k : a .k ≡ A .k
-  pub initial : a .initial ≡ A .initial
-  pub recurring : a .recurring ≡ A .recurring
-
--- a table of 128 successor sets, in a lent one: zero behind it
-abbrev pub lentTable : List ℕ → List ℕ → List ℕ
-lentTable sets table = sets ++ replicate (length table - 128) 0
 
 -- READING. The successor sets' table was t and is u then.
 -- "Refusal 1 asked first touches nothing; .. every other refusal leave the tables of that call all zero, except the witness of 10"

@@ -1,13 +1,15 @@
 -- In a sheet file the name of a letter is found again as it is spelled: by induction along the name lines. Assumes nothing.
-use Prim.Native.Nat.{ℕ, zero, suc, _+_, _<_}
-use mathlib.Core.Path.{_≡_, _∙_}
+use Prim.Native.Nat.{ℕ, zero, suc, _+_, _-_, _≤_, _<_}
+use mathlib.Core.Path.{_≡_, ap, _∙_}
 use mathlib.Core.List.{List, [], _∷_, _++_, append-assoc}
 use native.Mathlib.Omega.{arith}
 use lib.ListN.{length, getD, drop}
 use Rattle.text.specs.Bytes.{lf, space}
 use Rattle.text.specs.BytesLaws.{stretch-is, stretch-rest}
 use Rattle.text.specs.Column.{column}
+use Rattle.names.specs.Scan.{nameEndAt}
 use Rattle.names.specs.ScanLaws.{name-ends}
+use Rattle.names.specs.declared.Ending.the-variants as E
 use Rattle.format.specs.Format.{Sheet, FileIs, NamesRight, headLine, nameLine, nameLines, stateLines, transitionLines, lines, endLine}
 use Rattle.format.specs.FormatLaws.{head-length, name-length}
 use Rattle.sheet.specs.Spelling.{lineBelow, spelledAt, spelling}
@@ -42,3 +44,23 @@ spelling-is s σ file l b =
     let n : 0 + length (headLine (σ .n) (σ .k)) ≡ 12 = omega (arith, head-length (σ .n) (σ .k)) in
     let h : drop 12 s ≡ nameLines 0 (σ .names) ++ (rest ++ endLine) = rw n at (stretch-rest s 0 (headLine (σ .n) (σ .k)) (nameLines 0 (σ .names) ++ (rest ++ endLine)) e) in
     names-spelled (σ .names) [] s (rest ++ endLine) 12 0 (file .right .names) h l (omega arith)
+
+-- A NAME LINE found again: `left` lines are to be passed
+module _ (s : List ℕ) (at left : ℕ) where
+  pub below-next : 0 < left → (e : ℕ) → nameEndAt s (at + 5) ≡ E.At e → lineBelow s at left ≡ lineBelow s (e + 1) (left - 1)
+  unfolding lineBelow
+  below-next h e b =
+      let m : left ≡ suc (left - 1) = omega arith in
+      ap (λ (n : ℕ). lineBelow s at n) m ∙ simp b
+
+  pub below-none : 0 < left → nameEndAt s (at + 5) ≡ E.Bad → lineBelow s at left ≡ at
+  unfolding lineBelow
+  below-none h b =
+      let m : left ≡ suc (left - 1) = omega arith in
+      rw m (simp b)
+
+  pub below-done : left ≤ 0 → lineBelow s at left ≡ at
+  unfolding lineBelow
+  below-done h =
+      let m : left ≡ 0 = omega arith in
+      rw m

@@ -7,12 +7,12 @@ ghost use Rattle.text.specs.Bytes.{stretch};
 ghost use Rattle.names.specs.Name.{IsName, compose};
 ghost use Rattle.names.specs.Row.{Stretches};
 ghost use Rattle.sheet.specs.Answers.{LettersRead};
-ghost use Rattle.sheet.specs.Rows.{Holds, FirstName};
+ghost use Rattle.parser.specs.Rows.{Holds, FirstName};
 ghost use Rattle.sheet.specs.Spelling.{lineBelow, spelling};
-use super::File;
-use super::name_lines::first_like;
-use super::whole_file::read_file;
 use names::Ending;
+use parser::File;
+use parser::name_lines::first_like;
+use parser::whole_file::read_file;
 
 // The questions 2 to 9 on a sheet file, and its composed names in rows.
 pub fn read_letters(s: &[u8], rows: &mut [u8]) -> File

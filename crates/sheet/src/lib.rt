@@ -1,18 +1,13 @@
 // The sheet file: read, its names given and found.
-pub mod first_line;
-pub mod last_line;
 pub mod letters;
-pub mod name_lines;
 pub mod reading;
-pub mod state_lines;
-pub mod transition_lines;
-pub mod whole_file;
 
 ghost use Rattle.automaton.specs.Lent.{tables};
 ghost use Rattle.sheet.specs.Read.{Reads};
 ghost use Rattle.sheet.specs.Letters.{NameIs, NumberIs, Finds};
 use automaton::Numbers;
 use gate::Refusal;
+use parser::File;
 
 // The answer of reading: a refusal, or the sheet's numbers, whose successor sets stand in the lent table.
 pub enum Read {
@@ -24,68 +19,6 @@ pub enum Read {
 pub enum Found {
     Refused(Refusal),
     Letter(usize),
-}
-
-// n and k of the first line.
-pub struct Sizes {
-    pub n: usize,
-    pub k: usize,
-}
-
-// The answer of the first line.
-pub enum Head {
-    Refused(Refusal),
-    Is(Sizes),
-}
-
-// The next line's position and number.
-pub struct Place {
-    pub at: usize,
-    pub line: usize,
-}
-
-// The answer of the name lines.
-pub enum Names {
-    Refused(Refusal),
-    Are(Place),
-}
-
-// The initial and the must-recur flag of a state line.
-pub enum StateLine {
-    Is(usize, usize),
-    Bad,
-}
-
-// The initial and the must-recur set of the state lines, and the next line's position and number.
-pub struct Sets {
-    pub initial: u16,
-    pub recurring: u16,
-    pub at: usize,
-    pub line: usize,
-}
-
-// The answer of the state lines.
-pub enum States {
-    Refused(Refusal),
-    Are(Sets),
-}
-
-// From, letter and to of a transition line.
-pub enum TransitionLine {
-    Is(usize, usize, usize),
-    Bad,
-}
-
-// The answer of a file's last lines.
-pub enum End {
-    Refused(Refusal),
-    Reached,
-}
-
-// The answer of a whole file on the questions 2 to 9.
-pub enum File {
-    Refused(Refusal),
-    Is(Numbers),
 }
 
 // Questions 1 to 10 on a sheet file. Question 1 touches nothing; with 10 the last three tables hold a shortest word with

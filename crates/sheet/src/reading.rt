@@ -5,10 +5,10 @@ ghost use lib.ListN.{length};
 ghost use Rattle.gate.specs.Gate.{cleared};
 ghost use Rattle.automaton.specs.Lent.{tables, Long, clearedTables};
 ghost use Rattle.sheet.specs.Answers.{Answers};
-use super::File;
 use super::Read;
-use super::whole_file::read_file;
 use gate::Refusal;
+use parser::File;
+use parser::whole_file::read_file;
 
 // The questions in tables that are long enough and all zero. Where all are answered yes, the rows hold the composed names.
 // With 10 the successor sets are cleared again.

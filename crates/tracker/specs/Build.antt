@@ -5,11 +5,11 @@ use mathlib.Core.List.{List, _++_}
 use lib.ListN.{length, replicate}
 use Rattle.gate.specs.Gate.{refusal, cleared}
 use Rattle.gate.specs.declared.Refusal.{Refusal}
-use Rattle.automaton.specs.Automaton.{Automaton, Fits}
+use Rattle.automaton.specs.Automaton.{Automaton, Fits, AreNumbers}
 use Rattle.automaton.specs.Meeting.{Free, Everywhere}
-use Rattle.automaton.specs.Lent.{Tables, Long, clearedTables, NumbersRefuse}
+use Rattle.automaton.specs.Lent.{Tables, Long, clearedTables, NumbersRefuse, lentTable}
 use Rattle.format.specs.Format.{Sheet, numbers}
-use Rattle.sheet.specs.Read.{Accepted, Refuses, AreNumbers, lentTable}
+use Rattle.sheet.specs.Read.{Accepted, Refuses}
 use Rattle.tuple.specs.Step.{Tuple}
 use Rattle.tracker.specs.declared.Built.{Built}
 use Rattle.tracker.specs.declared.Built.the-variants.{Refused, Is}

@@ -7,17 +7,16 @@ use mathlib.Core.Logic.{inl, inr}
 use native.Mathlib.Omega.{arith}
 use lib.ListN.{length, getD, take, replicate, length-set, length-replicate}
 use lib.Seq.{take-at}
-use Rattle.gate.specs.Gate.{cleared}
+use Rattle.gate.specs.Gate.{cleared, Decides}
 use Rattle.gate.specs.declared.Refusal.{Refusal}
 use Rattle.sets.specs.Sets.{unionOf}
-use Rattle.automaton.specs.Automaton.{Automaton, automaton, Fits}
-use Rattle.automaton.specs.Lent.{Tables, clearedTables}
-use Rattle.gate.specs.Gate.{Decides}
+use Rattle.automaton.specs.Automaton.{Automaton, automaton, Fits, AreNumbers}
+use Rattle.automaton.specs.Lent.{Tables, clearedTables, lentTable}
 use Rattle.walks.specs.Check.{Checks}
 use Rattle.walks.specs.declared.Checked.the-variants.{Refused as CheckRefused}
 use Rattle.format.specs.Format.{Sheet, Transition, tableOf, numbers, entered as cellEntered}
 use Rattle.format.specs.NumbersLaws.{sheet-fits}
-use Rattle.sheet.specs.Read.{Accepted, AreNumbers, Reads, lentTable}
+use Rattle.sheet.specs.Read.{Accepted, Reads}
 use Rattle.sheet.specs.declared.Read.the-variants.{Refused as ReadRefused, Is as ReadIs}
 use Rattle.automaton.specs.declared.Numbers.{Numbers}
 use Rattle.tracker.specs.declared.Tracker.{Tracker}

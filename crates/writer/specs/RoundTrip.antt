@@ -11,7 +11,7 @@ use Rattle.automaton.specs.Meeting.{Free, Everywhere}
 use Rattle.format.specs.Format.{Sheet, NamesRight, FileIs, lines, endLine, numbers, statesOf, transitionsOf, writtenSheet, written}
 use Rattle.format.specs.NumbersLaws.{sheet-fits}
 use Rattle.sheet.specs.Read.{Accepted}
-use Rattle.sheet.specs.UniqueLaws.{file-unique}
+use Rattle.parser.specs.UniqueLaws.{file-unique}
 use Rattle.writer.specs.Same.{SameSheet, trimmed, writing}
 use Rattle.writer.specs.NumbersLaws.{numbers-written}
 use Rattle.writer.specs.TrimmedLaws.{free-trimmed, written-trimmed, table-whole, trimmed-numbers}

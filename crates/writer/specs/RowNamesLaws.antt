@@ -13,7 +13,7 @@ use Rattle.text.specs.Bytes.{stretch}
 use Rattle.text.specs.Word.{noZero}
 use Rattle.text.specs.SetsLaws.{sets-append}
 use Rattle.names.specs.NameLaws.{name-without}
-use Rattle.sheet.specs.Rows.{Holds}
+use Rattle.parser.specs.Rows.{Holds}
 use Rattle.format.specs.Format.{nameLine, nameLines}
 use Rattle.format.specs.FormatLaws.{name-length}
 use Rattle.writer.specs.RowNames.{upToZero, rowName, rowNames}

@@ -21,11 +21,11 @@ use Rattle.walks.specs.declared.Checked.the-variants as K
 use Rattle.walks.specs.Check.{Checks}
 use Rattle.sheet.specs.declared.Read.the-variants as R
 use Rattle.sheet.specs.Read.{Reads}
-use Rattle.sheet.specs.Rows.{Holds}
-use Rattle.sheet.specs.declared.File.{File}
-use Rattle.sheet.specs.declared.File.the-variants as F
+use Rattle.parser.specs.Rows.{Holds}
+use Rattle.parser.specs.declared.File.{File}
+use Rattle.parser.specs.declared.File.the-variants as F
 use Rattle.sheet.specs.Answers.{LettersRead}
-use Rattle.sheet.specs.UniqueLaws.{file-unique, file-or-fault}
+use Rattle.parser.specs.UniqueLaws.{file-unique, file-or-fault}
 use Rattle.gate.specs.declared.Written.{Written}
 use Rattle.gate.specs.declared.Written.the-variants.{Refused}
 use Rattle.writer.specs.Write.{Put, Writes, NamedRefuse, WritesNumbers}

@@ -8,7 +8,7 @@ use denote.Ref.{now}
 use lib.ListN.{length}
 use Rattle.text.specs.ChoiceLaws.{true-is-not-false}
 use Rattle.names.specs.Name.{IsName, compose}
-use Rattle.sheet.specs.Rows.{FirstName}
+use Rattle.parser.specs.Rows.{FirstName}
 use Rattle.sheet.specs.Answers.{LettersOf}
 use Rattle.sheet.proofs.LetterAnswers.{whole-stretch, no-name, letter-found, letter-nowhere}
 use borrow.Author.Needs.{needs}

@@ -6,7 +6,7 @@ use Rattle.judge.specs.Parts.{PlanJudged}
 use native.Mathlib.Omega.{arith}
 use denote.Ref.{now}
 use Rattle.sheet.specs.Answers.{LettersOf}
-use Rattle.sheet.specs.UniqueLaws.{file-unique, file-or-fault}
+use Rattle.parser.specs.UniqueLaws.{file-unique, file-or-fault}
 use lib.ListN.{replicate}
 use Rattle.plan.specs.Read.{Reads}
 use Rattle.plan.specs.declared.Planned.the-variants.{Is}

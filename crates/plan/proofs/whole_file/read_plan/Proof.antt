@@ -6,7 +6,7 @@ use lib.ListN.{length-map}
 use Rattle.names.specs.Name.{compose}
 use native.Mathlib.Omega.{arith}
 use denote.Ref.{now}
-use Rattle.sheet.specs.Parse.{passed}
+use Rattle.parser.specs.Parse.{passed}
 use Rattle.plan.specs.declared.Planned.the-variants as P
 use Rattle.plan.specs.Plan.{LengthsRight}
 use Rattle.plan.specs.Parse.{headOf, lettered, lettersAt, endAt, planOf}

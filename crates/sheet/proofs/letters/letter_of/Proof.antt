@@ -6,8 +6,8 @@ use denote.Ref.{now}
 use Rattle.text.specs.Bytes.{stretch}
 use Rattle.names.specs.Name.{compose}
 use Rattle.names.specs.NameLaws.{composed-name}
-use Rattle.sheet.specs.Rows.{Holds, FirstLike}
-use Rattle.sheet.specs.RowsLaws.{holds-still, name-found}
+use Rattle.parser.specs.Rows.{Holds, FirstLike}
+use Rattle.parser.specs.RowsLaws.{holds-still, name-found}
 use borrow.Author.Needs.{needs}
 use Rattle.sheet.proofs.letters.letter_of.Statement.{statement}
 use Rattle.sheet.proofs.letters.letter_of.Tie as tie

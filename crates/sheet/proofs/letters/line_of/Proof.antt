@@ -4,7 +4,7 @@ use mathlib.Core.Path.{_≡_, refl, sym, _∙_}
 use native.Mathlib.Omega.{arith}
 use denote.Ref.{now}
 use Rattle.sheet.specs.Spelling.{lineBelow}
-use Rattle.sheet.proofs.Steps.{below-next, below-none, below-done}
+use Rattle.sheet.specs.SpellingLaws.{below-next, below-none, below-done}
 use borrow.Author.Needs.{needs}
 use Rattle.sheet.proofs.letters.line_of.Statement.{statement}
 use Rattle.sheet.proofs.letters.line_of.Tie as tie

@@ -1,0 +1,139 @@
+-- A phase that refuses refuses the file, and a phase that passes hands on. Assumes nothing.
+use Prim.Native.Nat.{ℕ, _+_, _-_, _≤_, _<_}
+use mathlib.Core.Path.{_≡_, refl, sym, _∙_, ap}
+use mathlib.Core.List.{List, _++_}
+use native.Mathlib.Omega.{arith}
+use lib.ListN.{length, take, drop, replicate, length-replicate, replicate-append-replicate}
+use lib.Seq.{take-at, drop-at}
+use Rattle.gate.specs.Gate.{cleared}
+use Rattle.gate.specs.declared.Refusal.{Refusal}
+use Rattle.parser.specs.Parse.{Phase, refused, passed, andThen, Named, Contents, contents, headOf, afterHead, parse}
+use Rattle.format.specs.Format.{most}
+use borrow.Author.Tests.{lt-ltb, le-ltb}
+use Rattle.parser.specs.PhaseAnswers.{headAnswer, statesAnswer, Fills, NamesRead, NumbersRead, FileRead}
+use Rattle.parser.specs.Rows.{Holds}
+use Rattle.automaton.specs.Automaton.{InRange}
+use Rattle.parser.specs.declared.Place.{Place}
+use Rattle.parser.specs.declared.File.{File}
+use Rattle.parser.specs.declared.Head.the-variants as H
+use Rattle.parser.specs.declared.Names.the-variants as N
+use Rattle.parser.specs.declared.Sizes.{Sizes}
+use Rattle.parser.specs.declared.Sets.{Sets}
+use Rattle.parser.specs.declared.File.the-variants as F
+use Rattle.parser.specs.declared.States.the-variants as Q
+use Rattle.parser.specs.declared.End.the-variants as E
+
+-- A TABLE OF ZEROS: the 128 sets, and the rest
+module _ (t : List ℕ) (zeros : t ≡ cleared t) (long : 128 ≤ length t) where
+  in-two : t ≡ replicate 128 0 ++ replicate (length t - 128) 0
+  in-two =
+      let k : length t ≡ 128 + (length t - 128) = omega arith in
+      zeros ∙ (ap (λ (n : ℕ). replicate {A = ℕ} n 0) k ∙ sym (replicate-append-replicate 128 (length t - 128) 0))
+
+  pub sets-zero : take 128 t ≡ replicate 128 0
+  sets-zero =
+      ap (λ (x : List ℕ). take 128 x) in-two ∙
+      take-at (replicate 128 0) (replicate (length t - 128) 0) 128 (length-replicate {A = ℕ} 128 0)
+
+  pub rest-zero : drop 128 t ≡ replicate (length t - 128) 0
+  rest-zero =
+      ap (λ (x : List ℕ). drop 128 x) in-two ∙
+      drop-at (replicate 128 0) (replicate (length t - 128) 0) 128 (length-replicate {A = ℕ} 128 0)
+
+-- THE STATE LINES
+pub states-refuse :
+    (p : Phase Sets) (next : Sets → Phase Contents) (t u : List ℕ) (r : Refusal) →
+    Q.Refused r ≡ statesAnswer p → u ≡ cleared t → NumbersRead (andThen p next) t u (F.Refused r)
+states-refuse (refused number line) next t u r e h = (cc, h)
+states-refuse (passed q) next t u r e h = absurd (let z : _≡_ {A = ℕ} 0 1 = cc in omega arith)
+
+pub states-pass : (p : Phase Sets) (next : Sets → Phase Contents) (q : Sets) → Q.Are q ≡ statesAnswer p → andThen p next ≡ next q
+states-pass (refused number line) next q e = absurd (let z : _≡_ {A = ℕ} 0 1 = cc in omega arith)
+states-pass (passed q′) next q e = let g : q′ ≡ q = cc in ap next g
+
+-- THE TRANSITION LINES, the last phase
+module _ (z : Sizes) (y : Named) (q : Sets) where
+  pub transitions-refuse :
+      (p : Phase (List ℕ)) (t u rest v : List ℕ) (r : Refusal) →
+      Fills p rest v (E.Refused r) → u ≡ cleared t → NumbersRead (andThen p (λ table. passed (contents z y q table))) t u (F.Refused r)
+  transitions-refuse (refused number line) t u rest v r e h = (cc, h)
+  transitions-refuse (passed table) t u rest v r e h = absurd (let d = e .0 in let z : _≡_ {A = ℕ} 0 1 = cc in omega arith)
+
+  pub transitions-pass :
+      (p : Phase (List ℕ)) (t u rest : List ℕ) →
+      Fills p rest u E.Reached → rest ≡ replicate (length t - 128) 0 →
+      NumbersRead (andThen p (λ table. passed (contents z y q table))) t u
+      (F.Is (record { n = z .n; k = z .k; initial = q .initial; recurring = q .recurring }))
+  transitions-pass (refused number line) t u rest e h = absurd (let z : _≡_ {A = ℕ} 0 1 = cc in omega arith)
+  transitions-pass (passed table) t u rest e h = (refl, e .1 ∙ ap (λ (x : List ℕ). table ++ x) h)
+
+-- THE FIRST LINE
+pub head-refuse :
+    (p : Phase Sizes) (next : Sizes → Phase Contents) (t u rows : List ℕ) (r : Refusal) →
+    H.Refused r ≡ headAnswer p → u ≡ cleared t → FileRead (andThen p next) t u rows (F.Refused r)
+head-refuse (refused number line) next t u rows r e h = (cc, h)
+head-refuse (passed z) next t u rows r e h = absurd (let z : _≡_ {A = ℕ} 0 1 = cc in omega arith)
+
+pub head-pass : (p : Phase Sizes) (next : Sizes → Phase Contents) (z : Sizes) → H.Is z ≡ headAnswer p → andThen p next ≡ next z
+head-pass (refused number line) next z e = absurd (let z : _≡_ {A = ℕ} 0 1 = cc in omega arith)
+head-pass (passed z′) next z e = let g : z′ ≡ z = cc in ap next g
+
+-- THE NAME LINES
+pub names-refuse :
+    (k : ℕ) (p : Phase Named) (next : Named → Phase Contents) (t u rows : List ℕ) (r : Refusal) →
+    NamesRead k p rows (N.Refused r) → u ≡ cleared t → FileRead (andThen p next) t u rows (F.Refused r)
+names-refuse k (refused number line) next t u rows r e h = (cc, h)
+names-refuse k (passed y) next t u rows r e h = absurd (let d = e .0 in let z : _≡_ {A = ℕ} 0 1 = cc in omega arith)
+
+-- what is known once they are read
+pub record Passes (k : ℕ) (p : Phase Named) (rows : List ℕ) (place : Place) : Type 0 where
+  pub named : Named
+  pub is : p ≡ passed named
+  pub at : named .at ≡ place .at
+  pub line : named .line ≡ place .line
+  pub small-line : place .line ≤ 10
+  pub small-at : place .at ≤ 252
+  pub all : length (named .names) ≡ k
+  pub holds : Holds (named .names) rows
+
+pub names-pass : (k : ℕ) (p : Phase Named) (rows : List ℕ) (place : Place) → NamesRead k p rows (N.Are place) → Passes k p rows place
+names-pass k (refused number line) rows place e = absurd (let z : _≡_ {A = ℕ} 0 1 = cc in omega arith)
+names-pass k (passed y) rows place e =
+    let d : N.Are place ≡ N.Are (record { at = y .at; line = y .line }) = e .0 in
+    let g : place ≡ record { at = y .at; line = y .line } = cc in
+    record {
+      named = y;
+      is = refl;
+      at = sym (ap (λ (p : Place). p .at) g);
+      line = sym (ap (λ (p : Place). p .line) g);
+      small-line = rw g (e .1);
+      small-at = rw g (e .2);
+      all = e .3;
+      holds = e .4;
+    }
+
+-- the names of the file are those of the name lines
+module _ (z : Sizes) (y : Named) (rows : List ℕ) (range : InRange (z .n) (z .k)) (all : length (y .names) ≡ z .k) (h : Holds (y .names) rows) where
+  pub file-read :
+      (p : Phase Sets) (next : Sets → Phase (List ℕ)) (t u : List ℕ) (r : File) →
+      NumbersRead (andThen p (λ q. andThen (next q) (λ table. passed (contents z y q table)))) t u r →
+      FileRead (andThen p (λ q. andThen (next q) (λ table. passed (contents z y q table)))) t u rows r
+  file-read (refused number line) next t u r e = e
+  file-read (passed q) next t u r e = cases (next q) e
+    where
+      cases :
+          (p : Phase (List ℕ)) →
+          NumbersRead (andThen p (λ table. passed (contents z y q table))) t u r →
+          FileRead (andThen p (λ table. passed (contents z y q table))) t u rows r
+      cases (refused number line) e = e
+      cases (passed table) e = (e .0, e .1, range, all, h)
+
+-- THE SIZE
+module _ (s : List ℕ) where
+  pub too-large : most < length s → parse s ≡ refused 2 0
+  unfolding parse
+  too-large h = simp (lt-ltb most (length s) h)
+
+  pub not-large : length s ≤ most → parse s ≡ andThen (headOf s) (afterHead s)
+  unfolding parse
+  not-large h = simp (le-ltb most (length s) h)

@@ -1,0 +1,130 @@
+-- One step of each definition that a loop goes along. Assumes nothing.
+use Prim.Native.Nat.{ℕ, suc, _+_, _-_, _*_, _^_, _<_, _≤_}
+use mathlib.Core.Path.{_≡_, sym, _∙_, subst}
+use mathlib.Core.List.{List, [], _∷_, _++_}
+use lib.ListN.{length, getD, length-append}
+use lib.Seq.{sets}
+use lib.Pow.{pow-add}
+use native.Mathlib.Nat.{one-mul, mul-le-mul-right}
+use native.Mathlib.Omega.{arith}
+use borrow.Author.Tests.{eq-eqb, ne-eqb}
+use Rattle.format.specs.Format.{place, entered}
+use Rattle.parser.specs.Parse.{refused, passed, stateLineAt, statesAt, transitionLineAt, transitionsAt, endAt, nameLineAt, letterOf, namesAt}
+use Rattle.text.specs.Bytes.{stretch}
+use Rattle.names.specs.Name.{compose}
+use Rattle.names.specs.Row.{padded}
+use Rattle.names.specs.NameLaws.{composed-name}
+use Rattle.parser.specs.Rows.{Holds, FirstLike}
+use Rattle.parser.specs.RowsLaws.{letter-is, holds-more, name-found}
+use Rattle.parser.specs.NameLaws.{name-line-is}
+use Rattle.names.specs.declared.Ending.the-variants as E
+use Rattle.parser.specs.declared.StateLine.the-variants as S
+use Rattle.parser.specs.PhaseAnswers.{endAnswer, Fills}
+use Rattle.parser.specs.EndLaws.{end-same}
+use Rattle.parser.specs.declared.TransitionLine.the-variants as T
+use Rattle.parser.specs.declared.End.{End}
+
+-- a flag times a number is at most the number
+pub flag-part : (a b : ℕ) → a ≤ 1 → a * b ≤ b
+flag-part a b h = rw one-mul at (mul-le-mul-right b h)
+
+pub double : (q : ℕ) → 2 ^ q * 2 ≡ 2 ^ (q + 1)
+double q = sym (pow-add 2 q 1)
+
+-- THE STATE LINES: q of n are read
+module _ (s : List ℕ) (line at q initial recurring n : ℕ) where
+  pub states-good :
+      {i r : ℕ} → q < n → stateLineAt s at q ≡ S.Is i r →
+      statesAt s line at q initial recurring (n - q) ≡
+      statesAt s (line + 1) (at + 11) (q + 1) (initial + i * 2 ^ q) (recurring + r * 2 ^ q) (n - (q + 1))
+  unfolding statesAt
+  states-good h e =
+      let k : n - q ≡ suc (n - (q + 1)) = omega arith in
+      rw k (simp e)
+
+  pub states-bad : q < n → stateLineAt s at q ≡ S.Bad → statesAt s line at q initial recurring (n - q) ≡ refused 7 line
+  unfolding statesAt
+  states-bad h e =
+      let k : n - q ≡ suc (n - (q + 1)) = omega arith in
+      rw k (simp e)
+
+  pub states-done :
+      n ≤ q →
+      statesAt s line at q initial recurring (n - q) ≡ passed (record { initial = initial; recurring = recurring; at = at; line = line })
+  unfolding statesAt
+  states-done h =
+      let k : n - q ≡ 0 = omega arith in
+      rw k
+
+-- THE TRANSITION LINES: g of them may still come
+module _ (s : List ℕ) (n k line at least : ℕ) (table : List ℕ) (f g : ℕ) (h : g ≡ suc f) where
+  pub transitions-good :
+      {from letter to : ℕ} → getD s at 0 ≡ 84 → transitionLineAt s at n k least ≡ T.Is from letter to →
+      transitionsAt s n k line at least table g ≡
+      transitionsAt s n k (line + 1) (at + 11) (place (record { from = from; letter = letter; to = to }) + 1)
+      (entered table (record { from = from; letter = letter; to = to })) f
+  unfolding transitionsAt
+  transitions-good t e = rw h (simp (eq-eqb _ _ t, e))
+
+  pub transitions-bad :
+      getD s at 0 ≡ 84 → transitionLineAt s at n k least ≡ T.Bad → transitionsAt s n k line at least table g ≡ refused 8 line
+  unfolding transitionsAt
+  transitions-bad t e = rw h (simp (eq-eqb _ _ t, e))
+
+  pub transitions-end : (getD s at 0 ≡ 84 → ⊥) → transitionsAt s n k line at least table g ≡ endAt 9 s line at table
+  unfolding transitionsAt
+  transitions-end t = rw h (simp (ne-eqb _ _ t))
+
+pub end-fills :
+    (s : List ℕ) (line at : ℕ) (t rest table : List ℕ) (r : End) →
+    r ≡ endAnswer (endAt 9 s line at []) → table ≡ t ++ rest → Fills (endAt 9 s line at t) rest table r
+end-fills s line at t rest table r e same =
+    end-same 9 s line at [] t (λ p q. r ≡ endAnswer p → Fills q rest table r) (λ n l e. e) (λ e. (e, same)) e
+
+-- the name lines as far as they are read: the next one is line `line`, stands at `at` and is of letter l
+pub record NamesSoFar (s : List ℕ) (k : ℕ) (rows : List ℕ) (line at l : ℕ) : Type 0 where
+  pub names : List (List ℕ)
+  pub count : length names ≡ l
+  pub goes : namesAt s line at names (k - l) ≡ namesAt s 2 12 [] k
+  pub holds : Holds names rows
+
+-- THE NAME LINES: l of k are read
+module _ {s : List ℕ} {k : ℕ} {rows : List ℕ} {line at l : ℕ} (z : NamesSoFar s k rows line at l) where
+  pub names-bad : l < k → nameLineAt s at l ≡ E.Bad → namesAt s 2 12 [] k ≡ refused 5 line
+  unfolding namesAt
+  names-bad h b =
+      let m : k - l ≡ suc (k - (l + 1)) = omega arith in
+      sym (z .goes) ∙ rw m (simp (z .count, b))
+
+  pub names-done : k ≤ l → namesAt s 2 12 [] k ≡ passed (record { names = z .names; at = at; line = line })
+  unfolding namesAt
+  names-done h =
+      let m : k - l ≡ 0 = omega arith in
+      sym (z .goes) ∙ rw m
+
+-- a name stands in the row behind those before it, and row r is the first that is like it
+pub record NameRead (s : List ℕ) (k : ℕ) (rows : List ℕ) (line l e r : ℕ) : Type 0 where
+  pub twice : (r ≡ l → ⊥) → namesAt s 2 12 [] k ≡ refused 6 line
+  pub more : r ≡ l → NamesSoFar s k rows (line + 1) (e + 1) (l + 1)
+
+pub name-read :
+    {s : List ℕ} {k : ℕ} {rows v : List ℕ} {line at l e r : ℕ} →
+    NamesSoFar s k rows line at l → l < k → nameLineAt s at l ≡ E.At e → 24 * l + 24 ≤ length rows →
+    v ≡ sets rows (24 * l) (padded (compose (stretch s (at + 5) e))) → FirstLike v l r → NameRead s k v line l e r
+unfolding namesAt
+name-read {s} {k} {rows} {v} {line} {at} {l} {e} {r} z h b fits stored like =
+    let x = compose (stretch s (at + 5) e) in
+    let name = composed-name (stretch s (at + 5) e) (name-line-is s at l e b .is-name) in
+    let letter : letterOf (z .names) x ≡ r =
+    letter-is (z .names) x r
+    (name-found (z .names) rows l x (z .count) fits (z .holds) name r (subst (λ (v : List ℕ). FirstLike v l r) stored like)) in
+    let m : k - l ≡ suc (k - (l + 1)) = omega arith in
+    record {
+      twice = λ d. sym (z .goes) ∙ rw m (simp (z .count, b, ne-eqb _ _ (λ i. d (sym letter ∙ i))));
+      more = λ d. record {
+        names = z .names ++ (x ∷ []);
+        count = simp length-append (omega (arith, z .count));
+        goes = sym (rw m (simp (z .count, b, eq-eqb _ _ (letter ∙ d)))) ∙ z .goes;
+        holds = subst (λ (v : List ℕ). Holds (z .names ++ (x ∷ [])) v) (sym stored) (holds-more (z .names) rows l x (z .count) fits (z .holds) name);
+      };
+    }

@@ -1,0 +1,184 @@
+-- The loop's invariant: what is left of the definition, from the place and the table reached, is the whole of it. Assumes nothing.
+use Prim.Native.Nat.{_+_, _-_, _*_, _≤_, _<_}
+use mathlib.Core.Path.{_≡_, refl, sym, _∙_}
+use native.Mathlib.Omega.{arith}
+use denote.Ref.{now}
+use lib.ListN.{length, getD, take, drop, length-set, take-append-drop}
+use lib.Seq.{drop-set-lt, take-set-lt, getD-take}
+use Rattle.format.specs.Format.{place, entered}
+use Rattle.parser.specs.Parse.{transitionsAt}
+use Rattle.parser.proofs.Steps.{transitions-good, transitions-bad, transitions-end, end-fills}
+use Rattle.text.specs.WordLaws.{within}
+use borrow.Author.Needs.{needs}
+use Rattle.parser.proofs.transition_lines.read_transitions.Statement.{statement}
+use Rattle.parser.proofs.transition_lines.read_transitions.Tie as tie
+
+abbrev Inv-loop : tie.InvT-loop
+Inv-loop s n k first start table₀ line₀ at₀ least₀ table line at least =
+    (first ≤ line) × (at + 11 * first ≡ start + 11 * line) × (line ≤ length s + first) × (length table ≡ length table₀) ×
+    (drop 128 table ≡ drop 128 table₀) ×
+    (transitionsAt s n k line at least (take 128 table) (length s + 1 + first - line) ≡
+    transitionsAt s n k first start 0 (take 128 table₀) (length s + 1))
+
+abbrev μ-loop : tie.MeasureT-loop
+μ-loop s n k first start table₀ line₀ at₀ least₀ table line at least = length s + 1 + first - line
+
+-- in a turn a T stands at the place, which so lies within the file
+a-T : (c : tie.Then1 Inv-loop μ-loop) → getD (now (c .before .before .before .before .before .args .s)) (c .before .before .loop .at) 0 ≡ 84
+a-T c = sym (c .before .opening .ensures) ∙ c .if1 .taken
+
+inside : (c : tie.Then1 Inv-loop μ-loop) → c .before .before .loop .at < length (now (c .before .before .before .before .before .args .s))
+inside c = within (now (c .before .before .before .before .before .args .s)) (c .before .before .loop .at) (omega (arith, a-T c))
+
+-- from, letter and to are small
+small :
+    (c : tie.After-known-told Inv-loop μ-loop) →
+    (c .before .from .given .0 .0 < 16) × (c .before .from .given .0 .1 .0 < 8) × (c .before .from .given .0 .1 .1 .0 < 16)
+small c = rw (c .before .from .given .1) at (c .before .before .before .transition-line .ensures .1)
+
+loop-holds : tie.Need-loop-holds Inv-loop μ-loop
+loop-holds c =
+    let a = c .before .before .args in
+    let z : length (now (a .s)) + 1 + a .first - a .first ≡ length (now (a .s)) + 1 = omega arith in
+    (omega arith, omega arith, omega arith, refl, refl, rw z)
+
+opening-requires : tie.Need-opening-requires Inv-loop μ-loop
+opening-requires c κs = search needs
+
+transition-line-requires : tie.Need-transition-line-requires Inv-loop μ-loop
+transition-line-requires c κs = omega (arith, inside c)
+
+enum-known-from : tie.Need-enum-known-from Inv-loop μ-loop
+enum-known-from c = search needs
+
+enum-told : tie.Need-enum-told Inv-loop μ-loop
+enum-told c = search needs
+
+same-length : tie.Need-same-length Inv-loop μ-loop
+same-length c = c .before .before .before .before .before .loop .inv .3
+
+returns : tie.Need-returns Inv-loop μ-loop
+returns c =
+    let l = c .before .before .before .before .before .loop in
+    let a = c .before .before .before .before .before .before .before .before .args in
+    let s = now (a .s) in
+    let f = length s + a .first - l .line in
+    let e =
+    sym
+    (transitions-bad s (a .n) (a .k) (l .line) (l .at) (l .least) (take 128 (l .table)) f (length s + 1 + a .first - l .line) (omega arith)
+    (a-T (c .before .before .before)) (sym (c .before .before .transition-line .ensures .0) ∙ c .enum-told .given .1)) ∙
+    l .inv .5 in
+    rw (← e) refl
+
+mul-cell : tie.Need-mul-cell Inv-loop μ-loop
+mul-cell c = omega (arith, small c)
+
+add-cell : tie.Need-add-cell Inv-loop μ-loop
+add-cell c = omega (arith, small c)
+
+mul-insert : tie.Need-mul-insert Inv-loop μ-loop
+mul-insert c = omega (arith, small c)
+
+slice-read-insert : tie.Need-slice-read-insert Inv-loop μ-loop
+slice-read-insert c = omega (arith, small (c .before))
+
+insert-requires : tie.Need-insert-requires Inv-loop μ-loop
+insert-requires c κs = omega (arith, small (c .before))
+
+mul-table : tie.Need-mul-table Inv-loop μ-loop
+mul-table c = omega (arith, small (c .before .before))
+
+slice-write-table : tie.Need-slice-write-table Inv-loop μ-loop
+slice-write-table c = omega (arith, small (c .before .before))
+
+mul-least : tie.Need-mul-least Inv-loop μ-loop
+mul-least c = omega (arith, small (c .before .before))
+
+add-least : tie.Need-add-least Inv-loop μ-loop
+add-least c = omega (arith, small (c .before .before))
+
+add-least-2 : tie.Need-add-least-2 Inv-loop μ-loop
+add-least-2 c = omega (arith, small (c .before .before))
+
+add-line : tie.Need-add-line Inv-loop μ-loop
+add-line c = search needs
+
+add-at : tie.Need-add-at Inv-loop μ-loop
+add-at c = search needs
+
+loop-less : tie.Need-loop-less Inv-loop μ-loop
+loop-less c = omega (arith, inside (c .before .before .before .before .before .before))
+
+loop-again : tie.Need-loop-again Inv-loop μ-loop
+unfolding entered
+loop-again c =
+    let l = c .before .before .before .before .before .before .before .before .loop in
+    let a = c .before .before .before .before .before .before .before .before .before .before .before .args in
+    let z = c .before .before .before .from .given .0 in
+    let w = inside (c .before .before .before .before .before .before) in
+    let s = now (a .s) in
+    let f = length s + 1 + a .first - (l .line + 1) in
+    let g =
+    transitions-good s (a .n) (a .k) (l .line) (l .at) (l .least) (take 128 (l .table)) f (length s + 1 + a .first - l .line) (omega arith)
+    (a-T (c .before .before .before .before .before .before))
+    (sym (c .before .before .before .before .before .transition-line .ensures .0) ∙ c .before .before .before .from .given .1) in
+    let b : 8 * z .0 + z .1 .0 < 128 = omega (arith, small (c .before .before)) in (
+      omega arith,
+      omega arith,
+      omega arith,
+      simp length-set (l .inv .3),
+      drop-set-lt 128 (l .table) (8 * z .0 + z .1 .0) (c .insert .result) b ∙ l .inv .4,
+      rw (take-set-lt 128 (l .table) (8 * z .0 + z .1 .0) (c .insert .result) b, c .insert .ensures, ← getD-take 128 (l .table) (8 * z .0 + z .1 .0) 0 b) (sym g ∙ l .inv .5),
+    )
+
+end-line-requires : tie.Need-end-line-requires Inv-loop μ-loop
+end-line-requires c κs = search needs
+
+same-length-2 : tie.Need-same-length-2 Inv-loop μ-loop
+same-length-2 c = c .before .before .before .loop .inv .3
+
+returns-2 : tie.Need-returns-2 Inv-loop μ-loop
+returns-2 c =
+    let l = c .before .before .before .loop in
+    let a = c .before .before .before .before .before .before .args in
+    let s = now (a .s) in
+    let f = length s + a .first - l .line in
+    let e =
+    sym
+    (transitions-end s (a .n) (a .k) (l .line) (l .at) (l .least) (take 128 (l .table)) f (length s + 1 + a .first - l .line) (omega arith)
+    (λ e. c .before .if1 .left (c .before .before .opening .ensures ∙ e))) ∙
+    l .inv .5 in
+    rw (← e)
+    (end-fills s (l .line) (l .at) (take 128 (l .table)) (drop 128 (now (a .table))) (l .table) (c .end-line .result) (c .end-line .ensures)
+    (rw (← l .inv .4) (sym (take-append-drop 128 (l .table)))))
+
+pub read-transitions-spec : {M : Type 1} → statement M
+read-transitions-spec =
+    tie.close
+    (tie.spec
+    Inv-loop
+    μ-loop
+    loop-holds
+    opening-requires
+    transition-line-requires
+    enum-known-from
+    enum-told
+    same-length
+    returns
+    mul-cell
+    add-cell
+    mul-insert
+    slice-read-insert
+    insert-requires
+    mul-table
+    slice-write-table
+    mul-least
+    add-least
+    add-least-2
+    add-line
+    add-at
+    loop-less
+    loop-again
+    end-line-requires
+    same-length-2
+    returns-2)

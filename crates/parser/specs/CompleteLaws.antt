@@ -1,0 +1,199 @@
+-- The other way round: the lines of a sheet's upper part are read through, and behind them its fault is met, or its end. Assumes nothing.
+use Prim.Native.Nat.{ℕ, suc, _+_, _-_, _*_, _≤_, _<_}
+use mathlib.Core.Path.{_≡_, refl, ap, _∙_}
+use mathlib.Core.List.{List, [], _++_, map, append-assoc}
+use lib.ListN.{length, drop, replicate, length-append, length-drop}
+use borrow.Author.Tests.{lt-ltb, le-ltb}
+use native.Mathlib.Omega.{arith}
+use native.Mathlib.Nat.{zero-add}
+use Rattle.names.specs.Name.{compose}
+use Rattle.format.specs.Format.{State, Sheet, headLine, nameLines, stateLines, transitionLines, endLine, lines, FlagsRight, stateLine, leastAfter, most, FileIs, Above, NameDue, StateDue, lineDue, Faulty, flagSet, tableOf}
+use Rattle.format.specs.FormatLaws.{head-length, states-length, transitions-length}
+use Rattle.parser.specs.declared.Sizes.{Sizes}
+use Rattle.parser.specs.declared.Sets.{Sets}
+use Rattle.parser.specs.declared.StateLine.the-variants as S
+use Rattle.parser.specs.Parse.{stateLineAt, Phase, refused, passed, andThen, Named, namesAt, statesAt, transitionsAt, Contents, contents, afterHead, afterNames, afterStates, parse}
+use Rattle.text.specs.BytesLaws.{stretch-rest}
+use Rattle.parser.specs.HeadLaws.{head-right, head-range, head-form}
+use Rattle.parser.specs.NameLaws.{NameFault, wrong-name, known-name, NamesAlong, names-along, names-fault}
+use Rattle.parser.specs.StateLaws.{state-none, states-along}
+use Rattle.parser.specs.TransitionLaws.{EndFault, wrong-transition, no-end, not-last, transitions-along, transitions-end, transitions-fault}
+
+module _ (s : List ℕ) (σ : Sheet) (rest : List ℕ) (above : Above s σ rest) where
+  sizes : Sizes
+  sizes = record { n = σ .n; k = σ .k }
+
+  -- the rest of the file behind each kind of lines
+  behind-states : List ℕ
+  behind-states = transitionLines (σ .transitions) ++ rest
+
+  behind-names : List ℕ
+  behind-names = stateLines 0 (σ .states) ++ behind-states
+
+  behind-head : List ℕ
+  behind-head = nameLines 0 (σ .names) ++ behind-names
+
+  text : s ≡ headLine (σ .n) (σ .k) ++ behind-head
+  unfolding lines behind-head behind-names behind-states
+  text = above .text ∙ simp append-assoc
+
+  from-names : drop 12 s ≡ behind-head
+  from-names = rw head-length at (stretch-rest s 0 (headLine (σ .n) (σ .k)) behind-head text)
+
+  parse-head : parse s ≡ afterHead s sizes
+  unfolding parse sizes
+  parse-head = simp (le-ltb most (length s) (above .size), head-right s (σ .n) (σ .k) behind-head (above .right .range) text)
+
+  -- behind the names
+  names-here : (todo : ℕ) → length (σ .names) ≤ σ .k → NamesAlong s behind-names (σ .names) todo 2 12 []
+  unfolding behind-head
+  names-here todo h =
+      let r : σ .k ≤ 8 = above .right .range .3 in
+      names-along s behind-names (σ .names) todo 2 12 [] (omega arith) (above .right .names) from-names
+
+  -- a fault where a name is due
+  pub name-found : NameDue σ → {number : ℕ} → NameFault (σ .names) rest number → parse s ≡ refused number (lineDue σ)
+  unfolding sizes behind-names behind-states stateLines transitionLines
+  name-found due {number} fault =
+      let m : ℕ = σ .k - suc (length (σ .names)) in
+      let few : length (σ .names) < σ .k = due .names in
+      let most-k : σ .k ≤ 8 = above .right .range .3 in
+      let a = names-here (suc m) (omega arith) in
+      let t : drop (a .behind) s ≡ rest = a .text ∙ rw (due .states, due .transitions) in
+      let k : σ .k ≡ length (σ .names) + suc m = omega arith in
+      let phase : namesAt s 2 12 [] (σ .k) ≡ refused number (2 + length (σ .names)) =
+      ap (namesAt s 2 12 []) k ∙ (a .goes ∙ names-fault s (2 + length (σ .names)) (a .behind) (σ .names) m (omega arith) (rw t fault)) in
+      let z : length (σ .states) ≡ 0 = ap length (due .states) in
+      let y : length (σ .transitions) ≡ 0 = ap length (due .transitions) in
+      let l : 2 + length (σ .names) ≡ lineDue σ = omega arith in
+      parse-head ∙ (ap (λ (p : Phase Named). andThen p (afterNames s sizes)) phase ∙ ap (refused number) l)
+
+  module _ (all : length (σ .names) ≡ σ .k) where
+    along : NamesAlong s behind-names (σ .names) 0 2 12 []
+    along = names-here 0 (omega arith)
+
+    named : Named
+    named = record { names = map compose (σ .names); at = along .behind; line = 2 + length (σ .names) }
+
+    parse-names : parse s ≡ afterNames s sizes named
+    unfolding sizes named namesAt
+    parse-names =
+        let k : σ .k ≡ length (σ .names) + 0 = omega arith in
+        let phase : namesAt s 2 12 [] (σ .k) ≡ passed named = ap (namesAt s 2 12 []) k ∙ along .goes in
+        parse-head ∙ ap (λ (p : Phase Named). andThen p (afterNames s sizes)) phase
+
+    -- behind the states
+    abbrev states-here : ℕ → Phase Sets
+    states-here todo =
+        statesAt s (2 + length (σ .names) + length (σ .states)) (along .behind + 11 * length (σ .states)) (0 + length (σ .states))
+        (0 + flagSet (λ z. z .initial) 0 (σ .states)) (0 + flagSet (λ z. z .recurring) 0 (σ .states)) todo
+
+    from-states : drop (along .behind + 11 * length (σ .states)) s ≡ behind-states
+    unfolding behind-names
+    from-states = rw states-length at (stretch-rest s (along .behind) (stateLines 0 (σ .states)) behind-states (along .text))
+
+    states-goes : (todo : ℕ) → length (σ .states) ≤ σ .n → statesAt s (named .line) (named .at) 0 0 0 (length (σ .states) + todo) ≡ states-here todo
+    unfolding named behind-names
+    states-goes todo h =
+        let r : σ .n ≤ 16 = above .right .range .1 in
+        states-along s behind-states (σ .states) todo (2 + length (σ .names)) (along .behind) 0 0 0 (omega arith) (above .right .states) (along .text)
+
+    -- a fault where a state is due
+    pub state-found : StateDue σ → ((z : State) (after : List ℕ) → FlagsRight z → rest ≡ stateLine (length (σ .states)) z ++ after → ⊥) → parse s ≡ refused 7 (lineDue σ)
+    unfolding sizes behind-states transitionLines statesAt
+    state-found due none =
+        let m : ℕ = σ .n - suc (length (σ .states)) in
+        let few : length (σ .states) < σ .n = due .states in
+        let n : σ .n ≡ length (σ .states) + suc m = omega arith in
+        let t : drop (along .behind + 11 * length (σ .states)) s ≡ rest = from-states ∙ rw (due .transitions) in
+        let bad : stateLineAt s (along .behind + 11 * length (σ .states)) (0 + length (σ .states)) ≡ S.Bad =
+        state-none s (along .behind + 11 * length (σ .states)) (0 + length (σ .states)) (rw (t, zero-add) none) in
+        let phase : statesAt s (named .line) (named .at) 0 0 0 (σ .n) ≡ refused 7 (2 + length (σ .names) + length (σ .states)) =
+        ap (statesAt s (named .line) (named .at) 0 0 0) n ∙ (states-goes (suc m) (omega arith) ∙ simp bad) in
+        let y : length (σ .transitions) ≡ 0 = ap length (due .transitions) in
+        let l : 2 + length (σ .names) + length (σ .states) ≡ lineDue σ = omega arith in
+        parse-names ∙ (ap (λ (p : Phase Sets). andThen p (afterStates s sizes named)) phase ∙ ap (refused 7) l)
+
+    module _ (every : length (σ .states) ≡ σ .n) where
+      sets : Sets
+      sets = record {
+        initial = 0 + flagSet (λ z. z .initial) 0 (σ .states);
+        recurring = 0 + flagSet (λ z. z .recurring) 0 (σ .states);
+        at = along .behind + 11 * length (σ .states);
+        line = 2 + length (σ .names) + length (σ .states);
+      }
+
+      parse-states : parse s ≡ afterStates s sizes named sets
+      unfolding sizes sets statesAt
+      parse-states =
+          let n : σ .n ≡ length (σ .states) + 0 = omega arith in
+          let phase : statesAt s (named .line) (named .at) 0 0 0 (σ .n) ≡ passed sets = ap (statesAt s (named .line) (named .at) 0 0 0) n ∙ states-goes 0 (omega arith) in
+          parse-names ∙ ap (λ (p : Phase Sets). andThen p (afterStates s sizes named)) phase
+
+      -- behind the transitions
+      end : ℕ
+      end = sets .at + 11 * length (σ .transitions)
+
+      from-end : drop end s ≡ rest
+      unfolding end sets behind-states
+      from-end = rw transitions-length at (stretch-rest s (along .behind + 11 * length (σ .states)) (transitionLines (σ .transitions)) rest from-states)
+
+      abbrev table : List ℕ
+      table = tableOf (replicate 128 0) (σ .transitions)
+
+      abbrev transitions-here : ℕ → Phase (List ℕ)
+      transitions-here fuel = transitionsAt s (σ .n) (σ .k) (lineDue σ) end (leastAfter 0 (σ .transitions)) table fuel
+
+      transitions-few : length (σ .transitions) ≤ length s
+      unfolding sets behind-states
+      transitions-few =
+          let e : length (drop (along .behind + 11 * length (σ .states)) s) ≡ 11 * length (σ .transitions) + length rest =
+          ap length from-states ∙ simp (length-append, transitions-length) in
+          omega (arith, length-drop (along .behind + 11 * length (σ .states)) s)
+
+      parse-transitions : parse s ≡ andThen (transitions-here (suc (length s - length (σ .transitions)))) (λ t. passed (contents sizes named sets t))
+      unfolding sizes sets end behind-states
+      parse-transitions =
+          let few = transitions-few in
+          let n : σ .n ≤ 1000 = omega (arith, above .right .range .1) in
+          let k : σ .k ≤ 1000 = omega (arith, above .right .range .3) in
+          let f : length s + 1 ≡ length (σ .transitions) + suc (length s - length (σ .transitions)) = omega arith in
+          let l : 2 + length (σ .names) + length (σ .states) + length (σ .transitions) ≡ lineDue σ = omega arith in
+          let go = transitions-along s rest (σ .n) (σ .k) n k (σ .transitions) (suc (length s - length (σ .transitions)))
+          (2 + length (σ .names) + length (σ .states)) (along .behind + 11 * length (σ .states)) 0 (replicate 128 0) (above .right .transitions) from-states in
+          let phase : transitionsAt s (σ .n) (σ .k) (sets .line) (sets .at) 0 (replicate 128 0) (length s + 1) ≡ transitions-here (suc (length s - length (σ .transitions))) =
+          ap (transitionsAt s (σ .n) (σ .k) (sets .line) (sets .at) 0 (replicate 128 0)) f
+          ∙ (go ∙ ap (λ (m : ℕ). transitionsAt s (σ .n) (σ .k) m end (leastAfter 0 (σ .transitions)) table (suc (length s - length (σ .transitions)))) l) in
+          parse-states ∙ ap (λ (p : Phase (List ℕ)). andThen p (λ t. passed (contents sizes named sets t))) phase
+
+      -- a fault where a transition or END is due
+      pub end-found : {number line : ℕ} → EndFault (σ .n) (σ .k) (leastAfter 0 (σ .transitions)) rest (lineDue σ) number line → parse s ≡ refused number line
+      end-found fault =
+          parse-transitions
+          ∙ ap (λ (p : Phase (List ℕ)). andThen p (λ t. passed (contents sizes named sets t)))
+          (transitions-fault s (σ .n) (σ .k) (length s - length (σ .transitions)) (lineDue σ) end (leastAfter 0 (σ .transitions)) table (rw from-end fault))
+
+      pub sheet-found : rest ≡ endLine → (c : Contents) × (parse s ≡ passed c)
+      sheet-found e = (
+        contents sizes named sets table,
+        parse-transitions
+            ∙ ap (λ (p : Phase (List ℕ)). andThen p (λ t. passed (contents sizes named sets t)))
+            (transitions-end s (σ .n) (σ .k) (length s - length (σ .transitions)) (lineDue σ) end (leastAfter 0 (σ .transitions)) table (from-end ∙ e)),
+      )
+
+-- EVERY FAULT is the refusal
+pub faulty-parse : (s : List ℕ) (number line : ℕ) → Faulty s number line → parse s ≡ refused number line
+unfolding parse
+faulty-parse s number line (Faulty.size h) = simp (lt-ltb most (length s) h)
+faulty-parse s number line (Faulty.head size none) = simp (le-ltb most (length s) size, head-form s none)
+faulty-parse s number line (Faulty.range size n k rest hn hk e out) = simp (le-ltb most (length s) size, head-range s n k rest hn hk e out)
+faulty-parse s number line (Faulty.name σ rest above due none) = name-found s σ rest above due (wrong-name none)
+faulty-parse s number line (Faulty.twice σ rest above due x after is e d) = name-found s σ rest above due (known-name x after is e d)
+faulty-parse s number line (Faulty.state σ rest above due none) = state-found s σ rest above (due .names) due none
+faulty-parse s number line (Faulty.transition σ rest above due first none) = end-found s σ rest above (due .names) (due .states) (wrong-transition first none)
+faulty-parse s number line (Faulty.end σ rest above due other none) = end-found s σ rest above (due .names) (due .states) (no-end other none)
+faulty-parse s number line (Faulty.behind σ after above due some) = end-found s σ (endLine ++ after) above (due .names) (due .states) (not-last after refl some)
+
+-- EVERY SHEET FILE is read
+pub file-read : (s : List ℕ) (σ : Sheet) → FileIs s σ → (c : Contents) × (parse s ≡ passed c)
+file-read s σ h = sheet-found s σ endLine (record { size = h .size; right = h .right; text = h .text }) (h .all-names) (h .all-states) refl

@@ -1,0 +1,14 @@
+pub mod Parse
+pub mod Rows
+pub mod PhaseAnswers
+pub mod FieldLaws
+pub mod EndLaws
+pub mod LetterLaws
+pub mod HeadLaws
+pub mod NameLaws
+pub mod StateLaws
+pub mod TransitionLaws
+pub mod ParseLaws
+pub mod CompleteLaws
+pub mod UniqueLaws
+pub mod RowsLaws

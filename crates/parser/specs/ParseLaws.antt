@@ -1,0 +1,181 @@
+-- A file read from the top is the sheet file of Format or has its fault: the phases, one after the other. Assumes nothing.
+use Prim.Native.Nat.{ℕ, suc, _+_, _≤_}
+use mathlib.Core.Path.{_≡_, refl, sym, subst, _∙_}
+use mathlib.Core.Bool.{Bool, true, false}
+use mathlib.Core.List.{List, [], _++_, map, append-assoc}
+use lib.ListN.{length, drop, replicate}
+use lib.Dec.{ltb}
+use borrow.Author.Tests.{ltb-true, ltb-false}
+use native.Mathlib.Omega.{arith}
+use native.Mathlib.Nat.{zero-add}
+use Rattle.text.specs.Choice.{choose}
+use Rattle.names.specs.Name.{compose}
+use Rattle.automaton.specs.Automaton.{InRange}
+use Rattle.format.specs.Format.{State, Transition, Sheet, headLine, stateLine, FlagsRight, nameLines, stateLines, transitionLines, endLine, lines, leastAfter, most, FileIs, Above, NameDue, StateDue, EndDue, lineDue, Faulty, numbers}
+use Rattle.parser.specs.declared.Sizes.{Sizes}
+use Rattle.parser.specs.declared.Sets.{Sets}
+use Rattle.parser.specs.Parse.{Phase, refused, passed, andThen, headOf, Named, namesAt, statesAt, transitionsAt, Contents, contents, afterHead, afterNames, afterStates, parse}
+use Rattle.parser.specs.HeadLaws.{HeadOutcome, head-outcome}
+use Rattle.parser.specs.NameLaws.{NameFault, wrong-name, known-name, NamesOutcome, NamesRefused, NamesPassed, names-outcome}
+use Rattle.parser.specs.StateLaws.{StatesOutcome, StatesRefused, StatesPassed, states-outcome}
+use Rattle.parser.specs.TransitionLaws.{EndFault, wrong-transition, no-end, not-last, TransitionsOutcome, TransitionsRefused, TransitionsPassed, transitions-outcome}
+
+-- the upper part of a sheet
+abbrev pub upper : ℕ → ℕ → List (List ℕ) → List State → List Transition → Sheet
+upper n k names states transitions = record { n = n; k = k; names = names; states = states; transitions = transitions }
+
+-- the lines of each kind, one after the other
+pub upper-text :
+    (s r1 r2 r3 rest : List ℕ) (n k : ℕ) (names : List (List ℕ)) (states : List State) (transitions : List Transition) →
+    s ≡ headLine n k ++ r1 → r1 ≡ nameLines 0 names ++ r2 → r2 ≡ stateLines 0 states ++ r3 → r3 ≡ transitionLines transitions ++ rest →
+    s ≡ lines (upper n k names states transitions) ++ rest
+unfolding lines
+upper-text s r1 r2 r3 rest n k names states transitions e1 e2 e3 e4 = e1 ∙ rw (e2, e3, e4) (simp append-assoc)
+
+-- what is read of a sheet file
+pub record AreContents (σ : Sheet) (c : Contents) : Type 0 where
+  pub n : c .n ≡ numbers σ .n
+  pub k : c .k ≡ numbers σ .k
+  pub initial : c .initial ≡ numbers σ .initial
+  pub recurring : c .recurring ≡ numbers σ .recurring
+  pub table : c .table ≡ numbers σ .table
+  pub names : c .names ≡ map compose (σ .names)
+
+-- WHAT READING GIVES
+abbrev pub Means : List ℕ → Phase Contents → Type 0
+Means s (refused number line) = Faulty s number line
+Means s (passed c) = (σ : Sheet) × FileIs s σ × AreContents σ c
+
+module _ (s : List ℕ) (size : length s ≤ most) (z : Sizes) (range : InRange (z .n) (z .k)) (head : s ≡ headLine (z .n) (z .k) ++ drop 12 s) where
+  names-refuse : (number line : ℕ) → NamesRefused s 2 12 [] (z .k) number line → Faulty s number line
+  unfolding stateLines transitionLines
+  names-refuse number line h = subst (Faulty s number) (sym (h .here)) (by (h .fault))
+    where
+      σ : Sheet
+      σ = upper (z .n) (z .k) (h .names) [] []
+
+      above : Above s σ (h .rest)
+      above = record {
+        size = size;
+        right = record { range = range; names = h .right; states = tt; transitions = tt };
+        text = upper-text s (drop 12 s) (h .rest) (h .rest) (h .rest) (z .n) (z .k) (h .names) [] [] head (h .text) refl refl;
+      }
+
+      due : NameDue σ
+      due = record { names = h .count; states = refl; transitions = refl }
+
+      l : lineDue σ ≡ 2 + length (h .names)
+      l = omega arith
+
+      by : {x : ℕ} → NameFault (h .names) (h .rest) x → Faulty s x (2 + length (h .names))
+      by (wrong-name none) = subst (Faulty s 5) l (Faulty.name σ (h .rest) above due none)
+      by (known-name x after is e d) = subst (Faulty s 6) l (Faulty.twice σ (h .rest) above due x after is e d)
+
+  module _ (y : Named) (g : NamesPassed s 2 12 [] (z .k) y) where
+    states-refuse : (number line : ℕ) → StatesRefused s (y .line) (y .at) 0 (z .n) number line → Faulty s number line
+    unfolding transitionLines
+    states-refuse number line h = subst (λ (x : ℕ). Faulty s x line) (sym (h .seven)) (subst (Faulty s 7) l (Faulty.state σ (h .rest) above due none))
+      where
+        σ : Sheet
+        σ = upper (z .n) (z .k) (g .names) (h .states) []
+
+        above : Above s σ (h .rest)
+        above = record {
+          size = size;
+          right = record { range = range; names = g .right; states = h .right; transitions = tt };
+          text = upper-text s (drop 12 s) (drop (y .at) s) (h .rest) (h .rest) (z .n) (z .k) (g .names) (h .states) [] head (g .text) (h .text) refl;
+        }
+
+        due : StateDue σ
+        due = record { names = g .count; states = h .count; transitions = refl }
+
+        l : lineDue σ ≡ line
+        l = omega (arith, h .here, g .next)
+
+        none : (w : State) (after : List ℕ) → FlagsRight w → h .rest ≡ stateLine (length (h .states)) w ++ after → ⊥
+        none = rw zero-add at (h .none)
+
+    module _ (q : Sets) (h : StatesPassed s (y .line) (y .at) 0 0 0 (z .n) q) where
+      transitions-refuse : (number line : ℕ) → TransitionsRefused s (z .n) (z .k) (q .line) (q .at) 0 number line → Faulty s number line
+      transitions-refuse number line t = by (t .fault)
+        where
+          σ : Sheet
+          σ = upper (z .n) (z .k) (g .names) (h .states) (t .transitions)
+
+          above : Above s σ (t .rest)
+          above = record {
+            size = size;
+            right = record { range = range; names = g .right; states = h .right; transitions = t .right };
+            text = upper-text s (drop 12 s) (drop (y .at) s) (drop (q .at) s) (t .rest) (z .n) (z .k) (g .names) (h .states) (t .transitions) head (g .text) (h .text) (t .text);
+          }
+
+          due : EndDue σ
+          due = record { names = g .count; states = h .count }
+
+          l : lineDue σ ≡ q .line + length (t .transitions)
+          l = omega (arith, h .next, g .next)
+
+          by : {x m : ℕ} → EndFault (z .n) (z .k) (leastAfter 0 (t .transitions)) (t .rest) (q .line + length (t .transitions)) x m → Faulty s x m
+          by (wrong-transition first none) = subst (Faulty s 8) l (Faulty.transition σ (t .rest) above due first none)
+          by (no-end other none) = subst (Faulty s 9) l (Faulty.end σ (t .rest) above due other none)
+          by (not-last after e some) =
+              subst (λ (m : ℕ). Faulty s 9 (suc m)) l (Faulty.behind σ after (subst (Above s σ) e above) due some)
+
+      sheet-read : (table : List ℕ) → TransitionsPassed s (z .n) (z .k) (q .at) 0 (replicate 128 0) table → Means s (passed (contents z y q table))
+      unfolding numbers
+      sheet-read table t = (σ, file, holds)
+        where
+          σ : Sheet
+          σ = upper (z .n) (z .k) (g .names) (h .states) (t .transitions)
+
+          file : FileIs s σ
+          file = record {
+            size = size;
+            right = record { range = range; names = g .right; states = h .right; transitions = t .right };
+            all-names = g .count;
+            all-states = h .count;
+            text = upper-text s (drop 12 s) (drop (y .at) s) (drop (q .at) s) endLine (z .n) (z .k) (g .names) (h .states) (t .transitions) head (g .text) (h .text) (t .text);
+          }
+
+          holds : AreContents σ (contents z y q table)
+          holds = record {
+            n = refl;
+            k = refl;
+            initial = h .initials ∙ zero-add _;
+            recurring = h .recurrings ∙ zero-add _;
+            table = t .filled;
+            names = g .composed;
+          }
+
+      transitions-mean : (p : Phase (List ℕ)) → TransitionsOutcome s (z .n) (z .k) (q .line) (q .at) 0 (replicate 128 0) p → Means s (andThen p (λ table. passed (contents z y q table)))
+      transitions-mean (refused number line) t = transitions-refuse number line t
+      transitions-mean (passed table) t = sheet-read table t
+
+    states-mean : (p : Phase Sets) → StatesOutcome s (y .line) (y .at) 0 0 0 (z .n) p → Means s (andThen p (afterStates s z y))
+    states-mean (refused number line) h = states-refuse number line h
+    states-mean (passed q) h =
+        transitions-mean q h (transitionsAt s (z .n) (z .k) (q .line) (q .at) 0 (replicate 128 0) (length s + 1))
+        (transitions-outcome s (z .n) (z .k) (omega arith) (omega arith) (length s + 1) (q .line) (q .at) 0 (replicate 128 0) (omega arith))
+
+  names-mean : (p : Phase Named) → NamesOutcome s 2 12 [] (z .k) p → Means s (andThen p (afterNames s z))
+  names-mean (refused number line) g = names-refuse number line g
+  names-mean (passed y) g = states-mean y g (statesAt s (y .line) (y .at) 0 0 0 (z .n)) (states-outcome s (z .n) (y .line) (y .at) 0 0 0 (omega arith))
+
+head-means : (s : List ℕ) → length s ≤ most → (p : Phase Sizes) → HeadOutcome s p → Means s (andThen p (afterHead s))
+head-means s size (refused number line) h = h
+head-means s size (passed z) h = names-mean s size z (h .0) (h .1) (namesAt s 2 12 [] (z .k)) (names-outcome s (z .k) 2 12 [] (omega arith))
+
+-- EVERY FILE is a sheet file, whose contents are read, or has a fault, which is the refusal
+pub parse-means : (s : List ℕ) → Means s (parse s)
+unfolding parse
+parse-means s = by (ltb most (length s)) refl
+  where
+    by : (t : Bool) → ltb most (length s) ≡ t → Means s (choose t (refused 2 0) (andThen (headOf s) (afterHead s)))
+    by true e = Faulty.size (ltb-true most (length s) e)
+    by false e = head-means s (ltb-false most (length s) e) (headOf s) (head-outcome s (ltb-false most (length s) e))
+
+pub parse-accepts : (s : List ℕ) (c : Contents) → parse s ≡ passed c → (σ : Sheet) × FileIs s σ × AreContents σ c
+parse-accepts s c e = subst (Means s) e (parse-means s)
+
+pub parse-refuses : (s : List ℕ) (number line : ℕ) → parse s ≡ refused number line → Faulty s number line
+parse-refuses s number line e = subst (Means s) e (parse-means s)

@@ -1,0 +1,86 @@
+-- The answers of the code, as enums, to what the phases of Parse give, and the facts that come with them.
+use Prim.Native.Nat.{ℕ, _≤_, _<_}
+use mathlib.Core.Path.{_≡_}
+use mathlib.Core.List.{List, _++_}
+use lib.ListN.{length}
+use Rattle.gate.specs.Gate.{refusal, cleared}
+use Rattle.automaton.specs.declared.Numbers.{Numbers}
+use Rattle.automaton.specs.Automaton.{InRange}
+use Rattle.parser.specs.declared.Sizes.{Sizes}
+use Rattle.parser.specs.declared.Sets.{Sets}
+use Rattle.parser.specs.declared.Head.{Head}
+use Rattle.parser.specs.declared.Head.the-variants as H
+use Rattle.parser.specs.declared.File.{File}
+use Rattle.parser.specs.declared.File.the-variants as F
+use Rattle.parser.specs.declared.Names.{Names}
+use Rattle.parser.specs.declared.Names.the-variants as N
+use Rattle.parser.specs.declared.StateLine.{StateLine}
+use Rattle.parser.specs.declared.StateLine.the-variants as S
+use Rattle.parser.specs.declared.States.{States}
+use Rattle.parser.specs.declared.States.the-variants as Q
+use Rattle.parser.specs.declared.TransitionLine.{TransitionLine}
+use Rattle.parser.specs.declared.TransitionLine.the-variants as T
+use Rattle.parser.specs.declared.End.{End}
+use Rattle.parser.specs.declared.End.the-variants as E
+use Rattle.parser.specs.Parse.{Phase, refused, passed, Named, Contents}
+use Rattle.parser.specs.Rows.{Holds}
+use Rattle.format.specs.Format.{numbers}
+use Rattle.automaton.specs.Lent.{lentTable}
+
+abbrev pub headAnswer : Phase Sizes → Head
+headAnswer (refused number line) = H.Refused (refusal number line)
+headAnswer (passed z) = H.Is z
+
+-- n and k of a first line that is read are in range
+abbrev pub SizesFit : Head → Type 0
+SizesFit (H.Refused r) = Unit
+SizesFit (H.Is z) = InRange (z .n) (z .k)
+
+-- the answer of k name lines; where they are read, the rows hold the names
+abbrev pub NamesRead : ℕ → Phase Named → List ℕ → Names → Type 0
+NamesRead k (refused number line) rows r = r ≡ N.Refused (refusal number line)
+NamesRead k (passed y) rows r =
+    (r ≡ N.Are (record { at = y .at; line = y .line })) × (y .line ≤ 10) × (y .at ≤ 252) × (length (y .names) ≡ k) × Holds (y .names) rows
+
+-- the flags of a state line that is read are 0 or 1
+abbrev pub FlagsFit : StateLine → Type 0
+FlagsFit (S.Is i r) = (i ≤ 1) × (r ≤ 1)
+FlagsFit S.Bad = Unit
+
+abbrev pub statesAnswer : Phase Sets → States
+statesAnswer (refused number line) = Q.Refused (refusal number line)
+statesAnswer (passed q) = Q.Are q
+
+-- where the line after the state lines stands
+abbrev pub SetsFit : States → Type 0
+SetsFit (Q.Refused r) = Unit
+SetsFit (Q.Are q) = (q .line ≤ 26) × (q .at ≤ 500)
+
+-- a transition that is read has its cell among the 128, and its state among the 16
+abbrev pub TransitionFits : TransitionLine → Type 0
+TransitionFits (T.Is from letter to) = (from < 16) × (letter < 8) × (to < 16)
+TransitionFits T.Bad = Unit
+
+abbrev pub endAnswer : Phase (List ℕ) → End
+endAnswer (refused number line) = E.Refused (refusal number line)
+endAnswer (passed done) = E.Reached
+
+-- the answer of the transition lines, and where they are read the table that they leave: their sets, and the rest as it was
+abbrev pub Fills : Phase (List ℕ) → List ℕ → List ℕ → End → Type 0
+Fills (refused number line) rest table r = r ≡ E.Refused (refusal number line)
+Fills (passed t) rest table r = (r ≡ E.Reached) × (table ≡ t ++ rest)
+
+-- the numbers of a file's contents
+abbrev pub numbersOf : Contents → Numbers
+numbersOf c = record { n = c .n; k = c .k; initial = c .initial; recurring = c .recurring }
+
+-- the answer of a file, and the table of successor sets, which was t and is u then
+abbrev pub NumbersRead : Phase Contents → List ℕ → List ℕ → File → Type 0
+NumbersRead (refused number line) t u r = (r ≡ F.Refused (refusal number line)) × (u ≡ cleared t)
+NumbersRead (passed c) t u r = (r ≡ F.Is (numbersOf c)) × (u ≡ lentTable (c .table) t)
+
+-- with that, the rows: where the file is read, they hold its names
+abbrev pub FileRead : Phase Contents → List ℕ → List ℕ → List ℕ → File → Type 0
+FileRead (refused number line) t u rows r = (r ≡ F.Refused (refusal number line)) × (u ≡ cleared t)
+FileRead (passed c) t u rows r =
+    (r ≡ F.Is (numbersOf c)) × (u ≡ lentTable (c .table) t) × InRange (c .n) (c .k) × (length (c .names) ≡ c .k) × Holds (c .names) rows

@@ -1,0 +1,81 @@
+// The name lines of a sheet: questions 5 and 6.
+ghost use mathlib.Core.Path.{_≡_};
+ghost use Prim.Native.Nat.{ℕ, _+_, _*_, _<_, _≤_, _^_};
+ghost use mathlib.Core.List.{[]};
+ghost use lib.ListN.{length};
+ghost use Rattle.format.specs.Format.{most};
+ghost use Rattle.names.specs.Scan.{nameFits};
+ghost use Rattle.parser.specs.Parse.{nameLineAt, namesAt};
+ghost use Rattle.parser.specs.Rows.{FirstLike};
+ghost use Rattle.parser.specs.PhaseAnswers.{NamesRead};
+use super::Names;
+use super::Place;
+use gate::Refusal;
+use names::Ending;
+use text::Number;
+
+// The line of letter l: where its LF stands.
+fn name_line(s: &[u8], at: usize, l: usize) -> Ending
+    requires { ⌜ at < 2 ^ 30 ⌝ }
+    ensures { λ r. ⌜ (r ≡ nameLineAt (now (s .entry)) at l) × nameFits (length (now (s .entry))) (at + 5) r ⌝ }
+{
+    if text::reader::opening(s, at) != 78 {
+        return Ending::Bad;
+    }
+    let Number::Is(v) = text::number_at(s, at + 1) else {
+        return Ending::Bad;
+    };
+    if v != l {
+        return Ending::Bad;
+    }
+    if text::byte_at(s, at + 4) != 32 {
+        return Ending::Bad;
+    }
+    names::name_end(s, at + 5)
+}
+
+// The first row that is like row `count`.
+pub fn first_like(rows: &[u8], count: usize) -> usize
+    requires { ⌜ (count ≤ 8) × (24 * count + 24 ≤ length (now rows)) ⌝ }
+    ensures { λ r. ⌜ FirstLike (now (rows .entry)) count r ⌝ }
+{
+    let mut l = 0;
+    while l < count {
+        if names::same_row(rows, 24 * l, 24 * count) {
+            return l;
+        }
+        l += 1;
+    }
+    count
+}
+
+// The lines of k names, from the second line on. Each name is composed into its row.
+pub fn read_names(s: &[u8], k: usize, rows: &mut [u8]) -> Names
+    requires { ⌜ (k ≤ 8) × (192 ≤ length (now rows)) ⌝ }
+    ensures { λ r. ⌜ NamesRead k (namesAt (now (s .entry)) 2 12 [] k) (now (rows .exit)) r ⌝ }
+{
+    let mut line = 2;
+    let mut at = 12;
+    let mut l = 0;
+    while l < k {
+        let Ending::At(e) = name_line(s, at, l) else {
+            return Names::Refused(Refusal {
+                number: 5,
+                line,
+                length: 0,
+            });
+        };
+        names::compose_into(s, at + 5, e, rows, 24 * l);
+        if first_like(rows, l) != l {
+            return Names::Refused(Refusal {
+                number: 6,
+                line,
+                length: 0,
+            });
+        }
+        line += 1;
+        at = e + 1;
+        l += 1;
+    }
+    Names::Are(Place { at, line })
+}

@@ -1,0 +1,71 @@
+// The state lines of a sheet: question 7.
+ghost use mathlib.Core.Path.{_≡_};
+ghost use Prim.Native.Nat.{_<_, _≤_, _^_};
+ghost use Rattle.parser.specs.Parse.{stateLineAt, statesAt};
+ghost use Rattle.parser.specs.PhaseAnswers.{FlagsFit, statesAnswer, SetsFit};
+use super::Sets;
+use super::StateLine;
+use super::States;
+use gate::Refusal;
+use text::Number;
+use text::Pair;
+
+// The line of state q: its two flags, each 0 or 1.
+fn state_line(s: &[u8], at: usize, q: usize) -> StateLine
+    requires { ⌜ at < 2 ^ 30 ⌝ }
+    ensures { λ r. ⌜ (r ≡ stateLineAt (now (s .entry)) at q) × FlagsFit r ⌝ }
+{
+    if text::reader::opening(s, at) != 83 {
+        return StateLine::Bad;
+    }
+    let Number::Is(v) = text::number_at(s, at + 1) else {
+        return StateLine::Bad;
+    };
+    if v != q {
+        return StateLine::Bad;
+    }
+    let Pair::Are(i, r) = text::pair_at(s, at + 4) else {
+        return StateLine::Bad;
+    };
+    if 1 < i {
+        return StateLine::Bad;
+    }
+    if 1 < r {
+        return StateLine::Bad;
+    }
+    StateLine::Is(i, r)
+}
+
+// The lines of n states, the first of which is line `first` and stands at `start`.
+pub fn read_states(s: &[u8], first: usize, start: usize, n: usize) -> States
+    requires { ⌜ (first ≤ 10) × (start ≤ 300) × (n ≤ 16) ⌝ }
+    ensures { λ r. ⌜ (r ≡ statesAnswer (statesAt (now (s .entry)) first start 0 0 0 n)) × SetsFit r ⌝ }
+{
+    let mut line = first;
+    let mut at = start;
+    let mut q = 0;
+    let mut bit = 1;
+    let mut initial = 0;
+    let mut recurring = 0;
+    while q < n {
+        let StateLine::Is(i, r) = state_line(s, at, q) else {
+            return States::Refused(Refusal {
+                number: 7,
+                line,
+                length: 0,
+            });
+        };
+        initial += i * bit;
+        recurring += r * bit;
+        bit *= 2;
+        line += 1;
+        at += 11;
+        q += 1;
+    }
+    States::Are(Sets {
+        initial: initial as u16,
+        recurring: recurring as u16,
+        at,
+        line,
+    })
+}

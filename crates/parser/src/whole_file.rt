@@ -1,0 +1,72 @@
+// A whole sheet file: questions 2 to 9.
+ghost use mathlib.Core.Path.{_≡_};
+ghost use Prim.Native.Nat.{_≤_};
+ghost use lib.ListN.{length};
+ghost use Rattle.gate.specs.Gate.{cleared};
+ghost use Rattle.automaton.specs.Automaton.{InRange};
+ghost use Rattle.format.specs.Format.{most};
+ghost use Rattle.parser.specs.Parse.{Named, parse, afterNames};
+ghost use Rattle.parser.specs.PhaseAnswers.{NumbersRead, FileRead};
+use super::End;
+use super::File;
+use super::Head;
+use super::Names;
+use super::Place;
+use super::Sizes;
+use super::States;
+use super::first_line::read_head;
+use super::name_lines::read_names;
+use super::state_lines::read_states;
+use super::transition_lines::read_transitions;
+use automaton::Numbers;
+use gate::Refusal;
+
+// The state lines and what follows, behind the name lines. A refusal leaves the table all zero.
+fn read_numbers(s: &[u8], z: Sizes, place: Place, table: &mut [u16]) -> File
+    requires { ⌜ (length (now s) ≤ most) × InRange (z .n) (z .k) × (place .line ≤ 10) × (place .at ≤ 252)
+        × (128 ≤ length (now table)) × (now table ≡ cleared (now table)) ⌝ }
+    ensures { λ r. ⌜ ((y : Named) → y .at ≡ place .at → y .line ≡ place .line
+        → NumbersRead (afterNames (now (s .entry)) z y) (now (table .entry)) (now (table .exit)) r) ⌝ }
+{
+    let n = z.n;
+    let k = z.k;
+    match read_states(s, place.line, place.at, n) {
+        States::Refused(r) => File::Refused(r),
+        States::Are(q) => match read_transitions(s, n, k, q.line, q.at, table) {
+            End::Refused(r) => {
+                gate::clear(table);
+                File::Refused(r)
+            }
+            End::Reached => File::Is(Numbers {
+                n,
+                k,
+                initial: q.initial,
+                recurring: q.recurring,
+            }),
+        },
+    }
+}
+
+// A sheet file: its numbers, its successor sets in a table that is all zero before, and its composed names in rows.
+pub fn read_file(s: &[u8], table: &mut [u16], rows: &mut [u8]) -> File
+    requires { ⌜ (128 ≤ length (now table)) × (now table ≡ cleared (now table)) × (192 ≤ length (now rows)) ⌝ }
+    ensures { λ r. ⌜ FileRead (parse (now (s .entry))) (now (table .entry)) (now (table .exit)) (now (rows .exit)) r ⌝ }
+{
+    if 24576 < s.len() {
+        return File::Refused(Refusal {
+            number: 2,
+            line: 0,
+            length: 0,
+        });
+    }
+    match read_head(s) {
+        Head::Refused(r) => File::Refused(r),
+        Head::Is(z) => {
+            let k = z.k;
+            match read_names(s, k, rows) {
+                Names::Refused(r) => File::Refused(r),
+                Names::Are(place) => read_numbers(s, z, place, table),
+            }
+        }
+    }
+}
