@@ -23,6 +23,11 @@ pub record Long (v : Tables) : Type 0 where
   pub one : 137 ≤ length (v .one)
   pub other : 137 ≤ length (v .other)
 
+-- QUESTION 1 of a call that takes a sheet: "Are the lent tables long enough (128 successor sets; a witness ..)?" The table is t, the witness v.
+pub record Lengths (t : List ℕ) (v : Tables) : Type 0 where
+  pub cells : 128 ≤ length t
+  pub long : Long v
+
 -- each table all zero, as long as before
 abbrev pub clearedTables : Tables → Tables
 clearedTables v = record { word = cleared (v .word); one = cleared (v .one); other = cleared (v .other) }

@@ -4,5 +4,6 @@ pub mod Meeting
 pub mod Reading
 pub mod Successors
 pub mod EdgeLaws
+pub mod LentLaws
 pub mod SuccessorLaws
 pub mod QuestionLaws

@@ -39,6 +39,13 @@ zero-cleared table = zeros (length table)
 pub length-cleared : (table : List ℕ) → length (cleared table) ≡ length table
 length-cleared table = length-replicate {A = ℕ} (length table) 0
 
+-- tables as long are cleared to the same
+pub same-cleared : (t u : List ℕ) → length u ≡ length t → cleared u ≡ cleared t
+same-cleared t u e = rw e
+
+pub cleared-twice : (table : List ℕ) → cleared (cleared table) ≡ cleared table
+cleared-twice table = same-cleared table (cleared table) (length-cleared table)
+
 -- The loop that clears, whatever the width of a cell: the first i cells are 0, and the others are as they were
 
 pub record Clearing (table result : List ℕ) (i : ℕ) : Type 0 where

@@ -7,8 +7,9 @@ use lib.ListN.{length, length-append, List·getD-append}
 use lib.Seq.{getD-append-add}
 use native.Mathlib.Omega.{arith}
 use Rattle.gate.specs.Gate.{cleared}
+use Rattle.gate.specs.GateLaws.{same-cleared}
 use Rattle.gate.specs.declared.Refusal.{Refusal}
-use Rattle.automaton.specs.Lent.{Tables, tables, clearedTables}
+use Rattle.automaton.specs.Lent.{Tables}
 use Rattle.format.specs.Format.{Sheet, FileIs, numbers}
 use Rattle.format.specs.NumbersLaws.{sheet-fits}
 use Rattle.sheet.specs.Read.{Accepted}
@@ -52,16 +53,8 @@ verdicts s σ accepted room f g count fitted p lead cycle z plan table =
     }
 
 -- TABLES that are cleared one by one
-pub tables-cleared : (v : Tables) (word one other : List ℕ) → word ≡ cleared (v .word) → one ≡ cleared (v .one) → other ≡ cleared (v .other)
-    → tables word one other ≡ clearedTables v
-tables-cleared v word one other a b c = rw (a, b, c)
-
 pub store-cleared : (f : Store) (tuples nexts : List ℕ) → tuples ≡ cleared (f .tuples) → nexts ≡ cleared (f .nexts) → store tuples nexts ≡ clearedStore f
 store-cleared f tuples nexts a b = rw (a, b)
-
--- a table as long as another is cleared to the same
-same-cleared : (t u : List ℕ) → length u ≡ length t → cleared u ≡ cleared t
-same-cleared t u e = rw e
 
 module _ {s p : List ℕ} {room : ℕ} {t u : List ℕ} {v w : Tables} {f g : Store} where
   -- 1 and 2

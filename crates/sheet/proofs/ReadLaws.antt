@@ -7,12 +7,13 @@ use native.Mathlib.Omega.{arith}
 use lib.ListN.{length, take, replicate, length-set, length-replicate}
 use lib.Seq.{take-at}
 use Rattle.gate.specs.Gate.{Zero, cleared}
-use Rattle.gate.specs.GateLaws.{zero-cleared, length-cleared}
+use Rattle.automaton.specs.LentLaws.{tables-twice, long-cleared, meets-cleared}
+use Rattle.gate.specs.GateLaws.{cleared-twice, zero-cleared, length-cleared}
 use Rattle.gate.specs.declared.Refusal.{Refusal}
 use Rattle.automaton.specs.Automaton.{Automaton, automaton, Fits, AreNumbers}
 use Rattle.automaton.specs.declared.Numbers.{Numbers}
 use Rattle.automaton.specs.Meeting.{Everywhere}
-use Rattle.automaton.specs.Lent.{Tables, tables, Long, clearedTables, lentTable}
+use Rattle.automaton.specs.Lent.{Tables, tables, Long, clearedTables, lentTable, Lengths}
 use Rattle.meeting.specs.Answer.{Asked, Answered}
 use Rattle.format.specs.Format.{Sheet, Transition, entered, tableOf, numbers}
 use Rattle.format.specs.NumbersLaws.{sheet-fits}
@@ -90,38 +91,16 @@ fault-refuses s t u rows r v e zeros =
     (read.Refuses.faulty (h .number) (h .line) (h .faulty) (h .is) zeros, h .clear)
 
 -- TABLES THAT ARE CLEARED FIRST
-pub cleared-twice : (t : List ℕ) → cleared (cleared t) ≡ cleared t
-cleared-twice t = ap (λ (n : ℕ). replicate {A = ℕ} n 0) (length-cleared t)
-
-tables-twice : (v : Tables) → clearedTables (clearedTables v) ≡ clearedTables v
-tables-twice v = rw (cleared-twice (v .word), cleared-twice (v .one), cleared-twice (v .other))
-
 pub answered-cleared :
-    (s t u rows : List ℕ) (v w : Tables) (r : Read) → 128 ≤ length t → Long v →
-    Answers s (cleared t) u rows (clearedTables v) w r → read.Reads s t u v w r
-answered-cleared s t u rows v w (R.Refused r) long lent j = inr (long, lent, refuses (j .0), j .1 ∙ cleared-twice t)
+    (s t u rows : List ℕ) (v w : Tables) (r : Read) → Lengths t v → Answers s (cleared t) u rows (clearedTables v) w r → read.Reads s t u v w r
+answered-cleared s t u rows v w (R.Refused r) long j = inr (long, refuses (j .0), j .1 ∙ cleared-twice t)
   where
     refuses : read.Refuses s (clearedTables v) w r → read.Refuses s v w r
     refuses (read.Refuses.faulty number line f e c) = read.Refuses.faulty number line f e (c ∙ tables-twice v)
-    refuses (read.Refuses.meeting σ f m) =
-        read.Refuses.meeting σ f
-        (record {
-          number = m .number;
-          line = m .line;
-          some = m .some;
-          witness = m .witness;
-          lengths =
-              let l = m .lengths in
-              record {
-                word = l .word ∙ length-cleared (v .word);
-                one = l .one ∙ length-cleared (v .one);
-                other = l .other ∙ length-cleared (v .other);
-              };
-        })
-answered-cleared s t u rows v w (R.Is a) long lent j =
+    refuses (read.Refuses.meeting σ f m) = read.Refuses.meeting σ f (meets-cleared v m)
+answered-cleared s t u rows v w (R.Is a) long j =
     let σ = j .letters .sheet in (
       long,
-      lent,
       (
         σ,
         record { file = j .letters .file; free = j .free },
@@ -132,20 +111,11 @@ answered-cleared s t u rows v w (R.Is a) long lent j =
     )
 
 module _ (t : List ℕ) (v : Tables) (t′ word one other : List ℕ) (et : t′ ≡ cleared t) (ew : word ≡ cleared (v .word)) (eo : one ≡ cleared (v .one))
-    (er : other ≡ cleared (v .other)) (long : 128 ≤ length t) (lent : Long v) where
+    (er : other ≡ cleared (v .other)) (long : Lengths t v) where
   -- the tables once they are cleared
   pub ready : (128 ≤ length t′) × (t′ ≡ cleared t′) × Long (tables word one other) × (tables word one other ≡ clearedTables (tables word one other))
   ready =
-      rw (et, ew, eo, er) (
-        rw (length-cleared t) long,
-        sym (cleared-twice t),
-        record {
-          word = rw (length-cleared (v .word)) (lent .word);
-          one = rw (length-cleared (v .one)) (lent .one);
-          other = rw (length-cleared (v .other)) (lent .other);
-        },
-        sym (tables-twice v),
-      )
+      rw (et, ew, eo, er) (rw (length-cleared t) (long .cells), sym (cleared-twice t), long-cleared v (long .long), sym (tables-twice v))
 
   pub reads : (s u rows : List ℕ) (w : Tables) (r : Read) → Answers s t′ u rows (tables word one other) w r → read.Reads s t u v w r
-  reads s u rows w r j = answered-cleared s t u rows v w r long lent (rw (et, ew, eo, er) at j)
+  reads s u rows w r j = answered-cleared s t u rows v w r long (rw (et, ew, eo, er) at j)

@@ -1,14 +1,13 @@
 -- What reading a sheet file answers, and what the lent tables hold then.
-use Prim.Native.Nat.{ℕ, _-_, _≤_}
+use Prim.Native.Nat.{ℕ, _-_}
 use mathlib.Core.Path.{_≡_}
 use mathlib.Core.List.{List}
 use mathlib.Core.Logic.{_⊎_}
-use lib.ListN.{length}
 use Rattle.gate.specs.Gate.{refusal, cleared}
 use Rattle.gate.specs.declared.Refusal.{Refusal}
 use Rattle.automaton.specs.Automaton.{AreNumbers}
 use Rattle.automaton.specs.Meeting.{Free, Everywhere}
-use Rattle.automaton.specs.Lent.{Tables, Long, clearedTables, lentTable, Meets}
+use Rattle.automaton.specs.Lent.{Tables, Lengths, clearedTables, lentTable, Meets}
 use Rattle.sheet.specs.declared.Read.{Read}
 use Rattle.sheet.specs.declared.Read.the-variants.{Refused, Is}
 use Rattle.format.specs.Format.{Sheet, FileIs, Faulty, numbers}
@@ -27,9 +26,9 @@ pub data Refuses (s : List ℕ) (v w : Tables) (r : Refusal) : Type 0 where
 -- "Refusal 1 asked first touches nothing; .. every other refusal leave the tables of that call all zero, except the witness of 10"
 abbrev pub Reads : List ℕ → List ℕ → List ℕ → Tables → Tables → Read → Type 0
 Reads s t u v w (Refused r) =
-    (((128 ≤ length t) × Long v → ⊥) × (r ≡ refusal 1 0) × (u ≡ t) × (w ≡ v))
-    ⊎ ((128 ≤ length t) × Long v × Refuses s v w r × (u ≡ cleared t))
+    ((Lengths t v → ⊥) × (r ≡ refusal 1 0) × (u ≡ t) × (w ≡ v))
+    ⊎ (Lengths t v × Refuses s v w r × (u ≡ cleared t))
 Reads s t u v w (Is a) =
-    (128 ≤ length t) × Long v
+    Lengths t v
     × ((σ : Sheet) × Accepted s σ × AreNumbers (numbers σ) a × (u ≡ lentTable (numbers σ .table) t))
     × (w ≡ clearedTables v)

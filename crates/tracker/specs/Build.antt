@@ -7,7 +7,7 @@ use Rattle.gate.specs.Gate.{refusal, cleared}
 use Rattle.gate.specs.declared.Refusal.{Refusal}
 use Rattle.automaton.specs.Automaton.{Automaton, Fits, AreNumbers}
 use Rattle.automaton.specs.Meeting.{Free, Everywhere}
-use Rattle.automaton.specs.Lent.{Tables, Long, clearedTables, NumbersRefuse, lentTable}
+use Rattle.automaton.specs.Lent.{Tables, Lengths, clearedTables, NumbersRefuse, lentTable}
 use Rattle.format.specs.Format.{Sheet, numbers}
 use Rattle.sheet.specs.Read.{Accepted, Refuses}
 use Rattle.tuple.specs.Step.{Tuple}
@@ -36,8 +36,7 @@ pub record RoomFits (room : ℕ) (v : Store) : Type 0 where
 -- QUESTION 1: "Are the lent tables long enough (128 successor sets; a witness of 136 letters and two walks of 137 states; for room R, 17·R
 -- tuple numbers and 8·R next numbers ..), and is R 1 to 1,024?" The successor sets' table is t, the witness v, the tuples and nexts f.
 pub record Lent (room : ℕ) (t : List ℕ) (v : Tables) (f : Store) : Type 0 where
-  pub table : 128 ≤ length t
-  pub witness : Long v
+  pub lengths : Lengths t v
   pub store : RoomFits room f
 
 -- the tracker of A in lent tables that were v and are w: every cell is given, and those without a meaning are zero

@@ -32,8 +32,7 @@ lent-decided (enough, short) = (
   λ yes.
       let e = enough yes in
       record {
-        table = e .for-table;
-        witness = record { word = e .for-word; one = e .for-one; other = e .for-other };
+        lengths = record { cells = e .for-table; long = record { word = e .for-word; one = e .for-one; other = e .for-other } };
         store = record { some = e .some; most = e .most; tuples = e .for-tuples; nexts = e .for-nexts };
       },
   λ no l.
@@ -42,17 +41,17 @@ lent-decided (enough, short) = (
         most = l .store .most;
         for-tuples = l .store .tuples;
         for-nexts = l .store .nexts;
-        for-table = l .table;
-        for-word = l .witness .word;
-        for-one = l .witness .one;
-        for-other = l .witness .other;
+        for-table = l .lengths .cells;
+        for-word = l .lengths .long .word;
+        for-one = l .lengths .long .one;
+        for-other = l .lengths .long .other;
       }),
 )
 
 -- FROM NUMBERS
 pub numbers-refused : {A : Automaton} {room : ℕ} {v w : Tables} {f g : Store} {r : Refusal} → Lent room (A .table) v f
     → Checks A v w (CheckRefused r) → g ≡ clearedStore f → BuildsNumbers A room v w f g (Refused r)
-numbers-refused lent (inl (n, q, z)) c = absurd (n (record { cells = lent .table; long = lent .witness }))
+numbers-refused lent (inl (n, q, z)) c = absurd (n (lent .lengths))
 numbers-refused {r = r} lent (inr (l, n)) c = BuildsNumbers.refused lent r n refl c
 
 -- FROM A SHEET FILE
@@ -73,21 +72,21 @@ read-is σ a t u n e =
     λ i. record { n = n .n i; k = n .k i; initial = n .initial i; recurring = n .recurring i; table = p i }
 
 pub read-fits : {s u : List ℕ} {v w : Tables} {a : Numbers} (t : List ℕ) → Reads s t u v w (ReadIs a) → Fits (automaton a (take 128 u))
-read-fits {s} {u} {a = a} t (l, long, (σ, x, n, z), q) = subst Fits (sym (read-is σ a t u n z)) (sheet-fits s σ (x .file))
+read-fits {s} {u} {a = a} t (l, (σ, x, n, z), q) = subst Fits (sym (read-is σ a t u n z)) (sheet-fits s σ (x .file))
 
 module _ {s : List ℕ} {room : ℕ} {t u : List ℕ} {v w : Tables} {f g : Store} (lent : Lent room t v f) where
   pub file-refused : {r : Refusal} → Reads s t u v w (ReadRefused r) → g ≡ clearedStore f → Builds s room t u v w f g (Refused r)
-  file-refused (inl (n, q, z, x)) c = absurd (n (lent .table, lent .witness))
-  file-refused {r} (inr (l, long, q, z)) c = Builds.refused lent r q refl z c
+  file-refused (inl (n, q, z, x)) c = absurd (n (lent .lengths))
+  file-refused {r} (inr (l, q, z)) c = Builds.refused lent r q refl z c
 
   -- 11: then the successor sets' table is o
   pub file-over : {a : Numbers} {r : Refusal} {o : List ℕ} → Reads s t u v w (ReadIs a) → Tracks (automaton a (take 128 u)) room f g (Refused r)
       → o ≡ cleared t → Builds s room t o v w f g (Refused r)
-  file-over {a} {r} (l, long, (σ, x, n, z), q) h e =
+  file-over {a} {r} (l, (σ, x, n, z), q) h e =
       Builds.asked lent σ x q (subst (λ (A : Automaton). Tracks A room f g (Refused r)) (read-is σ a t u n z) h) e
 
   pub file-is : {a : Numbers} {y : Tracker} → Reads s t u v w (ReadIs a) → Tracks (automaton a (take 128 u)) room f g (Is y) → Builds s room t u v w f g (Is y)
-  file-is {a} {y} (l, long, (σ, x, n, z), q) h =
+  file-is {a} {y} (l, (σ, x, n, z), q) h =
       Builds.asked lent σ x q (subst (λ (A : Automaton). Tracks A room f g (Is y)) (read-is σ a t u n z) h) z
 
 -- WHAT A TRACKER TELLS of the questions on the way to it

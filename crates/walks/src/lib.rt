@@ -2,9 +2,9 @@
 ghost use Rattle.gate.specs.Gate.{Zero};
 ghost use Rattle.automaton.specs.Automaton.{automaton};
 ghost use Rattle.automaton.specs.Meeting.{Everywhere};
-ghost use Rattle.automaton.specs.Lent.{tables};
+ghost use Rattle.automaton.specs.Lent.{tables, Lengths};
 ghost use Rattle.meeting.specs.Answer.{Asked, Answered};
-ghost use Rattle.walks.specs.Check.{Lengths, Checks, Judges};
+ghost use Rattle.walks.specs.Check.{Checks, Judges};
 use automaton::Numbers;
 use gate::Refusal;
 
@@ -25,7 +25,7 @@ pub fn ask(a: Numbers, table: &[u16], word: &mut [u16], one: &mut [u16], other: 
 
 // Questions 4, 7, 8 and 10, in tables that are long enough and all zero.
 fn judge(a: Numbers, table: &[u16], word: &mut [u16], one: &mut [u16], other: &mut [u16]) -> Checked
-    requires { ⌜ Lengths (automaton a (now table)) (tables (now word) (now one) (now other)) × Zero (now word) × Zero (now one) × Zero (now other) ⌝ }
+    requires { ⌜ Lengths (now table) (tables (now word) (now one) (now other)) × Zero (now word) × Zero (now one) × Zero (now other) ⌝ }
     ensures { λ r. ⌜ Judges (automaton a (now (table .entry))) (tables (now (word .entry)) (now (one .entry)) (now (other .entry))) (tables (now (word .exit)) (now (one .exit)) (now (other .exit))) r ⌝ }
 {
     let number = automaton::first_no(a, table);

@@ -6,10 +6,9 @@ use mathlib.Core.Logic.{_⊎_}
 use lib.ListN.{length}
 use Rattle.gate.specs.Gate.{refusal}
 use Rattle.automaton.specs.Automaton.{Automaton}
-use Rattle.automaton.specs.Lent.{Tables, clearedTables}
+use Rattle.automaton.specs.Lent.{Tables, clearedTables, Lengths}
 use Rattle.walks.specs.declared.Checked.{Checked}
 use Rattle.walks.specs.declared.Checked.the-variants as K
-use Rattle.walks.specs.Check.{Lengths}
 use Rattle.format.specs.Format.{Sheet, FileIs, written, headLine, nameLines, stateLines, transitionLines, endLine, statesOf, transitionsOf}
 use Rattle.gate.specs.declared.Written.{Written}
 use Rattle.gate.specs.declared.Written.the-variants.{Refused}
@@ -37,5 +36,5 @@ PutNamed A s b c r = (σ : Sheet) → FileIs s σ → σ .k ≡ A .k → Put (wr
 
 -- the questions before the last, on numbers with the names' file s
 abbrev pub Asks : Automaton → List ℕ → Tables → Tables → Checked → Type 0
-Asks A s v w (K.Refused x) = ((Lengths A v → ⊥) × (x ≡ refusal 1 0) × (w ≡ v)) ⊎ (Lengths A v × NamedRefuse A s v w x)
-Asks A s v w K.Free = Lengths A v × ((σ : Sheet) × NamedAccepted A s σ) × (w ≡ clearedTables v)
+Asks A s v w (K.Refused x) = ((Lengths (A .table) v → ⊥) × (x ≡ refusal 1 0) × (w ≡ v)) ⊎ (Lengths (A .table) v × NamedRefuse A s v w x)
+Asks A s v w K.Free = Lengths (A .table) v × ((σ : Sheet) × NamedAccepted A s σ) × (w ≡ clearedTables v)

@@ -7,8 +7,7 @@ use Rattle.gate.specs.Gate.{refusal, cleared, lentText}
 use Rattle.gate.specs.declared.Refusal.{Refusal}
 use Rattle.automaton.specs.Automaton.{Automaton, Fits}
 use Rattle.automaton.specs.Meeting.{Free, Everywhere}
-use Rattle.automaton.specs.Lent.{Tables, Long, clearedTables, NumbersRefuse}
-use Rattle.walks.specs.Check.{Lengths}
+use Rattle.automaton.specs.Lent.{Tables, Long, clearedTables, NumbersRefuse, Lengths}
 use Rattle.format.specs.Format.{Sheet, written}
 use Rattle.sheet.specs.Read.{Accepted, Refuses}
 use Rattle.gate.specs.declared.Written.{Written}
@@ -45,8 +44,8 @@ pub record NamedAccepted (A : Automaton) (s : List ℕ) (σ : Sheet) : Type 0 wh
 
 pub data WritesNumbers (A : Automaton) (s : List ℕ) (v w : Tables) (b c : List ℕ) (r : Written) : Type 0 where
   -- 1, asked first, "touches nothing"
-  short : (Lengths A v → ⊥) → r ≡ Refused (refusal 1 0) → w ≡ v → c ≡ b → WritesNumbers A s v w b c r
+  short : (Lengths (A .table) v → ⊥) → r ≡ Refused (refusal 1 0) → w ≡ v → c ≡ b → WritesNumbers A s v w b c r
   -- 2 to 10
-  refused : Lengths A v → (x : Refusal) → NamedRefuse A s v w x → r ≡ Refused x → c ≡ cleared b → WritesNumbers A s v w b c r
+  refused : Lengths (A .table) v → (x : Refusal) → NamedRefuse A s v w x → r ≡ Refused x → c ≡ cleared b → WritesNumbers A s v w b c r
   -- 1, asked last, or the text
-  asked : Lengths A v → (σ : Sheet) → NamedAccepted A s σ → w ≡ clearedTables v → Put (written A (σ .names)) b c r → WritesNumbers A s v w b c r
+  asked : Lengths (A .table) v → (σ : Sheet) → NamedAccepted A s σ → w ≡ clearedTables v → Put (written A (σ .names)) b c r → WritesNumbers A s v w b c r

@@ -4,16 +4,17 @@ use mathlib.Core.Path.{_≡_, refl, sym, ap, _∙_, subst}
 use mathlib.Core.List.{List, map, append-nil}
 use mathlib.Core.Logic.{inl, inr}
 use native.Mathlib.Omega.{arith}
-use lib.ListN.{length, length-map, length-replicate}
+use lib.ListN.{length, length-map}
 use lib.Seq.{sets}
-use Rattle.gate.specs.Gate.{refusal, cleared, RefusedWith}
+use Rattle.gate.specs.Gate.{refusal, RefusedWith}
 use Rattle.gate.specs.declared.Refusal.{Refusal}
 use Rattle.names.specs.Name.{compose}
 use Rattle.automaton.specs.declared.Numbers.{Numbers}
 use Rattle.automaton.specs.Automaton.{Automaton, Fits, automaton}
-use Rattle.automaton.specs.Lent.{Tables, Long, SameLengths, clearedTables, NumbersRefuse}
+use Rattle.automaton.specs.Lent.{Tables, Long, clearedTables, NumbersRefuse}
 use Rattle.format.specs.Format.{Sheet, FileIs, numbers}
 use Rattle.automaton.specs.QuestionLaws.{numbers-number}
+use Rattle.automaton.specs.LentLaws.{tables-twice, long-cleared, refuse-cleared}
 use Rattle.sheet.specs.ReadLaws.{refuses-number}
 use Rattle.format.specs.NumbersLaws.{sheet-fits}
 use Rattle.walks.specs.declared.Checked.{Checked}
@@ -70,72 +71,47 @@ writable fits h = record { states = omega (arith, fits .range); letters = omega 
 module _ (t : List ℕ) {s u : List ℕ} {v w : Tables} (whole : length t ≡ 128) where
   pub write-refused : {b c : List ℕ} {x : Refusal} {r : Written} → Reads s t u v w (R.Refused x) → RefusedWith x b c r → Writes s v w b c r
   write-refused (inl (short, e, f, z)) answer =
-      Writes.short (λ l. short (omega arith, l)) (answer .is ∙ ap Refused e) z (answer .untouched (ap (λ (p : Refusal). p .number) e))
-  write-refused (inr (h, l, f, z)) answer = Writes.refused l _ f (answer .is) (answer .zero (refuses-number f))
+      Writes.short (λ l. short (record { cells = omega arith; long = l })) (answer .is ∙ ap Refused e) z (answer .untouched (ap (λ (p : Refusal). p .number) e))
+  write-refused (inr (l, f, z)) answer = Writes.refused (l .long) _ f (answer .is) (answer .zero (refuses-number f))
 
   module _ {a : Numbers} (reads : Reads s t u v w (R.Is a)) where
-    is : automaton a u ≡ numbers (reads .2 .0)
+    is : automaton a u ≡ numbers (reads .1 .0)
     is =
-        let (x, l, (σ, f, e, g), y) = reads in
+        let (l, (σ, f, e, g), y) = reads in
         let z : length t - 128 ≡ 0 = omega arith in
         let h : u ≡ numbers σ .table = g ∙ rw z (append-nil (numbers σ .table)) in
         λ i. record { n = e .n i; k = e .k i; initial = e .initial i; recurring = e .recurring i; table = h i }
 
     pub write-asks : Writable (automaton a u)
-    write-asks = subst Writable (sym is) (writable (sheet-fits s (reads .2 .0) (reads .2 .1 .file)) (omega (arith, table-whole (reads .2 .0))))
+    write-asks = subst Writable (sym is) (writable (sheet-fits s (reads .1 .0) (reads .1 .1 .file)) (omega (arith, table-whole (reads .1 .0))))
 
     pub write-finishes : {b c : List ℕ} {r : Written} → PutNamed (automaton a u) s b c r → Writes s v w b c r
     write-finishes {b} {c} {r} put =
-        let (x, l, (σ, f, e, g), y) = reads in
-        Writes.asked l σ f y (subst (λ (A : Automaton). PutNamed A s b c r) is put σ (f .file) (letters σ))
+        let (l, (σ, f, e, g), y) = reads in
+        Writes.asked (l .long) σ f y (subst (λ (A : Automaton). PutNamed A s b c r) is put σ (f .file) (letters σ))
 
 -- WRITING FROM NUMBERS
-
--- tables that are cleared already
-cleared-twice : (x : List ℕ) → cleared (cleared x) ≡ cleared x
-cleared-twice x = rw (length-replicate {A = ℕ} (length x) 0)
-
-tables-twice : (v : Tables) → clearedTables (clearedTables v) ≡ clearedTables v
-tables-twice v = λ i. record { word = cleared-twice (v .word) i; one = cleared-twice (v .one) i; other = cleared-twice (v .other) i }
-
-long-cleared : (v : Tables) → Long v → Long (clearedTables v)
-long-cleared v l = record {
-  word = rw (length-replicate {A = ℕ} (length (v .word)) 0) (l .word);
-  one = rw (length-replicate {A = ℕ} (length (v .one)) 0) (l .one);
-  other = rw (length-replicate {A = ℕ} (length (v .other)) 0) (l .other);
-}
-
-refuse-cleared : (A : Automaton) (v w : Tables) (r : Refusal) → NumbersRefuse A (clearedTables v) w r → NumbersRefuse A v w r
-refuse-cleared A v w r (NumbersRefuse.unfit number f e z) = NumbersRefuse.unfit number f e (z ∙ tables-twice v)
-refuse-cleared A v w r (NumbersRefuse.meeting fits m) = NumbersRefuse.meeting fits (record { number = m .number; line = m .line; some = m .some; witness = m .witness; lengths = same (m .lengths) })
-  where
-    same : SameLengths (clearedTables v) w → SameLengths v w
-    same l = record {
-      word = l .word ∙ length-replicate {A = ℕ} (length (v .word)) 0;
-      one = l .one ∙ length-replicate {A = ℕ} (length (v .one)) 0;
-      other = l .other ∙ length-replicate {A = ℕ} (length (v .other)) 0;
-    }
 
 -- the questions before the last: the names' file is read into a table t of 128 cells
 module _ (t : List ℕ) {s : List ℕ} {v : Tables} (whole : length t ≡ 128) where
   pub ask-names : {A : Automaton} {u : List ℕ} {w : Tables} {x : Refusal} → 128 ≤ length (A .table) → Reads s t u v w (R.Refused x) → Asks A s v w (K.Refused x)
-  ask-names cells (inl (short, e, f, z)) = inl ((λ l. short (omega arith, l .long)), e, z)
-  ask-names cells (inr (h, l, f, z)) = inr (record { cells = cells; long = l }, NamedRefuse.by-names f)
+  ask-names cells (inl (short, e, f, z)) = inl ((λ l. short (record { cells = omega arith; long = l .long })), e, z)
+  ask-names cells (inr (l, f, z)) = inr (record { cells = cells; long = l .long }, NamedRefuse.by-names f)
 
   pub ask-letters : {A : Automaton} {a : Numbers} {u : List ℕ} {w : Tables} {x : Refusal} → 128 ≤ length (A .table) → Reads s t u v w (R.Is a)
       → (a .k ≡ A .k → ⊥) → x ≡ refusal 4 0 → Asks A s v w (K.Refused x)
-  ask-letters cells (h, l, (σ, f, e, g), z) differ is =
-      inr (record { cells = cells; long = l }, NamedRefuse.by-letters σ f (λ same. differ (e .k ∙ sym (letters σ) ∙ same)) is z)
+  ask-letters cells (l, (σ, f, e, g), z) differ is =
+      inr (record { cells = cells; long = l .long }, NamedRefuse.by-letters σ f (λ same. differ (e .k ∙ sym (letters σ) ∙ same)) is z)
 
   pub ask-numbers : (A : Automaton) {a : Numbers} {u : List ℕ} {w : Tables} → 128 ≤ length (A .table) → Reads s t u v w (R.Is a)
       → a .k ≡ A .k → (x : Tables) (r : Checked) → Checks A w x r → Asks A s v x r
-  ask-numbers A cells (h, l, (σ, f, e, g), z) same x (K.Refused y) (inl (short, i, j)) =
-      absurd (short (record { cells = cells; long = subst Long (sym z) (long-cleared v l) }))
-  ask-numbers A cells (h, l, (σ, f, e, g), z) same x (K.Refused y) (inr (i, refuse)) =
-      let cleared-refuse = refuse-cleared A v x y (subst (λ (z : Tables). NumbersRefuse A z x y) z refuse) in
-      inr (record { cells = cells; long = l }, NamedRefuse.by-numbers σ f (letters σ ∙ sym (e .k) ∙ same) cleared-refuse)
-  ask-numbers A cells (h, l, (σ, f, e, g), z) same x K.Free (i, fits, free, j) = (
-    record { cells = cells; long = l },
+  ask-numbers A cells (l, (σ, f, e, g), z) same x (K.Refused y) (inl (short, i, j)) =
+      absurd (short (record { cells = cells; long = subst Long (sym z) (long-cleared v (l .long)) }))
+  ask-numbers A cells (l, (σ, f, e, g), z) same x (K.Refused y) (inr (i, refuse)) =
+      let cleared-refuse = refuse-cleared v (subst (λ (z : Tables). NumbersRefuse A z x y) z refuse) in
+      inr (record { cells = cells; long = l .long }, NamedRefuse.by-numbers σ f (letters σ ∙ sym (e .k) ∙ same) cleared-refuse)
+  ask-numbers A cells (l, (σ, f, e, g), z) same x K.Free (i, fits, free, j) = (
+    record { cells = cells; long = l .long },
     (σ, record { names = f; letters = letters σ ∙ sym (e .k) ∙ same; fits = fits; free = free }),
     j ∙ ap clearedTables z ∙ tables-twice v,
   )

@@ -3,31 +3,32 @@ use mathlib.Core.Path.{refl}
 use mathlib.Core.Logic._⊎_.{inl}
 use native.Mathlib.Omega.{arith}
 use denote.Ref.{now}
-use Rattle.automaton.specs.Lent.{tables, Long}
+use Rattle.automaton.specs.Lent.{tables, Lengths}
 use Rattle.sheet.proofs.ReadLaws as laws
 use borrow.Author.Needs.{needs}
 use Rattle.sheet.proofs.read_sheet.Statement.{statement}
 use Rattle.sheet.proofs.read_sheet.Tie as tie
 
 -- the tables are long enough
-long : (c : tie.Else4) → Long (tables (now (c .before .before .before .before .before .before .before .before .before .args .word)) (now (c .before .before .before .before .before .before .before .before .before .args .one)) (now (c .before .before .before .before .before .before .before .before .before .args .other)))
+long : (c : tie.Else4) →
+    let a = c .before .before .before .before .before .before .before .before .before .args in
+    Lengths (now (a .table)) (tables (now (a .word)) (now (a .one)) (now (a .other)))
 long c = record {
-  word = omega (arith, c .before .before .if2 .left);
-  one = omega (arith, c .before .if3 .left);
-  other = omega (arith, c .if4 .left);
+  cells = omega (arith, c .before .before .before .if1 .left);
+  long = record { word = omega (arith, c .before .before .if2 .left); one = omega (arith, c .before .if3 .left); other = omega (arith, c .if4 .left) };
 }
 
 returns : tie.Need-returns
-returns c = inl (λ q. (let h = q .0 in omega arith), refl, refl, refl)
+returns c = inl (λ q. (let h = q .cells in omega arith), refl, refl, refl)
 
 returns-2 : tie.Need-returns-2
-returns-2 c = inl (λ q. (let h = q .1 .word in omega arith), refl, refl, refl)
+returns-2 c = inl (λ q. (let h = q .long .word in omega arith), refl, refl, refl)
 
 returns-3 : tie.Need-returns-3
-returns-3 c = inl (λ q. (let h = q .1 .one in omega arith), refl, refl, refl)
+returns-3 c = inl (λ q. (let h = q .long .one in omega arith), refl, refl, refl)
 
 returns-4 : tie.Need-returns-4
-returns-4 c = inl (λ q. (let h = q .1 .other in omega arith), refl, refl, refl)
+returns-4 c = inl (λ q. (let h = q .long .other in omega arith), refl, refl, refl)
 
 clear-requires : tie.Need-clear-requires
 clear-requires c κs = search needs
@@ -51,7 +52,7 @@ read-cleared-requires c κs =
     laws.ready (now (a .table)) (tables (now (a .word)) (now (a .one)) (now (a .other)))
     (c .before .before .before .before .before .before .before .before .before .before .before .before .before .before .before .before .before .before .before .clear .last .0) (c .before .before .before .before .before .before .before .before .before .before .before .before .before .before .before .clear2 .last .0) (c .before .before .before .before .before .before .before .before .before .before .before .clear3 .last .0) (c .before .before .before .before .before .before .before .clear4 .last .0)
     (c .before .before .before .before .before .before .before .before .before .before .before .before .before .before .before .before .before .before .before .clear .ensures) (c .before .before .before .before .before .before .before .before .before .before .before .before .before .before .before .clear2 .ensures) (c .before .before .before .before .before .before .before .before .before .before .before .clear3 .ensures) (c .before .before .before .before .before .before .before .clear4 .ensures)
-    (c .before .before .before .before .before .before .before .before .before .before .before .before .before .before .before .before .before .before .before .before .before .before .before .before .if1 .left) (long (c .before .before .before .before .before .before .before .before .before .before .before .before .before .before .before .before .before .before .before .before .before)) in
+    (long (c .before .before .before .before .before .before .before .before .before .before .before .before .before .before .before .before .before .before .before .before .before)) in
     (r .0, r .1, r .2, r .3, search needs)
 
 same-length : tie.Need-same-length
@@ -73,7 +74,7 @@ returns-5 c =
     laws.reads (now (a .table)) (tables (now (a .word)) (now (a .one)) (now (a .other)))
     (c .before .before .before .before .before .before .before .before .before .before .before .before .before .before .before .before .before .before .before .before .before .before .before .before .before .before .before .before .before .clear .last .0) (c .before .before .before .before .before .before .before .before .before .before .before .before .before .before .before .before .before .before .before .before .before .before .before .before .before .clear2 .last .0) (c .before .before .before .before .before .before .before .before .before .before .before .before .before .before .before .before .before .before .before .before .before .clear3 .last .0) (c .before .before .before .before .before .before .before .before .before .before .before .before .before .before .before .before .before .clear4 .last .0)
     (c .before .before .before .before .before .before .before .before .before .before .before .before .before .before .before .before .before .before .before .before .before .before .before .before .before .before .before .before .before .clear .ensures) (c .before .before .before .before .before .before .before .before .before .before .before .before .before .before .before .before .before .before .before .before .before .before .before .before .before .clear2 .ensures) (c .before .before .before .before .before .before .before .before .before .before .before .before .before .before .before .before .before .before .before .before .before .clear3 .ensures) (c .before .before .before .before .before .before .before .before .before .before .before .before .before .before .before .before .before .clear4 .ensures)
-    (c .before .before .before .before .before .before .before .before .before .before .before .before .before .before .before .before .before .before .before .before .before .before .before .before .before .before .before .before .before .before .before .before .before .before .if1 .left) (long (c .before .before .before .before .before .before .before .before .before .before .before .before .before .before .before .before .before .before .before .before .before .before .before .before .before .before .before .before .before .before .before))
+    (long (c .before .before .before .before .before .before .before .before .before .before .before .before .before .before .before .before .before .before .before .before .before .before .before .before .before .before .before .before .before .before .before))
     (now (a .sheet)) (g .last .1 .0) (g .last .1 .1 .0)
     (tables (g .last .1 .1 .1 .0) (g .last .1 .1 .1 .1 .0) (g .last .1 .1 .1 .1 .1 .0)) (g .result) (g .ensures)
 

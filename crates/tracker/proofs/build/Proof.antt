@@ -91,12 +91,12 @@ enum-known-a c = search needs
 slice-reshare-prefix-track : tie.Need-slice-reshare-prefix-track
 slice-reshare-prefix-track c =
     let read = behind (c .before) in
-    omega (arith, lent read .table, read .read-sheet .kept .1 .0)
+    omega (arith, lent read .lengths .cells, read .read-sheet .kept .1 .0)
 
 slice-aggregate-track : tie.Need-slice-aggregate-track
 slice-aggregate-track c =
     let read = behind (c .before .before) in
-    sym (length-take-le 128 (read .read-sheet .last .1 .0) (omega (arith, lent read .table, read .read-sheet .kept .1 .0)))
+    sym (length-take-le 128 (read .read-sheet .last .1 .0) (omega (arith, lent read .lengths .cells, read .read-sheet .kept .1 .0)))
 
 track-requires : tie.Need-track-requires
 track-requires c κs =

@@ -3,8 +3,7 @@ use mathlib.Core.Path.{refl}
 use mathlib.Core.Logic.{inl}
 use native.Mathlib.Omega.{arith}
 use Rattle.automaton.specs.Automaton.{automaton}
-use Rattle.automaton.specs.Lent.{tables}
-use Rattle.walks.specs.Check.{Lengths}
+use Rattle.automaton.specs.Lent.{tables, Lengths}
 use Rattle.walks.specs.CheckLaws.{ready, checked}
 use borrow.Author.Needs.{needs}
 use Rattle.walks.proofs.check.Statement.{statement}
@@ -13,7 +12,7 @@ use Rattle.walks.proofs.check.Tie as tie
 -- all four lengths were asked
 long : (c : tie.Else4) →
     let a = c .before .before .before .before .before .before .before .before .args in
-    Lengths (automaton (a .a) (a .table .now)) (tables (a .word .now) (a .one .now) (a .other .now))
+    Lengths (a .table .now) (tables (a .word .now) (a .one .now) (a .other .now))
 long c = record { cells = omega arith; long = record { word = omega arith; one = omega arith; other = omega arith } }
 
 returns : tie.Need-returns

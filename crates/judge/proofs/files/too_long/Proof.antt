@@ -1,11 +1,12 @@
 -- Question 1 by the lengths; then each table is cleared. Assumes nothing.
 use mathlib.Core.Path.{refl}
 use mathlib.Core.Logic.{inl, inr}
+use Rattle.automaton.specs.LentLaws.{tables-cleared}
 use Rattle.automaton.specs.Lent.{tables}
 use Rattle.gate.specs.Gate.{Decides}
 use Rattle.tracker.specs.Build.{store, Lent}
 use Rattle.tracker.specs.BuildLaws.{lent-decided}
-use Rattle.judge.specs.VerdictLaws.{tables-cleared, store-cleared}
+use Rattle.judge.specs.VerdictLaws.{store-cleared}
 use borrow.Author.Needs.{needs}
 use Rattle.judge.proofs.files.too_long.Statement.{statement}
 use Rattle.judge.proofs.files.too_long.Tie as tie
@@ -71,7 +72,7 @@ returns c =
       asked (granted .before) .0 (granted .if1 .taken),
       refl,
       first .clear .ensures,
-      tables-cleared (tables (a .word .now) (a .one .now) (a .other .now)) _ _ _ (fourth .clear4 .ensures) (fifth .clear5 .ensures) (sixth .clear6 .ensures),
+      tables-cleared (tables (a .word .now) (a .one .now) (a .other .now)) (fourth .clear4 .ensures) (fifth .clear5 .ensures) (sixth .clear6 .ensures),
       store-cleared (store (a .tuples .now) (a .nexts .now)) _ _ (second .clear2 .ensures) (third .clear3 .ensures),
     )
 
