@@ -10,9 +10,9 @@ use Rattle.text.specs.Word.{startsAt}
 use Rattle.text.specs.declared.Pair.{Pair}
 use Rattle.text.specs.declared.Pair.the-variants.{Are, Bad}
 
--- the numbers in the three columns from `at` and the three behind them, and then LF
+-- the numbers in the three columns from `at` and the three behind them, before an LF
 abbrev pub pairAt : List ℕ → ℕ → Pair
-pairAt s at = withNumber (numberAt s at) (λ a. withNumber (numberAt s (at + 3)) (λ b. choose (eqb (getD s (at + 6) 0) lf) (Are a b) Bad) Bad) Bad
+pairAt s at = choose (eqb (getD s (at + 6) 0) lf) (withNumber (numberAt s at) (λ a. withNumber (numberAt s (at + 3)) (λ b. Are a b) Bad) Bad) Bad
 
 -- what to do with two numbers that were read, and what where there are none
 abbrev pub withPair : {A : Type 0} → Pair → (ℕ → ℕ → A) → A → A

@@ -47,10 +47,10 @@ module _ (s : List ℕ) (at a b : ℕ) where
   -- and the other
   pub pair-is : pairAt s at ≡ Are a b → (a < 1000) × (b < 1000) × (drop at s ≡ twoNumbers a b (drop (at + 7) s))
   pair-is e =
-      let e1 = some-number bad-is-not (numberAt s at) _ e in
+      let e3 = test-true bad-is-not (eqb (getD s (at + 6) 0) lf) _ e in
+      let e1 = some-number bad-is-not (numberAt s at) _ (e3 .1) in
       let e2 = some-number bad-is-not (numberAt s (at + 3)) _ (e1 .2) in
-      let e3 = test-true bad-is-not (eqb (getD s (at + 6) 0) lf) _ (e2 .2) in
-      let same : Are (e1 .0) (e2 .0) ≡ Are a b = e3 .1 in
+      let same : Are (e1 .0) (e2 .0) ≡ Are a b = e2 .2 in
       let ea : e1 .0 ≡ a = cc in
       let eb : e2 .0 ≡ b = cc in
       let w1 = number-is s at a (e1 .1 ∙ ap N.Is ea) in

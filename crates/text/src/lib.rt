@@ -83,15 +83,16 @@ pub fn pair_at(s: &[u8], at: usize) -> Pair
     requires { ⌜ at + 6 < 2 ^ 31 ⌝ }
     ensures { λ r. ⌜ r ≡ pairAt (now (s .entry)) at ⌝ }
 {
+    // The LF first: then each byte before it is known to be there.
+    if byte_at(s, at + 6) != 10 {
+        return Pair::Bad;
+    }
     let Number::Is(a) = number_at(s, at) else {
         return Pair::Bad;
     };
     let Number::Is(b) = number_at(s, at + 3) else {
         return Pair::Bad;
     };
-    if byte_at(s, at + 6) != 10 {
-        return Pair::Bad;
-    }
     Pair::Are(a, b)
 }
 
