@@ -3,7 +3,6 @@
 ghost use Prim.Native.Nat.{_<_, _≤_};
 ghost use lib.ListN.{length};
 use gate::Written;
-use judge::Answer;
 use judge::Outcome;
 use judge::Verdict;
 use libc::STDOUT_FILENO;
@@ -28,11 +27,7 @@ fn say_line(line: [u8; 12]) {
 
 fn say_verdict(v: Verdict) {
     let answer = v.answer;
-    let passed = match answer {
-        Answer::Yes => true,
-        Answer::No => false,
-    };
-    say_line(report::verdict_line(passed, v.least as usize, v.passes));
+    say_line(report::verdict_line(judge::passed(answer), v.least as usize, v.passes));
 }
 
 // One more byte of a sum that tells a text from its neighbours.
@@ -129,34 +124,20 @@ fn room_of(case: &[u8]) -> usize
         + digit(case[8])
 }
 
-// The verdict on sheet and plan, of which the sheet ends at e.
-fn judged(input: &[u8], e: usize, room: usize)
-    requires { ⌜ e ≤ length (now input) ⌝ }
-{
-    say_judgement(&input[..e], &input[e..], room);
+// The three answers on a sheet and a plan, in a room.
+fn say_answers(sheet: &[u8], plan: &[u8], room: usize) {
+    say_judgement(sheet, plan, room);
     say(b" ");
-}
-
-fn listed(input: &[u8], e: usize, room: usize)
-    requires { ⌜ e ≤ length (now input) ⌝ }
-{
-    say_listing(&input[..e], room);
+    say_listing(sheet, room);
     say(b" ");
-}
-
-fn copied(input: &[u8], e: usize)
-    requires { ⌜ e ≤ length (now input) ⌝ }
-{
-    say_copy(&input[..e]);
+    say_copy(sheet);
     say(b"\n");
 }
 
-// Sheet and plan, in a room.
+// The sheet, and behind its END the plan.
 fn answer_in(input: &[u8], room: usize) {
     let e = report::sheet_end(input);
-    judged(input, e, room);
-    listed(input, e, room);
-    copied(input, e);
+    say_answers(&input[..e], &input[e..], room);
 }
 
 // A case: ROOM and five digits, then sheet and plan.

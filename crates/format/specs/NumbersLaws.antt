@@ -1,18 +1,20 @@
 -- The numbers of a sheet: its flags are members of two sets, its transitions are members of the successor sets, and all of them fit.
 -- Assumes nothing.
-use Prim.Native.Nat.{ℕ, zero, suc, _+_, _*_, _/_, _%_, _^_, _≤_, _<_}
-use mathlib.Core.Path.{_≡_, refl, sym, subst, _∙_}
+use Prim.Native.Nat.{ℕ, zero, suc, _+_, _-_, _*_, _/_, _%_, _^_, _≤_, _<_}
+use mathlib.Core.Path.{_≡_, refl, sym, ap, subst, _∙_}
 use mathlib.Core.List.{List, [], _∷_}
-use mathlib.Core.Logic.{_⊎_, inl, inr, _↔_}
+use mathlib.Core.Logic.{_⊎_, inl, inr, _↔_, Dec·and}
 use Rattle.gate.specs.GateLaws.{zeros}
-use lib.ListN.{length, getD, set, replicate, length-set}
-use lib.Seq.{getD-set-same, getD-set-other}
+use lib.ListN.{length, getD, set, take, replicate, length-set}
+use lib.Seq.{take-at, getD-set-same, getD-set-other, set-out}
 use native.Mathlib.Omega.{arith}
-use native.Mathlib.Decide.{ℕ-discrete}
+use native.Mathlib.Decide.{decLt, ℕ-discrete}
 use native.Mathlib.Nat.{add-zero, pow-suc, one-mul, mul-le-mul-right}
-use Rattle.sets.specs.Sets.{Member, unionOf}
-use Rattle.sets.specs.SetLaws.{no-member, some-member, member-lt, union-in, union-left, union-right, bit-single, single-in}
-use Rattle.automaton.specs.Automaton.{Edge, InRange, Fits}
+use Rattle.sets.specs.Sets.{bit, Member, unionOf}
+use Rattle.sets.specs.SetLaws.{no-member, some-member, member-lt, union-right, bit-union, bit-single, bit-single-other}
+use Rattle.automaton.specs.declared.Numbers.{Numbers}
+use Rattle.automaton.specs.Automaton.{automaton, AreNumbers, Edge, InRange, Fits}
+use Rattle.automaton.specs.Lent.{lentTable}
 use Rattle.format.specs.Format.{State, Transition, Sheet, FlagsRight, StatesRight, TransitionRight, TransitionsRight, place, Right, FileIs, flagSet, entered, tableOf, numbers}
 
 -- Flags
@@ -43,39 +45,53 @@ OneOf ts t = (i : ℕ) × (i < length ts) × (getD ts i (transition 0 0 0) ≡ t
 abbrev pub cell : Transition → ℕ
 cell t = 8 * t .from + t .letter
 
-module _ (table : List ℕ) (t : Transition) (fits : cell t < length table) where
-  entered-length : length (entered table t) ≡ length table
+module _ (table : List ℕ) (t : Transition) where
+  pub entered-length : length (entered table t) ≡ length table
   unfolding entered
   entered-length = simp length-set
 
-  entered-there : getD (entered table t) (cell t) 0 ≡ unionOf (getD table (cell t) 0) (2 ^ t .to)
+  -- a transition is a member of its cell, and all other members stay as they are
+  pub entered-new : cell t < length table → Member (getD (entered table t) (cell t) 0) (t .to)
   unfolding entered
-  entered-there = rw getD-set-same
+  entered-new fits = rw getD-set-same (union-right _ _ _ (bit-single (t .to)))
 
-  entered-elsewhere : (c : ℕ) → (c ≡ cell t → ⊥) → getD (entered table t) c 0 ≡ getD table c 0
+  pub entered-other : (c r : ℕ) → (c ≡ cell t → r ≡ t .to → ⊥) → bit (getD (entered table t) c 0) r ≡ bit (getD table c 0) r
   unfolding entered
-  entered-elsewhere c h = rw getD-set-other
-
-  entered-new : Member (getD (entered table t) (cell t) 0) (t .to)
-  entered-new = rw entered-there (union-right _ _ _ (bit-single (t .to)))
-
-  entered-old : (c r : ℕ) → Member (getD table c 0) r → Member (getD (entered table t) c 0) r
-  entered-old c r m = by (ℕ-discrete c (cell t))
+  entered-other c r h = by (ℕ-discrete c (cell t)) (decLt (cell t) (length table))
     where
-      by : Dec (c ≡ cell t) → Member (getD (entered table t) c 0) r
-      by (yes e) = rw (e, entered-there) (union-left _ _ _ (rw e at m))
-      by (no e) = rw (entered-elsewhere c e) m
+      by : Dec (c ≡ cell t) → Dec (cell t < length table)
+          → bit (getD (set table (cell t) (unionOf (getD table (cell t) 0) (2 ^ t .to))) c 0) r ≡ bit (getD table c 0) r
+      by (no d) l = rw (getD-set-other table (cell t) c _ 0 d)
+      by (yes e) (yes l) =
+          let u = bit-union (getD table (cell t) 0) (2 ^ t .to) r in
+          let o = bit-single-other (t .to) r (h e) in
+          rw (e, getD-set-same) (omega arith)
+      by (yes e) (no l) = rw (set-out table (cell t) _ (omega arith))
 
-  entered-from : (c r : ℕ) → Member (getD (entered table t) c 0) r → Member (getD table c 0) r ⊎ ((c ≡ cell t) × (r ≡ t .to))
-  entered-from c r m = by (ℕ-discrete c (cell t))
-    where
-      split : c ≡ cell t → Member (getD table (cell t) 0) r ⊎ Member (2 ^ t .to) r → Member (getD table c 0) r ⊎ ((c ≡ cell t) × (r ≡ t .to))
-      split e (inl a) = inl (rw e a)
-      split e (inr a) = inr (e, single-in (t .to) r a)
+  module _ (c r : ℕ) where
+    entered-old : cell t < length table → Member (getD table c 0) r → Member (getD (entered table t) c 0) r
+    entered-old fits m = by (Dec·and (ℕ-discrete c (cell t)) (ℕ-discrete r (t .to)))
+      where
+        by : Dec ((c ≡ cell t) × (r ≡ t .to)) → Member (getD (entered table t) c 0) r
+        by (yes (e, f)) = rw (e, f) (entered-new fits)
+        by (no d) = entered-other c r (λ e f. d (e, f)) ∙ m
 
-      by : Dec (c ≡ cell t) → Member (getD table c 0) r ⊎ ((c ≡ cell t) × (r ≡ t .to))
-      by (yes e) = split e (union-in _ _ r (rw (e, entered-there) at m))
-      by (no e) = inl (rw (entered-elsewhere c e) at m)
+    entered-from : Member (getD (entered table t) c 0) r → Member (getD table c 0) r ⊎ ((c ≡ cell t) × (r ≡ t .to))
+    entered-from m = by (Dec·and (ℕ-discrete c (cell t)) (ℕ-discrete r (t .to)))
+      where
+        by : Dec ((c ≡ cell t) × (r ≡ t .to)) → Member (getD table c 0) r ⊎ ((c ≡ cell t) × (r ≡ t .to))
+        by (yes e) = inr e
+        by (no d) = inl (sym (entered-other c r (λ e f. d (e, f))) ∙ m)
+
+-- the table of all transitions is as long as the one that they are entered in
+pub table-length : (ts : List Transition) (table : List ℕ) → length (tableOf table ts) ≡ length table
+unfolding tableOf
+table-length [] table = refl
+table-length (t ∷ ts) table = table-length ts (entered table t) ∙ entered-length table t
+
+-- a transition that is right behind others is right
+pub loosened : {n k least : ℕ} {t : Transition} → TransitionRight n k least t → TransitionRight n k 0 t
+loosened h = record { from = h .from; letter = h .letter; to = h .to; order = omega arith }
 
 module _ (n k : ℕ) (range : InRange n k) where
   -- a transition in range has a cell of its own among the 128
@@ -93,29 +109,23 @@ module _ (n k : ℕ) (range : InRange n k) where
     table-old table size least [] h m = m
     table-old table size least (t ∷ ts) h m =
         let fits : cell t < length table = omega (arith, cell-small t (h .0 .from) (h .0 .letter)) in
-        table-old (entered table t) (entered-length table t fits ∙ size) (place t + 1) ts (h .1) (entered-old table t fits c r m)
+        table-old (entered table t) (entered-length table t ∙ size) (place t + 1) ts (h .1) (entered-old table t c r fits m)
 
     -- a member was one, or is a transition's
     table-from : (table : List ℕ) → length table ≡ 128 → (least : ℕ) (ts : List Transition) → TransitionsRight n k least ts →
         Member (getD (tableOf table ts) c 0) r → Member (getD table c 0) r ⊎ ((t : Transition) × OneOf ts t × TransitionRight n k 0 t × (c ≡ cell t) × (r ≡ t .to))
     unfolding tableOf
     table-from table size least [] h m = inl m
-    table-from table size least (t ∷ ts) h m =
-        let fits : cell t < length table = omega (arith, cell-small t (h .0 .from) (h .0 .letter)) in
-        by fits (table-from (entered table t) (entered-length table t fits ∙ size) (place t + 1) ts (h .1) m)
+    table-from table size least (t ∷ ts) h m = by (table-from (entered table t) (entered-length table t ∙ size) (place t + 1) ts (h .1) m)
       where
-        here : TransitionRight n k 0 t
-        here = record { from = h .0 .from; letter = h .0 .letter; to = h .0 .to; order = omega arith }
-
         first : Member (getD table c 0) r ⊎ ((c ≡ cell t) × (r ≡ t .to)) → Member (getD table c 0) r ⊎ ((u : Transition) × OneOf (t ∷ ts) u × TransitionRight n k 0 u × (c ≡ cell u) × (r ≡ u .to))
         first (inl a) = inl a
-        first (inr a) = inr (t, (0, omega arith, refl), here, a .0, a .1)
+        first (inr a) = inr (t, (0, omega arith, refl), loosened (h .0), a .0, a .1)
 
-        by : cell t < length table →
-            Member (getD (entered table t) c 0) r ⊎ ((u : Transition) × OneOf ts u × TransitionRight n k 0 u × (c ≡ cell u) × (r ≡ u .to)) →
+        by : Member (getD (entered table t) c 0) r ⊎ ((u : Transition) × OneOf ts u × TransitionRight n k 0 u × (c ≡ cell u) × (r ≡ u .to)) →
             Member (getD table c 0) r ⊎ ((u : Transition) × OneOf (t ∷ ts) u × TransitionRight n k 0 u × (c ≡ cell u) × (r ≡ u .to))
-        by fits (inl a) = first (entered-from table t fits c r a)
-        by fits (inr a) = inr (a .0, (suc (a .1 .0), omega (arith, a .1 .1), a .1 .2), a .2, a .3, a .4)
+        by (inl a) = first (entered-from table t c r a)
+        by (inr a) = inr (a .0, (suc (a .1 .0), omega (arith, a .1 .1), a .1 .2), a .2, a .3, a .4)
 
   -- each transition is in its cell
   table-new : (t : Transition) (table : List ℕ) → length table ≡ 128 → (least : ℕ) (ts : List Transition) → TransitionsRight n k least ts →
@@ -124,17 +134,16 @@ module _ (n k : ℕ) (range : InRange n k) where
   table-new t table size least [] h i l e = absurd (omega arith)
   table-new t table size least (u ∷ us) h zero l e =
       let fits : cell u < length table = omega (arith, cell-small u (h .0 .from) (h .0 .letter)) in
-      table-old (cell t) (t .to) (entered table u) (entered-length table u fits ∙ size) (place u + 1) us (h .1)
+      table-old (cell t) (t .to) (entered table u) (entered-length table u ∙ size) (place u + 1) us (h .1)
       (subst (λ (v : Transition). Member (getD (entered table u) (cell v) 0) (v .to)) e (entered-new table u fits))
   table-new t table size least (u ∷ us) h (suc i) l e =
       let fits : cell u < length table = omega (arith, cell-small u (h .0 .from) (h .0 .letter)) in
-      table-new t (entered table u) (entered-length table u fits ∙ size) (place u + 1) us (h .1) i (omega arith) e
+      table-new t (entered table u) (entered-length table u ∙ size) (place u + 1) us (h .1) i (omega arith) e
 
   -- each transition of a list is right
   one-right : (t : Transition) (least : ℕ) (ts : List Transition) → TransitionsRight n k least ts → OneOf ts t → TransitionRight n k 0 t
   one-right t least [] h o = absurd (let l = o .1 in omega arith)
-  one-right t least (u ∷ us) h (zero, l, e) =
-      subst (TransitionRight n k 0) e (record { from = h .0 .from; letter = h .0 .letter; to = h .0 .to; order = omega arith })
+  one-right t least (u ∷ us) h (zero, l, e) = subst (TransitionRight n k 0) e (loosened (h .0))
   one-right t least (u ∷ us) h (suc i, l, e) = one-right t (place u + 1) us (h .1) (i, omega arith, e)
 
 -- no cell of the empty table has a member
@@ -211,3 +220,16 @@ sheet-fits s σ h = right-fits σ (h .right) (h .all-states)
 
 pub edge-is : (s : List ℕ) (σ : Sheet) → FileIs s σ → (l q r : ℕ) → Edge (numbers σ) l q r ↔ OneOf (σ .transitions) (transition q l r)
 edge-is s σ h = right-edge σ (h .right)
+
+-- WHAT IS READ: an answer's numbers, and a table of successor sets
+
+pub numbers-length : (σ : Sheet) → length (numbers σ .table) ≡ 128
+unfolding numbers
+numbers-length σ = table-length (σ .transitions) (replicate 128 0)
+
+pub automaton-is : (σ : Sheet) {a : Numbers} {table : List ℕ} → AreNumbers (numbers σ) a → table ≡ numbers σ .table → automaton a table ≡ numbers σ
+automaton-is σ h e = λ i. record { n = h .n i; k = h .k i; initial = h .initial i; recurring = h .recurring i; table = e i }
+
+-- the first 128 cells of a lent table are the successor sets
+pub read-is : (σ : Sheet) {a : Numbers} (t : List ℕ) {u : List ℕ} → AreNumbers (numbers σ) a → u ≡ lentTable (numbers σ .table) t → automaton a (take 128 u) ≡ numbers σ
+read-is σ t h e = automaton-is σ h (ap (take 128) e ∙ take-at (numbers σ .table) (replicate (length t - 128) 0) 128 (numbers-length σ))

@@ -1,25 +1,29 @@
 -- Answers; lists of zeros, tables that are cleared, and a text with zeros behind it. Assumes nothing.
 use Prim.Native.Nat.{ℕ, zero, suc, _+_, _-_, _≤_, _<_}
 use mathlib.Core.Path.{_≡_, refl, sym, ap, _∙_}
-use mathlib.Core.Bool.{true, false}
+use mathlib.Core.Bool.{true, false, true≢false, false≢true}
 use mathlib.Core.List.{List, _++_, append-nil}
 use native.Mathlib.Omega.{arith}
 use native.Mathlib.Nat.{zero-add, sub-zero, zero-sub}
 use borrow.Author.Fill.{fill-none, fill-more}
 use lib.ListN.{length, replicate, set, take, drop, length-set, length-replicate, length-drop, drop-of-length-le}
 use lib.Seq.{sets, sets-eq, take-all, take-at, drop-at, drop-length}
-use Rattle.gate.specs.Gate.{Decides, Zero, cleared, lentText}
+use Rattle.gate.specs.declared.Refusal.{Refusal}
+use Rattle.gate.specs.declared.Written.{Written}
+use Rattle.gate.specs.declared.Written.the-variants.{Refused}
+use Rattle.gate.specs.Gate.{refusal, Decides, Zero, cleared, lentText, RefusedWith}
 
 -- Answers
 
-true-is-not-false : true ≡ false → ⊥
-true-is-not-false e = let z : _≡_ {A = ℕ} 0 1 = cc in omega arith
-
 pub decides-yes : {P : Type 0} → P → Decides true P
-decides-yes p = (λ e. p, λ e. absurd (true-is-not-false e))
+decides-yes p = (λ e. p, λ e. absurd (true≢false e))
 
 pub decides-no : {P : Type 0} → (P → ⊥) → Decides false P
-decides-no f = (λ e. absurd (true-is-not-false (sym e)), λ e. f)
+decides-no f = (λ e. absurd (false≢true e), λ e. f)
+
+-- a refusal by question 1, asked first
+pub refused-first : {x : Refusal} {b c : List ℕ} {r : Written} → RefusedWith x b c r → x ≡ refusal 1 0 → (r ≡ Refused (refusal 1 0)) × (c ≡ b)
+refused-first answer e = (answer .is ∙ ap Refused e, answer .untouched (ap (λ (x : Refusal). x .number) e))
 
 -- Zeros
 

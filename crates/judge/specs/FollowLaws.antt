@@ -9,7 +9,7 @@ use Rattle.automaton.specs.Automaton.{Automaton, Fits}
 use Rattle.tuple.specs.Step.{Tuple, run}
 use Rattle.tracker.specs.Numbering.{tupleAt, Numbering}
 use Rattle.tracker.specs.Build.{Store, RoomFits, Fitted}
-use Rattle.tracker.specs.FittedLaws.{fitted-colour}
+use Rattle.tracker.specs.FittedLaws.{fitted-colour, fitted-length}
 use Rattle.judge.specs.declared.Verdict.{Verdict}
 use Rattle.judge.specs.Passes.{Judges}
 use Rattle.judge.specs.TableRun.{TablesFit, reached, enteredIn, TableJudges}
@@ -48,15 +48,15 @@ module _ {A : Automaton} (fits : Fits A) (room count : ℕ) (f g : Store) (fitte
       ]
 
   -- so the tables are fit to be judged on
-  pub tables-fit : RoomFits room f → length (g .tuples) ≡ length (f .tuples) → TablesFit (g .tuples) (g .nexts) count
-  tables-fit roomy same = record {
+  pub tables-fit : RoomFits room f → TablesFit (g .tuples) (g .nexts) count
+  tables-fit roomy = record {
     numbers = record {
       some = omega (arith, fitted .count-is, numbering .some);
       most = omega (arith, fitted .room-is, roomy .most);
       room = omega (arith, fitted .room-is, roomy .nexts, fitted .holds .same);
       below = next-below;
     };
-    colours = omega (arith, fitted .room-is, roomy .tuples);
+    colours = omega (arith, fitted .room-is, roomy .tuples, fitted-length A fits room count f g fitted roomy);
   }
 
   module _ (w : ℕ → ℕ) (letters : (t : ℕ) → w t < A .k) where

@@ -23,7 +23,7 @@ pub record AfterPasses (tuples nexts : List ℕ) (count : ℕ) (letters : List �
   pub seen-cells : length seen ≡ 1024
   pub leasts-cells : length leasts ≡ 1025
 
-module _ (tuples nexts : List ℕ) (count : ℕ) (letters : List ℕ) (lead cycle : ℕ) (tables : TablesFit tuples nexts count) (fit : LettersFit letters lead cycle) where
+module _ {tuples nexts : List ℕ} {count : ℕ} {letters : List ℕ} {lead cycle : ℕ} (tables : TablesFit tuples nexts count) (fit : LettersFit letters lead cycle) where
   abbrev word : ℕ → ℕ
   word = wordOf letters lead cycle
 
@@ -45,7 +45,7 @@ module _ (tuples nexts : List ℕ) (count : ℕ) (letters : List ℕ) (lead cycl
     leasts-cells = length-replicate {A = ℕ} 1025 0;
   }
 
-  module _ (seen leasts : List ℕ) (passes at : ℕ) (h : AfterPasses tuples nexts count letters lead cycle seen leasts passes at) where
+  module _ {seen leasts : List ℕ} {passes at : ℕ} (h : AfterPasses tuples nexts count letters lead cycle seen leasts passes at) where
     pub passes-few : getD seen at 0 ≡ 0 → passes < count
     passes-few new = seen-few end passes seen (h .ends) (ap (λ (x : ℕ). getD seen x 0) (sym (h .here)) ∙ new) count end-below
 

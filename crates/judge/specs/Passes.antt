@@ -1,6 +1,7 @@
 -- Document 01, "The verdict": the run of an endless plan, over tuples and not over a table.
 use Prim.Native.Nat.{ℕ, _+_, _*_, _%_, _≤_, _<_}
 use mathlib.Core.Path.{_≡_}
+use mathlib.Core.Bool.{Bool, true, false}
 use Rattle.automaton.specs.Automaton.{Automaton}
 use Rattle.tuple.specs.Step.{Tuple, run}
 use Rattle.judge.specs.declared.Answer.{Answer}
@@ -29,6 +30,11 @@ pub record LeastColour (A : Automaton) (w : ℕ → ℕ) (t u least : ℕ) : Typ
 abbrev pub AnswerIs : ℕ → Answer → Type 0
 AnswerIs least Yes = least % 2 ≡ 0
 AnswerIs least No = least % 2 ≡ 1
+
+-- the answer as a truth value
+abbrev pub isYes : Answer → Bool
+isYes Yes = true
+isYes No = false
 
 -- THE VERDICT on an endless word with a lead-in of m letters and a cycle of c: "The count of passes is reported"
 pub record Judges (A : Automaton) (w : ℕ → ℕ) (m c : ℕ) (z : Verdict) : Type 0 where

@@ -5,7 +5,8 @@ use mathlib.Core.List.{List}
 use native.Mathlib.Omega.{arith}
 use native.Mathlib.Nat.{add-zero, add-suc, suc-mul}
 use lib.ListN.{length, getD, take, drop, length-take, length-drop}
-use lib.Seq.{getD-take, getD-drop}
+use lib.Seq.{getD-take}
+use Rattle.text.specs.CellsLaws.{part-at}
 use Rattle.plan.specs.LetterLaws.{letter-lead, letter-cycle}
 use Rattle.judge.specs.declared.Pass.{Pass}
 use Rattle.judge.specs.TableRun.{NextsFit, wordOf, reached, colourIn, enteredIn, endNumber, Least, Passing}
@@ -53,7 +54,7 @@ module _ (letters : List ℕ) (lead cycle : ℕ) (all : lead + cycle ≤ length 
   pub word-cycle : (p i : ℕ) → i < cycle → wordOf letters lead cycle (lead + p * cycle + i) ≡ getD letters (lead + i) 0
   word-cycle p i l =
       (rw (lead-length, cycle-length) at (letter-cycle (take lead letters) (take cycle (drop lead letters)) p i (rw cycle-length l)))
-      ∙ (getD-take cycle (drop lead letters) i 0 l ∙ getD-drop lead letters i 0)
+      ∙ part-at letters lead cycle i l
 
   -- A pass of the cycle that starts at the end of pass p ends at the end of pass p + 1, and enters the colours in between
   module _ (tuples nexts : List ℕ) (count p : ℕ) (z : Pass)

@@ -19,7 +19,9 @@ use Rattle.plan.specs.Plan.{PlanIs}
 use Rattle.plan.specs.ReadLaws.{known-below}
 use Rattle.tracker.specs.Build.{Store, store, Fitted, clearedStore, Builds}
 use Rattle.tracker.specs.BuildLaws.{file-built}
+use Rattle.tracker.specs.FittedLaws.{fitted-cleared}
 use Rattle.tracker.specs.declared.Tracker.{Tracker}
+use Rattle.tracker.specs.declared.Built.{Built}
 use Rattle.tracker.specs.declared.Built.the-variants as B
 use Rattle.judge.specs.declared.Outcome.the-variants.{Refused, Judged}
 use Rattle.judge.specs.declared.Verdict.{Verdict}
@@ -63,33 +65,41 @@ module _ {s p : List ℕ} {room : ℕ} {t u : List ℕ} {v w : Tables} {f g : St
   size-refused {r} not-both (inr (l, e, x, y, z)) = Judgement.refused l r (Refusing.by-size not-both e y) refl x z
 
   module _ (sizes : SizesFit s p) where
-    -- 1, and 3 to 11
-    pub built-refused : {r : Refusal} → Builds s room t u v w f g (B.Refused r) → Judgement s p room t u v w f g (Refused r)
-    built-refused (Builds.short n e x y z) = Judgement.short n (cc) x y z
-    built-refused (Builds.refused l q h e x z) = Judgement.refused l q (Refusing.by-sheet sizes h) (cc) x z
-    built-refused {r} (Builds.asked l σ h y (m, e, z) x) = Judgement.refused l r (Refusing.by-room sizes σ h m e y) refl x z
+    refused-built : {r : Refusal} → Builds s room t u v w f g (B.Refused r) → Judgement s p room t u v w f g (Refused r)
+    refused-built (Builds.short n e x y z) = Judgement.short n (cc) x y z
+    refused-built (Builds.refused l q h e x z) = Judgement.refused l q (Refusing.by-sheet sizes h) (cc) x z
+    refused-built {r} (Builds.asked l σ h y (m, e, z) x) = Judgement.refused l r (Refusing.by-room sizes σ h m e y) refl x z
 
-    module _ {x : Tracker} (built : Builds s room t u v w f g (B.Is x)) where
-      pub built-tables : length (g .tuples) ≡ length (f .tuples) → TablesFit (g .tuples) (g .nexts) (x .tuples)
-      built-tables same =
-          let (l, (σ, accepted, are, is, fitted), y) = file-built built in
-          tables-fit (sheet-fits s σ (accepted .file)) room (x .tuples) f g fitted (l .store) same
+    -- behind building, which answered b
+    module _ {b : Built} (built : Builds s room t u v w f g b) where
+      answered : {a : Built} → b ≡ a → Builds s room t u v w f g a
+      answered told = subst (Builds s room t u v w f g) told built
 
-      -- 12 to 14
-      pub plan-refused : {r : Refusal} {u′ : List ℕ} {g′ : Store} → ((σ : Sheet) → FileIs s σ → PlanJudged σ p (g .tuples) (g .nexts) (x .tuples) (Refused r))
-          → length u ≡ length t → length (g .tuples) ≡ length (f .tuples) → length (g .nexts) ≡ length (f .nexts)
-          → u′ ≡ cleared u → g′ ≡ clearedStore g → Judgement s p room t u′ v w f g′ (Refused r)
-      plan-refused {r} h lu lt ln cu cg =
-          let (l, (σ, accepted, are, is, fitted), y) = file-built built in
-          let (number, line, faulty, e) = h σ (accepted .file) in
-          Judgement.refused l r (Refusing.by-plan sizes σ accepted g (x .tuples) fitted number line faulty e y) refl (cu ∙ same-cleared t u lu)
-          (cg ∙ store-cleared f (cleared (g .tuples)) (cleared (g .nexts)) (same-cleared (f .tuples) (g .tuples) lt) (same-cleared (f .nexts) (g .nexts) ln))
+      -- 1, and 3 to 11
+      pub built-refused : {r : Refusal} → b ≡ B.Refused r → Judgement s p room t u v w f g (Refused r)
+      built-refused told = refused-built (answered told)
 
-      -- the answer
-      pub plan-judged : {z : Verdict} → ((σ : Sheet) → FileIs s σ → PlanJudged σ p (g .tuples) (g .nexts) (x .tuples) (Judged z))
-          → Judgement s p room t u v w f g (Judged z)
-      plan-judged {z} h =
-          let (l, (σ, accepted, are, is, fitted), y) = file-built built in
-          let (lead, cycle, plan, table) = h σ (accepted .file) in
-          Judgement.judged l sizes σ accepted (x .tuples) fitted lead cycle z
-          (verdicts s σ accepted room f g (x .tuples) fitted p lead cycle z plan table) refl is y
+      module _ {x : Tracker} (told : b ≡ B.Is x) where
+        pub built-tables : TablesFit (g .tuples) (g .nexts) (x .tuples)
+        built-tables =
+            let (l, (σ, accepted, are, is, fitted), y) = file-built (answered told) in
+            tables-fit (sheet-fits s σ (accepted .file)) room (x .tuples) f g fitted (l .store)
+
+        -- 12 to 14
+        pub plan-refused : {r : Refusal} {u′ tuples nexts : List ℕ}
+            → ((σ : Sheet) → FileIs s σ → PlanJudged σ p (g .tuples) (g .nexts) (x .tuples) (Refused r)) → length u ≡ length t
+            → u′ ≡ cleared u → tuples ≡ cleared (g .tuples) → nexts ≡ cleared (g .nexts) → Judgement s p room t u′ v w f (store tuples nexts) (Refused r)
+        plan-refused {r} {u′} {tuples} {nexts} h same cu ct cn =
+            let (l, (σ, accepted, are, is, fitted), y) = file-built (answered told) in
+            let (number, line, faulty, e) = h σ (accepted .file) in
+            Judgement.refused l r (Refusing.by-plan sizes σ accepted g (x .tuples) fitted number line faulty e y) refl (cu ∙ same-cleared t u same)
+            (store-cleared g tuples nexts ct cn ∙ fitted-cleared (numbers σ) (sheet-fits s σ (accepted .file)) room (x .tuples) f g fitted (l .store))
+
+        -- the answer
+        pub plan-judged : {z : Verdict} → ((σ : Sheet) → FileIs s σ → PlanJudged σ p (g .tuples) (g .nexts) (x .tuples) (Judged z))
+            → Judgement s p room t u v w f g (Judged z)
+        plan-judged {z} h =
+            let (l, (σ, accepted, are, is, fitted), y) = file-built (answered told) in
+            let (lead, cycle, plan, table) = h σ (accepted .file) in
+            Judgement.judged l sizes σ accepted (x .tuples) fitted lead cycle z
+            (verdicts s σ accepted room f g (x .tuples) fitted p lead cycle z plan table) refl is y

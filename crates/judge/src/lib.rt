@@ -1,4 +1,7 @@
 // The verdict on a plan.
+ghost use mathlib.Core.Path.{_≡_};
+ghost use Rattle.judge.specs.Passes.{isYes};
+
 pub mod files;
 pub mod table;
 
@@ -7,6 +10,16 @@ use gate::Refusal;
 pub enum Answer {
     Yes,
     No,
+}
+
+// Whether the answer is yes.
+pub fn passed(answer: Answer) -> bool
+    ensures { λ r. ⌜ r ≡ isYes answer ⌝ }
+{
+    match answer {
+        Answer::Yes => true,
+        Answer::No => false,
+    }
 }
 
 // "yes or no with least colour and passes"

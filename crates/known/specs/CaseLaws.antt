@@ -1,14 +1,13 @@
 -- A case that is computed right is forced: a verdict is the one expected, and so is a tracker. Assumes nothing.
 use Prim.Native.Nat.{ℕ, _≤_}
 use mathlib.Core.Path.{_≡_, sym, ap, subst, _∙_}
-use mathlib.Core.Bool.{true, not}
+use mathlib.Core.Bool.{true, not, and-eq-true-iff, false≢true}
 use mathlib.Core.List.{List, _++_, map}
 use native.Mathlib.Omega.{arith}
 use borrow.Author.Tests.{ltb-false, eqb-true, not-true}
 use lib.Dec.{eqb, ltb}
 use lib.ListN.{length, take, drop, length-map}
 use lib.Seq.{take-append-seam, drop-append-seam}
-use Rattle.text.specs.ChoiceLaws.{true-is-not-false}
 use Rattle.gate.specs.Gate.{refusal}
 use Rattle.automaton.specs.Automaton.{Automaton}
 use Rattle.format.specs.Format.{Sheet, FileIs, numbers, most}
@@ -34,7 +33,6 @@ use Rattle.judge.specs.Passes.{Judges}
 use Rattle.judge.specs.Verdict.{SizesFit}
 use Rattle.known.specs.Case.{Expected, judged, meeting, Case, Tracked, VerdictIs, BuiltIs, Forced}
 use Rattle.known.specs.Case as E
-use Rattle.known.specs.BelowLaws.{and-both}
 use Rattle.known.specs.VerdictTest.{isVerdict}
 use Rattle.known.specs.VerdictTestLaws.{verdict-is, one-verdict}
 use Rattle.known.specs.CaseTest.{automatonOf, isRefused, rightPlan, rightColours, right}
@@ -44,12 +42,12 @@ use Rattle.known.specs.SheetLaws.{numbers-are, sheet-asked}
 refused-is : (number line : ℕ) (e : Expected) → isRefused number line e ≡ true → E.refused number line ≡ e
 unfolding isRefused
 refused-is number line (E.refused n l) t =
-    let (a, b) = and-both (eqb number n) (eqb line l) t in
+    let (a, b) = and-eq-true-iff (eqb number n) (eqb line l) .0 t in
     let p = eqb-true number n a in
     let q = eqb-true line l b in
     λ i. E.refused (p i) (q i)
-refused-is number line (judged z colours) t = absurd (true-is-not-false (sym t))
-refused-is number line (meeting word one other) t = absurd (true-is-not-false (sym t))
+refused-is number line (judged z colours) t = absurd (false≢true t)
+refused-is number line (meeting word one other) t = absurd (false≢true t)
 
 colours-are : (ts : List Tuple) (z : Verdict) (colours : List ℕ) → rightColours ts (judged z colours) ≡ true → map (λ u. u .colour) ts ≡ colours
 unfolding rightColours
@@ -62,7 +60,7 @@ tracked s f g σ file ts h z colours c = record { sheet = σ; file = file; tuple
 -- no tracker is expected with a witness
 no-witness : (ts : List Tuple) (word one other : List ℕ) → rightColours ts (meeting word one other) ≡ true → ⊥
 unfolding rightColours
-no-witness ts word one other c = true-is-not-false (sym c)
+no-witness ts word one other c = false≢true c
 
 -- THE PLAN, on a sheet file read as x
 module _ (s p : List ℕ) (f g : Store) (σ : Sheet) (file : FileIs s σ) (x : Contents) (are : AreContents σ x) (ts : List Tuple) where
@@ -93,7 +91,7 @@ module _ (s p : List ℕ) (f g : Store) (σ : Sheet) (file : FileIs s σ) (x : C
         → (e : Expected) → rightColours ts e ≡ true → rightPlan A (planOf (x .names) p) e ≡ true → VerdictIs s f g o e
     unfolding rightPlan
     verdict-asked o h is (judged y colours) c t = (is ∙ ap O.Judged (same-verdict y (rw plan-passed at t)), tracked s f g σ file ts h y colours c)
-    verdict-asked o h is (E.refused number line) c t = absurd (true-is-not-false (sym (rw plan-passed at t)))
+    verdict-asked o h is (E.refused number line) c t = absurd (false≢true (rw plan-passed at t))
     verdict-asked o h is (meeting word one other) c t = absurd (no-witness ts word one other c)
 
   plan-asked : (o : Outcome) → Planned p f g o σ ts → (e : Expected) → rightColours ts e ≡ true → rightPlan A (planOf (x .names) p) e ≡ true → VerdictIs s f g o e
@@ -116,9 +114,9 @@ module _ (s p : List ℕ) (f g : Store) (σ : Sheet) (file : FileIs s σ) (x : C
     where
       by : (q : Phase P.Contents) → L.Means σ p q → rightPlan A q (E.refused number line) ≡ true → ⊥
       by (refused n l) h t =
-          let (a, b) = and-both (eqb n number) (eqb l line) t in
+          let (a, b) = and-eq-true-iff (eqb n number) (eqb l line) .0 t in
           omega (arith, plan-number n l h, eqb-true n number a)
-      by (passed y) h t = true-is-not-false (sym t)
+      by (passed y) h t = false≢true t
 
   tracker-asked : length p ≤ mostPlan → (o : Built) → IsBuilt f g o σ ts → (e : Expected) → rightColours ts e ≡ true → rightPlan A (planOf (x .names) p) e ≡ true
       → BuiltIs s f g o e
@@ -132,8 +130,8 @@ module _ (s p : List ℕ) (f g : Store) (σ : Sheet) (file : FileIs s σ) (x : C
 pub right-forced : (c : Case) → right c ≡ true → Forced c
 unfolding right
 right-forced c e =
-    let (a, i) = and-both (not (ltb most (length (c .sheet)))) _ e in
-    let (b, j) = and-both (not (ltb mostPlan (length (c .plan)))) _ i in
+    let (a, i) = and-eq-true-iff (not (ltb most (length (c .sheet)))) _ .0 e in
+    let (b, j) = and-eq-true-iff (not (ltb mostPlan (length (c .plan)))) _ .0 i in
     let size : SizesFit (c .sheet) (c .plan) = record {
       sheet = ltb-false most (length (c .sheet)) (not-true (ltb most (length (c .sheet))) a);
       plan = ltb-false mostPlan (length (c .plan)) (not-true (ltb mostPlan (length (c .plan))) b);

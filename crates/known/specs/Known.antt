@@ -1,12 +1,12 @@
 -- THE KNOWN CASES of document 01 that are marked *: one theorem over one table. The test of every case computes, and a case whose test
 -- computes to true is forced. Assumes nothing.
 use mathlib.Core.Path.{_≡_, refl, sym, subst}
-use mathlib.Core.Bool.{true}
+use mathlib.Core.Bool.{true, and-eq-true-iff}
 use mathlib.Core.List.{List, _∷_, List·Memᴰ, List·Memᴰ·head, List·Memᴰ·tail}
 use Rattle.sets.specs.Sets.{bit, unionOf, interOf, minusOf, isWithin}
 use Rattle.automaton.specs.Successors.{given, successorsBelow, successorsOf}
 use Rattle.text.specs.Number as N
-use Rattle.text.specs.Number.{digitOf, valueOf, numberAt}
+use Rattle.text.specs.Number.{digitOf, valueOf, numberAt, isNumbered}
 use Rattle.text.specs.Word.{startsAt}
 use Rattle.text.specs.Column.{digitByte, column}
 use Rattle.names.specs.Name.{oneOf, isUmlaut, isVowel, umlautOf, compose}
@@ -21,7 +21,6 @@ use Rattle.finite.specs.Finite.{lowest}
 use Rattle.known.specs.Case.{Case, Forced}
 use Rattle.known.specs.Cases.{cases}
 use Rattle.known.specs.Below.{all, any}
-use Rattle.known.specs.BelowLaws.{and-both}
 use Rattle.known.specs.MeetingTest.{isEdge, reached, together, joinAt, noneUpTo, isFree, isWalk, doMeet, isShortest}
 use Rattle.known.specs.VerdictTest.{ends, earlierOf, isRepeat, leastEntered, isAnswer, isLeast, isVerdict}
 use Rattle.known.specs.CaseTest.{isRefused, rightPlan, rightColours, rightRoom, rightWalks, rightFile, right, allRight}
@@ -29,13 +28,13 @@ use Rattle.known.specs.CaseLaws.{right-forced}
 
 -- every case is computed right
 computed : allRight cases ≡ true
-unfolding bit unionOf interOf minusOf isWithin given successorsBelow successorsOf digitOf valueOf N.numberOf numberAt startsAt digitByte column oneOf isUmlaut isVowel umlautOf compose widthOf widthAt partsEnd nameEndAt entered S.rangesOf S.headOf S.nameLineAt S.same S.letterOf S.namesAt S.stateLineAt S.statesAt S.transitionOf S.transitionLineAt S.endAt S.transitionsAt S.parse places unionAll isMarked removed turns pass colourAt least deadOr colourOf unlessEmpty closed closeUp first next run sameSets sameTuple numberOf addNew step found letterAt P.lengthsOf P.headOf P.letterLineAt P.lettersAt P.endAt P.planOf lowest all any isEdge reached together joinAt noneUpTo isFree isWalk doMeet isShortest ends earlierOf isRepeat leastEntered isAnswer isLeast isVerdict isRefused rightPlan rightColours rightRoom rightWalks rightFile right allRight
+unfolding bit unionOf interOf minusOf isWithin given successorsBelow successorsOf digitOf valueOf N.numberOf numberAt isNumbered startsAt digitByte column oneOf isUmlaut isVowel umlautOf compose widthOf widthAt partsEnd nameEndAt entered S.headOf S.nameLineAt S.same S.letterOf S.namesAt S.stateLineAt S.statesAt S.transitionOf S.transitionLineAt S.endAt S.transitionsAt S.parse places unionAll isMarked removed turns pass colourAt least deadOr colourOf unlessEmpty closed closeUp first next run sameSets sameTuple numberOf addNew step found letterAt P.headOf P.letterLineAt P.lettersAt P.endAt P.planOf lowest all any isEdge reached together joinAt noneUpTo isFree isWalk doMeet isShortest ends earlierOf isRepeat leastEntered isAnswer isLeast isVerdict isRefused rightPlan rightColours rightRoom rightWalks rightFile right allRight
 computed = refl
 
 all-forced : (cs : List Case) → allRight cs ≡ true → (c : Case) → List·Memᴰ c cs → Forced c
 unfolding allRight
-all-forced (x ∷ cs) e c (List·Memᴰ·head p) = subst Forced (sym p) (right-forced x (and-both (right x) (allRight cs) e .0))
-all-forced (x ∷ cs) e c (List·Memᴰ·tail m) = all-forced cs (and-both (right x) (allRight cs) e .1) c m
+all-forced (x ∷ cs) e c (List·Memᴰ·head p) = subst Forced (sym p) (right-forced x (and-eq-true-iff (right x) (allRight cs) .0 e .0))
+all-forced (x ∷ cs) e c (List·Memᴰ·tail m) = all-forced cs (and-eq-true-iff (right x) (allRight cs) .0 e .1) c m
 
 -- THE THEOREM: of each case of the table, the definitions allow no outcome but the expected one
 pub known : (c : Case) → List·Memᴰ c cases → Forced c

@@ -1,7 +1,7 @@
 -- The tests for meeting walks tell what the definitions say: two walks on one word keep to the pairs of states that are reached. Assumes nothing.
 use Prim.Native.Nat.{ℕ, zero, suc, _+_, _*_, _/_, _-_, _≤_, _<_}
 use mathlib.Core.Path.{_≡_, sym, subst}
-use mathlib.Core.Bool.{true, not, _&&_}
+use mathlib.Core.Bool.{true, not, _&&_, and-eq-true-iff}
 use mathlib.Core.List.{List}
 use native.Mathlib.Omega.{arith}
 use native.Mathlib.Decide.{decLt}
@@ -15,7 +15,7 @@ use Rattle.automaton.specs.EdgeLaws.{walk-in}
 use Rattle.pairs.specs.Joining.{Joins, Backwards, meet-joins}
 use Rattle.pairs.specs.Bound.{NoneShorter, shortest-bound}
 use Rattle.known.specs.Below.{any}
-use Rattle.known.specs.BelowLaws.{and-both, both-and, not-both, all-at, any-of, any-is}
+use Rattle.known.specs.BelowLaws.{not-both, all-at, any-of, any-is}
 use Rattle.known.specs.MeetingTest.{isMember, isEdge, reached, together, joinAt, noneUpTo, isFree, isWalk, doMeet, isShortest}
 
 everywhere : (A : Automaton) → Backwards A Everywhere
@@ -28,8 +28,8 @@ edge-test A l q r e = rw (lt-ltb l (A .k) (e .letter), lt-ltb q (A .n) (e .from)
 edge-is : (A : Automaton) (l q r : ℕ) → isEdge A l q r ≡ true → Edge A l q r
 unfolding isEdge
 edge-is A l q r e =
-    let (a, f) = and-both (ltb l (A .k)) (ltb q (A .n) && isMember (successorSet A q l) r) e in
-    let (b, c) = and-both (ltb q (A .n)) (isMember (successorSet A q l) r) f in
+    let (a, f) = and-eq-true-iff (ltb l (A .k)) (ltb q (A .n) && isMember (successorSet A q l) r) .0 e in
+    let (b, c) = and-eq-true-iff (ltb q (A .n)) (isMember (successorSet A q l) r) .0 f in
     record { letter = ltb-true l (A .k) a; from = ltb-true q (A .n) b; to = eqb-true (bit (successorSet A q l) r) 1 c }
 
 module _ (A : Automaton) (fits : Fits A) (w : ℕ → ℕ) (t : ℕ) (x y : ℕ → ℕ) (v : Walk A w t x) (v′ : Walk A w t y) where
@@ -40,8 +40,8 @@ module _ (A : Automaton) (fits : Fits A) (w : ℕ → ℕ) (t : ℕ) (x y : ℕ 
       let e = v .goes s (omega arith) in
       let f = v′ .goes s (omega arith) in
       let l = any-of (A .k) (λ l. isEdge A l (x s) (x (suc s)) && isEdge A l (y s) (y (suc s))) (w s) (e .letter)
-      (both-and (isEdge A (w s) (x s) (x (suc s))) (isEdge A (w s) (y s) (y (suc s))) (edge-test A (w s) (x s) (x (suc s)) e) (edge-test A (w s) (y s) (y (suc s)) f)) in
-      any-of (A .n) _ (x s) (e .from) (any-of (A .n) _ (y s) (f .from) (both-and _ (reached A s (x s) (y s)) l (walks-reached s (omega arith))))
+      (and-eq-true-iff (isEdge A (w s) (x s) (x (suc s))) (isEdge A (w s) (y s) (y (suc s))) .1 (edge-test A (w s) (x s) (x (suc s)) e, edge-test A (w s) (y s) (y (suc s)) f)) in
+      any-of (A .n) _ (x s) (e .from) (any-of (A .n) _ (y s) (f .from) (and-eq-true-iff _ (reached A s (x s) (y s)) .1 (l, walks-reached s (omega arith))))
 
   join-at : (s : ℕ) → s < t → Joins Everywhere x y s → joinAt A s ≡ true
   unfolding joinAt together
@@ -51,10 +51,10 @@ module _ (A : Automaton) (fits : Fits A) (w : ℕ → ℕ) (t : ℕ) (x y : ℕ 
       let z = walk-in A fits w t x v (suc s) h in
       let g = any-of (A .k) (λ l. any (A .n) (λ z. isEdge A l (x s) z && isEdge A l (y s) z)) (w s) (e .letter)
       (any-of (A .n) (λ z. isEdge A (w s) (x s) z && isEdge A (w s) (y s) z) (x (suc s)) z
-      (both-and (isEdge A (w s) (x s) (x (suc s))) (isEdge A (w s) (y s) (x (suc s))) (edge-test A (w s) (x s) (x (suc s)) e) (edge-test A (w s) (y s) (x (suc s)) f))) in
+      (and-eq-true-iff (isEdge A (w s) (x s) (x (suc s))) (isEdge A (w s) (y s) (x (suc s))) .1 (edge-test A (w s) (x s) (x (suc s)) e, edge-test A (w s) (y s) (x (suc s)) f))) in
       any-of (A .n) _ (x s) (e .from)
       (any-of (A .n) _ (y s) (f .from)
-      (rw (ne-eqb (x s) (y s) (j .apart)) (both-and _ (reached A s (x s) (y s)) g (walks-reached s (omega arith)))))
+      (rw (ne-eqb (x s) (y s) (j .apart)) (and-eq-true-iff _ (reached A s (x s) (y s)) .1 (g, walks-reached s (omega arith)))))
 
 module _ (A : Automaton) (fits : Fits A) where
   none-up-to : (m : ℕ) → noneUpTo A m ≡ true → (w : ℕ → ℕ) (t : ℕ) (x y : ℕ → ℕ) → t ≤ m → Meet A Everywhere w t x y → ⊥
@@ -81,8 +81,8 @@ module _ (A : Automaton) (fits : Fits A) where
   walk-is : (word x : List ℕ) → isWalk A word x ≡ true → (length x ≡ suc (length word)) × Walk A (cells word) (length word) (cells x)
   unfolding isWalk
   walk-is word x e =
-      let (a, f) = and-both (eqb (length x) (suc (length word))) _ e in
-      let (b, c) = and-both (isMember (A .initial) (getD x 0 0)) _ f in (
+      let (a, f) = and-eq-true-iff (eqb (length x) (suc (length word))) _ .0 e in
+      let (b, c) = and-eq-true-iff (isMember (A .initial) (getD x 0 0)) _ .0 f in (
         eqb-true (length x) (suc (length word)) a,
         record {
           starts = eqb-true (bit (A .initial) (getD x 0 0)) 1 b;
@@ -93,11 +93,11 @@ module _ (A : Automaton) (fits : Fits A) where
   pub shortest-is : (word one other : List ℕ) → isShortest A word one other ≡ true → Witness A Everywhere (length word) word one other
   unfolding isShortest doMeet
   shortest-is word one other e =
-      let (a, f) = and-both (ltb (length word) 137) _ e in
-      let (m, none) = and-both (doMeet A word one other) (noneUpTo A (length word - 1)) f in
-      let (b, g) = and-both (isWalk A word one) _ m in
-      let (c, h) = and-both (isWalk A word other) _ g in
-      let (d, k) = and-both (any (suc (length word)) (λ s. not (eqb (getD one s 0) (getD other s 0)))) _ h in
+      let (a, f) = and-eq-true-iff (ltb (length word) 137) _ .0 e in
+      let (m, none) = and-eq-true-iff (doMeet A word one other) (noneUpTo A (length word - 1)) .0 f in
+      let (b, g) = and-eq-true-iff (isWalk A word one) _ .0 m in
+      let (c, h) = and-eq-true-iff (isWalk A word other) _ .0 g in
+      let (d, k) = and-eq-true-iff (any (suc (length word)) (λ s. not (eqb (getD one s 0) (getD other s 0)))) _ .0 h in
       let (l, x) = walk-is word one b in
       let (o, y) = walk-is word other c in
       let (s, p, q) = any-is (suc (length word)) (λ s. not (eqb (getD one s 0) (getD other s 0))) d in

@@ -1,7 +1,7 @@
 -- Questions 2 to 11 have one answer each, and the test of a case finds it. Assumes nothing.
 use Prim.Native.Nat.{ℕ, _*_, _≤_, _<_}
 use mathlib.Core.Path.{_≡_, refl, sym, ap, subst, _∙_}
-use mathlib.Core.Bool.{Bool, true, false, _&&_}
+use mathlib.Core.Bool.{Bool, true, false, _&&_, and-eq-true-iff}
 use mathlib.Core.List.{List}
 use native.Mathlib.Omega.{arith}
 use native.Mathlib.Decide.{decLt}
@@ -26,7 +26,6 @@ use Rattle.tracker.specs.NumberingLaws.{found-all, found-more, more-excludes, n
 use Rattle.plan.specs.Parse.{planOf}
 use Rattle.known.specs.Case.{Expected, judged, meeting, Shortest, met}
 use Rattle.known.specs.Case as E
-use Rattle.known.specs.BelowLaws.{and-both}
 use Rattle.known.specs.MeetingTest.{isFree, isShortest}
 use Rattle.known.specs.MeetingTestLaws.{free-is, shortest-is}
 use Rattle.known.specs.CaseTest.{automatonOf, tuplesIn, isRefused, rightPlan, rightColours, rightRoom, rightWalks, rightFile}
@@ -153,14 +152,14 @@ module _ (s p : List ℕ) (room : ℕ) (Outcomes : Type 0) (refuse : Refusal →
               → choose b (isRefused 11 0 e) (rightColours (tuplesIn A room) e && rightPlan A (planOf (x .names) p) e) ≡ true → Says e
           by true q t = says-refused 11 0 e t (room-refuses (ltb-true room (length (tuplesIn A room)) q) h)
           by false q t =
-              let (c, d) = and-both (rightColours (tuplesIn A room) e) (rightPlan A (planOf (x .names) p) e) t in
+              let (c, d) = and-eq-true-iff (rightColours (tuplesIn A room) e) (rightPlan A (planOf (x .names) p) e) .0 t in
               room-fits (ltb-false room (length (tuplesIn A room)) q) e c d h
 
     walks-asked : (e : Expected) → rightWalks A (x .names) p room e ≡ true → Causes → Says e
     unfolding rightWalks
     walks-asked (meeting word one other) t h = walks-meet word one other t h
-    walks-asked (judged z colours) t h = let (a, b) = and-both (isFree A) _ t in room-asked a (judged z colours) b h
-    walks-asked (E.refused number line) t h = let (a, b) = and-both (isFree A) _ t in room-asked a (E.refused number line) b h
+    walks-asked (judged z colours) t h = let (a, b) = and-eq-true-iff (isFree A) _ .0 t in room-asked a (judged z colours) b h
+    walks-asked (E.refused number line) t h = let (a, b) = and-eq-true-iff (isFree A) _ .0 t in room-asked a (E.refused number line) b h
 
   file-asked : (e : Expected) (q : Phase Contents) → parse s ≡ q → rightFile q p room e ≡ true → Causes → Says e
   unfolding rightFile

@@ -1,7 +1,7 @@
 -- The verdict's test tells what the definition says, and a word has one verdict. Assumes nothing.
 use Prim.Native.Nat.{ℕ, zero, suc, _+_, _*_, _-_, _%_, _≤_, _<_}
 use mathlib.Core.Path.{_≡_, refl, sym, ap, subst, _∙_}
-use mathlib.Core.Bool.{true, not}
+use mathlib.Core.Bool.{true, not, and-eq-true-iff}
 use mathlib.Core.List.{List, [], _∷_, _++_}
 use mathlib.Core.Logic.{_⊎_, inl, inr}
 use native.Mathlib.Omega.{arith}
@@ -9,17 +9,18 @@ use native.Mathlib.Decide.{ℕ-discrete, decLt}
 use borrow.Author.Tests.{ltb-true, ltb-false, eqb-true, not-true}
 use lib.Dec.{ltb}
 use lib.ListN.{length}
+use Rattle.text.specs.BytesLaws.{length-more}
 use Rattle.finite.specs.Finite.{lowest, lowest-le, lowest-at}
 use Rattle.automaton.specs.Automaton.{Automaton}
 use Rattle.tuple.specs.Step.{Tuple, run}
 use Rattle.tracker.specs.Numbering.{tupleAt}
 use Rattle.tracker.specs.Explore.{numberOf}
-use Rattle.tracker.specs.ExploreLaws.{Listed, number-is, agree-more, last-is, length-more}
+use Rattle.tracker.specs.ExploreLaws.{Listed, number-is, agree-more, last-is}
 use Rattle.judge.specs.declared.Answer.{Answer}
 use Rattle.judge.specs.declared.Answer.the-variants.{Yes, No}
 use Rattle.judge.specs.declared.Verdict.{Verdict}
 use Rattle.judge.specs.Passes.{passEnd, FirstRepeat, LeastColour, AnswerIs, Judges}
-use Rattle.known.specs.BelowLaws.{and-both, all-at}
+use Rattle.known.specs.BelowLaws.{all-at}
 use Rattle.known.specs.VerdictTest.{ends, earlierOf, isRepeat, leastEntered, isAnswer, isLeast, isVerdict}
 
 -- THE TEST
@@ -71,7 +72,7 @@ module _ (A : Automaton) (w : ℕ → ℕ) (m c : ℕ) where
   repeat-is : (b : ℕ) → isRepeat A w m c b ≡ true → FirstRepeat A w m c (earlierOf A w m c b) b
   unfolding isRepeat
   repeat-is b e =
-      let (p, q) = and-both (ltb (earlierOf A w m c b) b) _ e in
+      let (p, q) = and-eq-true-iff (ltb (earlierOf A w m c b) b) _ .0 e in
       let l = ltb-true (earlierOf A w m c b) b p in
       record {
         earlier = l;
@@ -83,7 +84,7 @@ module _ (A : Automaton) (w : ℕ → ℕ) (m c : ℕ) where
   least-is : (t u least : ℕ) → isLeast A w t u least ≡ true → LeastColour A w t u least
   unfolding isLeast leastEntered
   least-is t u least e =
-      let (p, q) = and-both (ltb t u) _ e in
+      let (p, q) = and-eq-true-iff (ltb t u) _ .0 e in
       let l = ltb-true t u p in
       let f : ℕ → ℕ = λ s. run A w s .colour in
       let g : lowest f (suc t) (u - suc t) ≡ least = eqb-true (lowest f (suc t) (u - suc t)) least q in
@@ -104,8 +105,8 @@ module _ (A : Automaton) (w : ℕ → ℕ) (m c : ℕ) where
   pub verdict-is : (z : Verdict) → isVerdict A w m c z ≡ true → Judges A w m c z
   unfolding isVerdict
   verdict-is z e =
-      let (p, f) = and-both (isRepeat A w m c (z .passes)) _ e in
-      let (q, r) = and-both (isLeast A w (m + earlierOf A w m c (z .passes) * c) (m + z .passes * c) (z .least)) _ f in
+      let (p, f) = and-eq-true-iff (isRepeat A w m c (z .passes)) _ .0 e in
+      let (q, r) = and-eq-true-iff (isLeast A w (m + earlierOf A w m c (z .passes) * c) (m + z .passes * c) (z .least)) _ .0 f in
       record {
         earlier = earlierOf A w m c (z .passes);
         repeat = repeat-is (z .passes) p;

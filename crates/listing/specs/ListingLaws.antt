@@ -4,13 +4,14 @@ use mathlib.Core.Path.{_≡_, refl, sym, ap, _∙_}
 use mathlib.Core.List.{List, [], _∷_, _++_}
 use native.Mathlib.Decide.{decLt}
 use native.Mathlib.Omega.{arith}
-use lib.ListN.{length, getD, List·getD-eq-default}
+use lib.ListN.{getD, List·getD-eq-default}
 use lib.Pow.{pow-mono}
 use Rattle.automaton.specs.Automaton.{Automaton, Fits}
 use Rattle.tuple.specs.TupleLaws.{small}
 use Rattle.tracker.specs.Build.{Store, RoomFits, Fitted}
 use Rattle.tracker.specs.FittedLaws.{tuple, fitted-formed, fitted-set, fitted-colour, fitted-behind}
 use Rattle.text.specs.Bytes.{lf, endWord}
+use Rattle.text.specs.BytesLaws.{append-same}
 use Rattle.text.specs.Column.{column}
 use Rattle.text.specs.ColumnLaws.{column-length, column-injective}
 use Rattle.listing.specs.Listing.{columns, firstLine, tupleLine, tupleLines, listing}
@@ -29,16 +30,9 @@ pub record Shown (n k count : ℕ) (tuples nexts : List ℕ) : Type 0 where
   pub no-tuple : (i : ℕ) → 17 * count ≤ i → getD tuples i 0 ≡ 0
   pub no-next : (c : ℕ) → (c / 8 < count → c % 8 < k → ⊥) → getD nexts c 0 ≡ 0
 
--- two texts whose first parts are as long
-append-same : (a b c d : List ℕ) → length a ≡ length b → a ++ c ≡ b ++ d → (a ≡ b) × (c ≡ d)
-append-same [] [] c d l e = (refl, e)
-append-same [] (y ∷ b) c d l e = absurd (omega arith)
-append-same (x ∷ a) [] c d l e = absurd (omega arith)
-append-same (x ∷ a) (y ∷ b) c d l e =
-    let h : x ≡ y = cc in
-    let t : a ++ c ≡ b ++ d = cc in
-    let (p, q) = append-same a b c d (omega arith) t in
-    (cc, q)
+-- the same number in each cell
+abbrev pub SameCells : List ℕ → List ℕ → Type 0
+SameCells a b = (i : ℕ) → getD a i 0 ≡ getD b i 0
 
 column-same : (w u v : ℕ) (c d : List ℕ) → u < 10 ^ w → v < 10 ^ w → column w u ++ c ≡ column w v ++ d → (u ≡ v) × (c ≡ d)
 column-same w u v c d p q e =
@@ -113,7 +107,7 @@ module _ (n k count : ℕ) (t₁ n₁ t₂ n₂ : List ℕ) (s₁ : Shown n k co
       }
 
   module _ (lines : (t : ℕ) → t < count → SameLine n k t₁ n₁ t₂ n₂ t) where
-    same-tuples : (i : ℕ) → getD t₁ i 0 ≡ getD t₂ i 0
+    same-tuples : SameCells t₁ t₂
     same-tuples i = by (decLt (i / 17) count) (decLt (i % 17) n) (decLt (i % 17) 16)
       where
         e : i ≡ 17 * (i / 17) + i % 17
@@ -121,14 +115,11 @@ module _ (n k count : ℕ) (t₁ n₁ t₂ n₂ : List ℕ) (s₁ : Shown n k co
 
         by : Dec (i / 17 < count) → Dec (i % 17 < n) → Dec (i % 17 < 16) → getD t₁ i 0 ≡ getD t₂ i 0
         by (no h) x y = s₁ .no-tuple i (omega arith) ∙ sym (s₂ .no-tuple i (omega arith))
-        by (yes h) (yes x) y = ap (λ (i : ℕ). getD t₁ i 0) e ∙ lines (i / 17) h .sets (i % 17) x ∙ sym (ap (λ (i : ℕ). getD t₂ i 0) e)
-        by (yes h) (no x) (yes y) =
-            ap (λ (i : ℕ). getD t₁ i 0) e ∙ s₁ .no-set (i / 17) (i % 17) (omega arith) y ∙ sym (ap (λ (i : ℕ). getD t₂ i 0) e ∙ s₂ .no-set (i / 17) (i % 17) (omega arith) y)
-        by (yes h) (no x) (no y) =
-            let z : i ≡ 17 * (i / 17) + 16 = omega arith in
-            ap (λ (i : ℕ). getD t₁ i 0) z ∙ lines (i / 17) h .colour ∙ sym (ap (λ (i : ℕ). getD t₂ i 0) z)
+        by (yes h) (yes x) y = rw e (lines (i / 17) h .sets (i % 17) x)
+        by (yes h) (no x) (yes y) = rw e (s₁ .no-set (i / 17) (i % 17) (omega arith) y ∙ sym (s₂ .no-set (i / 17) (i % 17) (omega arith) y))
+        by (yes h) (no x) (no y) = let z : i ≡ 17 * (i / 17) + 16 = omega arith in rw z (lines (i / 17) h .colour)
 
-    same-nexts : (c : ℕ) → getD n₁ c 0 ≡ getD n₂ c 0
+    same-nexts : SameCells n₁ n₂
     same-nexts c = by (decLt (c / 8) count) (decLt (c % 8) k)
       where
         e : c ≡ 8 * (c / 8) + c % 8
@@ -137,7 +128,7 @@ module _ (n k count : ℕ) (t₁ n₁ t₂ n₂ : List ℕ) (s₁ : Shown n k co
         by : Dec (c / 8 < count) → Dec (c % 8 < k) → getD n₁ c 0 ≡ getD n₂ c 0
         by (no h) x = s₁ .no-next c (λ g l. h g) ∙ sym (s₂ .no-next c (λ g l. h g))
         by (yes h) (no x) = s₁ .no-next c (λ g l. x l) ∙ sym (s₂ .no-next c (λ g l. x l))
-        by (yes h) (yes x) = ap (λ (c : ℕ). getD n₁ c 0) e ∙ lines (c / 8) h .nexts (c % 8) x ∙ sym (ap (λ (c : ℕ). getD n₂ c 0) e)
+        by (yes h) (yes x) = rw e (lines (c / 8) h .nexts (c % 8) x)
 
 -- THE THEOREM: equal listings are listings of one tracker
 
@@ -145,8 +136,8 @@ pub record Same (n₁ k₁ c₁ : ℕ) (t₁ e₁ : List ℕ) (n₂ k₂ c₂ : 
   pub states : n₁ ≡ n₂
   pub letters : k₁ ≡ k₂
   pub count : c₁ ≡ c₂
-  pub tuples : (i : ℕ) → getD t₁ i 0 ≡ getD t₂ i 0
-  pub nexts : (c : ℕ) → getD e₁ c 0 ≡ getD e₂ c 0
+  pub tuples : SameCells t₁ t₂
+  pub nexts : SameCells e₁ e₂
 
 pub listing-determines : (n₁ k₁ c₁ : ℕ) (t₁ e₁ : List ℕ) (n₂ k₂ c₂ : ℕ) (t₂ e₂ : List ℕ) → Shown n₁ k₁ c₁ t₁ e₁ → Shown n₂ k₂ c₂ t₂ e₂
     → listing n₁ k₁ c₁ t₁ e₁ ≡ listing n₂ k₂ c₂ t₂ e₂ → Same n₁ k₁ c₁ t₁ e₁ n₂ k₂ c₂ t₂ e₂

@@ -1,7 +1,7 @@
 -- Composing, one part at a time. Assumes nothing.
 use Prim.Native.Nat.{ℕ, suc, _+_, _-_, _<_, _≤_}
 use mathlib.Core.Path.{_≡_, refl, sym, _∙_, ap}
-use mathlib.Core.Bool.{Bool, true, false, _&&_}
+use mathlib.Core.Bool.{Bool, true, false, _&&_, and-false, and-eq-true-iff}
 use mathlib.Core.Logic.{⊎-elim}
 use mathlib.Core.List.{List, [], _∷_}
 use lib.ListN.{length, getD, set, List·getD-eq-default}
@@ -12,7 +12,7 @@ use native.Mathlib.Nat.{add-zero}
 use native.Mathlib.Omega.{arith}
 use Rattle.text.specs.Bytes.{stretch}
 use Rattle.text.specs.BytesLaws.{stretch-none, stretch-cons, stretch-length, stretch-at}
-use Rattle.text.specs.ChoiceLaws.{lt-or-ge, neither, true-is-not-false}
+use Rattle.text.specs.ChoiceLaws.{lt-or-ge, neither}
 use Rattle.names.specs.Name.{isVowel, umlautOf, compose}
 use Rattle.names.specs.Row.{diaeresisAt}
 
@@ -33,15 +33,6 @@ pub compose-vowel : (a : ℕ) (x : List ℕ) → isVowel a ≡ true → compose 
 unfolding compose
 compose-vowel a x h = simp h
 
-pub and-both : (t u : Bool) → t && u ≡ true → (t ≡ true) × (u ≡ true)
-and-both true u h = (refl, h)
-and-both false u h = absurd (true-is-not-false (sym h))
-
-and-false : (t u : Bool) → t && (u && false) ≡ false
-and-false true true = refl
-and-false true false = refl
-and-false false u = refl
-
 -- THE SAME OF A STRETCH
 module _ (s : List ℕ) (i e : ℕ) (l : i < e) (fits : e ≤ length s) where
   shows : diaeresisAt s i e ≡ diaeresis (getD s i 0) (stretch s (i + 1) e)
@@ -53,7 +44,7 @@ module _ (s : List ℕ) (i e : ℕ) (l : i < e) (fits : e ≤ length s) where
       let z : getD (stretch s (i + 1) e) 1 0 ≡ 0 = List·getD-eq-default (stretch s (i + 1) e) 0 len in
       let f : eqb (getD (stretch s (i + 1) e) 1 0) 0x88 ≡ false =
       ne-eqb (getD (stretch s (i + 1) e) 1 0) 0x88 (λ (q : getD (stretch s (i + 1) e) 1 0 ≡ 0x88). omega arith) in
-      simp (lt-ltb (e - i) 3 short, f) (sym (and-false (isVowel (getD s i 0)) (eqb (getD (stretch s (i + 1) e) 0 0) 0xCC))))
+      simp (lt-ltb (e - i) 3 short, f, and-false))
       (λ (long : 3 ≤ e - i).
       let b : getD (stretch s (i + 1) e) 0 0 ≡ getD s (i + 1) 0 =
       stretch-at s (i + 1) e 0 (omega arith) ∙ ap (λ (n : ℕ). getD s n 0) (add-zero (i + 1)) in
@@ -72,8 +63,8 @@ module _ (s : List ℕ) (i e : ℕ) (l : i < e) (fits : e ≤ length s) where
   unfolding diaeresisAt
   tested h =
       let a = neither (ltb (e - i) 3) _ h in
-      let b = and-both (isVowel (getD s i 0)) _ (a .1) in
-      let c = and-both (eqb (getD s (i + 1) 0) 0xCC) _ (b .1) in
+      let b = and-eq-true-iff (isVowel (getD s i 0)) _ .0 (a .1) in
+      let c = and-eq-true-iff (eqb (getD s (i + 1) 0) 0xCC) _ .0 (b .1) in
       (omega (arith, ltb-false (e - i) 3 (a .0)), b .0, eqb-true _ _ (c .0), eqb-true _ _ (c .1))
 
   pub composed-fits : diaeresisAt s i e ≡ true → i + 3 ≤ e

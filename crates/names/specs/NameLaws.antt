@@ -52,6 +52,17 @@ module _ (ps qs : List Part) (r : RightParts ps) (t : RightParts qs) where
   pub same-bytes : map composedPart ps ≡ map composedPart qs → compose (nameBytes ps) ≡ compose (nameBytes qs)
   same-bytes e = compose-parts ps r ∙ (ap nameBytes e ∙ sym (compose-parts qs t))
 
+-- A COMPOSED LIST STARTS with the byte that it had or with C3: what holds in both cases holds of it
+compose-first : (P : List ℕ → Type 0) → ((u : ℕ) (y : List ℕ) → P (0xC3 ∷ u ∷ y)) → (a : ℕ) (x : List ℕ) → P (a ∷ compose x) → P (compose (a ∷ x))
+unfolding compose
+compose-first P letter a [] h = h
+compose-first P letter a (b ∷ []) h = h
+compose-first P letter a (b ∷ c ∷ x) h = by (isDecomposed a b c)
+  where
+    by : (t : Bool) → P (choose t (0xC3 ∷ umlautOf a ∷ compose x) (a ∷ compose (b ∷ c ∷ x)))
+    by true = letter (umlautOf a) (compose x)
+    by false = h
+
 -- COMPOSING NEVER MAKES A NAME LONGER, and none of it empty
 step-shorter :
     (t : Bool) (a u b c : ℕ) (x y z : List ℕ) →
@@ -68,16 +79,10 @@ compose-shorter (a ∷ b ∷ c ∷ x) =
     step-shorter (isDecomposed a b c) a (umlautOf a) b c x (compose x) (compose (b ∷ c ∷ x)) (compose-shorter x)
     (omega (arith, compose-shorter (b ∷ c ∷ x)))
 
-some-left : (t : Bool) (a u : ℕ) (y z : List ℕ) → 1 ≤ length (choose t (0xC3 ∷ u ∷ y) (a ∷ z))
-some-left true a u y z = omega arith
-some-left false a u y z = omega arith
-
 compose-some : (x : List ℕ) → 1 ≤ length x → 1 ≤ length (compose x)
 unfolding compose
 compose-some [] h = h
-compose-some (a ∷ []) h = omega arith
-compose-some (a ∷ b ∷ []) h = omega arith
-compose-some (a ∷ b ∷ c ∷ x) h = some-left (isDecomposed a b c) a (umlautOf a) (compose x) (compose (b ∷ c ∷ x))
+compose-some (a ∷ x) h = compose-first (λ y. 1 ≤ length y) (λ u y. omega arith) a x (omega arith)
 
 -- A COMPOSED NAME IS A NAME AGAIN
 pub composed-name : (x : List ℕ) → IsName x → IsName (compose x)
@@ -97,13 +102,7 @@ name-without b x l n = ap (without b) (n .is) ∙ parts-without b (n .parts) l (
 head-of : (x : List ℕ) → eqb (getD x 0 0) 0x88 ≡ false → eqb (getD (compose x) 0 0) 0x88 ≡ false
 unfolding compose
 head-of [] h = h
-head-of (a ∷ []) h = h
-head-of (a ∷ b ∷ []) h = h
-head-of (a ∷ b ∷ c ∷ x) h = by (isDecomposed a b c)
-  where
-    by : (t : Bool) → eqb (getD (choose t (0xC3 ∷ umlautOf a ∷ compose x) (a ∷ compose (b ∷ c ∷ x))) 0 0) 0x88 ≡ false
-    by true = refl
-    by false = h
+head-of (a ∷ x) h = compose-first (λ y. eqb (getD y 0 0) 0x88 ≡ false) (λ u y. refl) a x h
 
 behind : (t u v : Bool) → (u ≡ false → v ≡ false) → t && u ≡ false → t && v ≡ false
 behind true u v f h = f h
@@ -112,13 +111,9 @@ behind false u v f h = refl
 mark-of : (x : List ℕ) → mark x ≡ false → mark (compose x) ≡ false
 unfolding compose
 mark-of [] h = h
-mark-of (a ∷ []) h = h
-mark-of (a ∷ b ∷ []) h = h
-mark-of (a ∷ b ∷ c ∷ x) h = by (isDecomposed a b c)
-  where
-    by : (t : Bool) → mark (choose t (0xC3 ∷ umlautOf a ∷ compose x) (a ∷ compose (b ∷ c ∷ x))) ≡ false
-    by true = refl
-    by false = behind (eqb a 0xCC) (eqb b 0x88) (eqb (getD (compose (b ∷ c ∷ x)) 0 0) 0x88) (head-of (b ∷ c ∷ x)) h
+mark-of (a ∷ x) h =
+    compose-first (λ y. mark y ≡ false) (λ u y. refl) a x
+    (behind (eqb a 0xCC) (eqb (getD x 0 0) 0x88) (eqb (getD (compose x) 0 0) 0x88) (head-of x) h)
 
 pub compose-idempotent : (x : List ℕ) → compose (compose x) ≡ compose x
 unfolding compose

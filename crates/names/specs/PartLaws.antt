@@ -1,7 +1,7 @@
 -- The bytes of name parts: which they can be, and that they tell the parts apart. Assumes nothing.
 use Prim.Native.Nat.{ℕ, _+_, _<_, _≤_}
 use mathlib.Core.Path.{_≡_, refl, sym, _∙_, ap, subst}
-use mathlib.Core.Bool.{Bool, true, false, _&&_}
+use mathlib.Core.Bool.{Bool, true, false, _&&_, false≢true, and-eq-true-iff}
 use mathlib.Core.Logic.{⊎-elim}
 use mathlib.Core.List.{List, [], _∷_, _++_, append-assoc, append-nil}
 use lib.ListN.{length, getD, drop, drop-of-length-le}
@@ -11,7 +11,8 @@ use borrow.Author.Tests.{eq-eqb, ne-eqb, eqb-true, leb-true}
 use native.Mathlib.Numerals.{add-one}
 use native.Mathlib.Omega.{arith}
 use Rattle.text.specs.Choice.{choose}
-use Rattle.text.specs.ChoiceLaws.{both, true-is-not-false, true-or-false}
+use Rattle.text.specs.ChoiceLaws.{true-or-false}
+use Rattle.text.specs.Number.{isBetween}
 use Rattle.text.specs.Word.{without}
 use Rattle.names.specs.Name.{oneOf, isUmlaut, isVowel, isDecomposed, umlautOf, Part, RightPart, RightParts, partBytes, nameBytes, composedPart}
 use Rattle.names.specs.Name.Part.{plain, composed, decomposed}
@@ -37,20 +38,20 @@ holds false h = absurd h
 
 pub shown : (t : Bool) → t ≡ true → T t
 shown true e = tt
-shown false e = true-is-not-false (sym e)
+shown false e = false≢true e
 
 -- THE RANGE of some bytes, by a test over them
 between : ℕ → ℕ → List ℕ → Bool
 between lo hi [] = true
-between lo hi (x ∷ xs) = choose (leb lo x) (choose (leb x hi) (between lo hi xs) false) false
+between lo hi (x ∷ xs) = isBetween lo hi x && between lo hi xs
 
 range : (lo hi b : ℕ) (xs : List ℕ) → between lo hi xs ≡ true → oneOf xs b ≡ true → (lo ≤ b) × (b ≤ hi)
 unfolding oneOf between
-range lo hi b [] h e = absurd (true-is-not-false (sym e))
+range lo hi b [] h e = absurd (false≢true e)
 range lo hi b (x ∷ xs) h e =
-    let p = both (leb lo x) _ h in
-    let q = both (leb x hi) _ (p .1) in
-    by (eqb b x) refl (range lo hi b xs (q .1)) (leb-true lo x (p .0)) (leb-true x hi (q .0)) e
+    let p = and-eq-true-iff (isBetween lo hi x) _ .0 h in
+    let q = and-eq-true-iff (leb lo x) _ .0 (p .0) in
+    by (eqb b x) refl (range lo hi b xs (p .1)) (leb-true lo x (q .0)) (leb-true x hi (q .1)) e
   where
     by :
         (t : Bool) → eqb b x ≡ t → (oneOf xs b ≡ true → (lo ≤ b) × (b ≤ hi)) → lo ≤ x → x ≤ hi →

@@ -1,7 +1,7 @@
 -- One step along a name, and what its end means. Assumes nothing.
 use Prim.Native.Nat.{ℕ, zero, suc, _+_, _-_, _<_, _≤_}
 use mathlib.Core.Path.{_≡_, refl, sym, _∙_, ap, subst}
-use mathlib.Core.Bool.{Bool, true, false, _&&_}
+use mathlib.Core.Bool.{Bool, true, false, _&&_, and-eq-true-iff}
 use mathlib.Core.List.{List, [], _∷_, _++_, append-assoc, append-nil}
 use lib.ListN.{length, getD, drop, length-append}
 use lib.Seq.{getD-drop, drop-cons, drop-length, getD-at}
@@ -18,7 +18,6 @@ use Rattle.text.specs.WordLaws.{starts-is, within}
 use Rattle.names.specs.Name.{isUmlaut, isVowel, isDecomposed, Part, RightPart, RightParts, partBytes, nameBytes, IsName}
 use Rattle.names.specs.Name.Part.{plain, composed, decomposed}
 use Rattle.names.specs.PartLaws.{holds, shown, vowel-range, NoMark, no-mark, parts-without}
-use Rattle.names.specs.ComposeLaws.{and-both}
 use Rattle.names.specs.Scan.{widthOf, widthAt, partsEnd, nameEndAt}
 use Rattle.names.specs.declared.Ending.the-variants.{At, Bad}
 
@@ -76,8 +75,8 @@ module _ (s : List ℕ) (at : ℕ) where
   unfolding startsAt
   at-decomposed d =
       let two : at + 1 + 1 ≡ at + 2 = omega arith in
-      let v = and-both (isVowel (getD s at 0)) _ d in
-      let w = and-both (eqb (getD s (at + 1) 0) 0xCC) _ (v .1) in
+      let v = and-eq-true-iff (isVowel (getD s at 0)) _ .0 d in
+      let w = and-eq-true-iff (eqb (getD s (at + 1) 0) 0xCC) _ .0 (v .1) in
       stands (decomposed (getD s at 0)) (shown _ (v .0)) (simp (eq-eqb (getD s at 0) (getD s at 0) refl, w .0, two, w .1))
 
   -- by the tests of `widthOf`

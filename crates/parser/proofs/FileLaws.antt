@@ -10,12 +10,11 @@ use Rattle.gate.specs.declared.Refusal.{Refusal}
 use Rattle.parser.specs.Parse.{Phase, refused, passed, andThen, Named, Contents, contents, headOf, afterHead, parse}
 use Rattle.format.specs.Format.{most}
 use borrow.Author.Tests.{lt-ltb, le-ltb}
-use Rattle.parser.specs.PhaseAnswers.{headAnswer, statesAnswer, Fills, NamesRead, NumbersRead, FileRead}
+use Rattle.parser.specs.PhaseAnswers.{statesAnswer, Fills, NamesRead, NumbersRead, FileRead}
 use Rattle.parser.specs.Rows.{Holds}
 use Rattle.automaton.specs.Automaton.{InRange}
 use Rattle.parser.specs.declared.Place.{Place}
 use Rattle.parser.specs.declared.File.{File}
-use Rattle.parser.specs.declared.Head.the-variants as H
 use Rattle.parser.specs.declared.Names.the-variants as N
 use Rattle.parser.specs.declared.Sizes.{Sizes}
 use Rattle.parser.specs.declared.Sets.{Sets}
@@ -66,17 +65,6 @@ module _ (z : Sizes) (y : Named) (q : Sets) where
       (F.Is (record { n = z .n; k = z .k; initial = q .initial; recurring = q .recurring }))
   transitions-pass (refused number line) t u rest e h = absurd (let z : _≡_ {A = ℕ} 0 1 = cc in omega arith)
   transitions-pass (passed table) t u rest e h = (refl, e .1 ∙ ap (λ (x : List ℕ). table ++ x) h)
-
--- THE FIRST LINE
-pub head-refuse :
-    (p : Phase Sizes) (next : Sizes → Phase Contents) (t u rows : List ℕ) (r : Refusal) →
-    H.Refused r ≡ headAnswer p → u ≡ cleared t → FileRead (andThen p next) t u rows (F.Refused r)
-head-refuse (refused number line) next t u rows r e h = (cc, h)
-head-refuse (passed z) next t u rows r e h = absurd (let z : _≡_ {A = ℕ} 0 1 = cc in omega arith)
-
-pub head-pass : (p : Phase Sizes) (next : Sizes → Phase Contents) (z : Sizes) → H.Is z ≡ headAnswer p → andThen p next ≡ next z
-head-pass (refused number line) next z e = absurd (let z : _≡_ {A = ℕ} 0 1 = cc in omega arith)
-head-pass (passed z′) next z e = let g : z′ ≡ z = cc in ap next g
 
 -- THE NAME LINES
 pub names-refuse :

@@ -9,7 +9,7 @@ use native.Mathlib.Nat.{one-mul, mul-le-mul-right}
 use native.Mathlib.Omega.{arith}
 use borrow.Author.Tests.{eq-eqb, ne-eqb}
 use Rattle.format.specs.Format.{place, entered}
-use Rattle.parser.specs.Parse.{refused, passed, stateLineAt, statesAt, transitionLineAt, transitionsAt, endAt, nameLineAt, letterOf, namesAt}
+use Rattle.parser.specs.Parse.{refused, passed, withFlags, stateLineAt, statesAt, withTransition, transitionLineAt, transitionsAt, endAt, nameLineAt, letterOf, namesAt}
 use Rattle.text.specs.Bytes.{stretch}
 use Rattle.names.specs.Name.{compose}
 use Rattle.names.specs.Row.{padded}
@@ -18,10 +18,10 @@ use Rattle.parser.specs.Rows.{Holds, FirstLike}
 use Rattle.parser.specs.RowsLaws.{letter-is, holds-more, name-found}
 use Rattle.parser.specs.NameLaws.{name-line-is}
 use Rattle.names.specs.declared.Ending.the-variants as E
-use Rattle.parser.specs.declared.StateLine.the-variants as S
+use Rattle.parser.specs.declared.StateLine.{StateLine}
 use Rattle.parser.specs.PhaseAnswers.{endAnswer, Fills}
 use Rattle.parser.specs.EndLaws.{end-same}
-use Rattle.parser.specs.declared.TransitionLine.the-variants as T
+use Rattle.parser.specs.declared.TransitionLine.{TransitionLine}
 use Rattle.parser.specs.declared.End.{End}
 
 -- a flag times a number is at most the number
@@ -33,18 +33,12 @@ double q = sym (pow-add 2 q 1)
 
 -- THE STATE LINES: q of n are read
 module _ (s : List ℕ) (line at q initial recurring n : ℕ) where
-  pub states-good :
-      {i r : ℕ} → q < n → stateLineAt s at q ≡ S.Is i r →
+  pub states-step :
+      {w : StateLine} → q < n → stateLineAt s at q ≡ w →
       statesAt s line at q initial recurring (n - q) ≡
-      statesAt s (line + 1) (at + 11) (q + 1) (initial + i * 2 ^ q) (recurring + r * 2 ^ q) (n - (q + 1))
+      withFlags w (λ i r. statesAt s (line + 1) (at + 11) (q + 1) (initial + i * 2 ^ q) (recurring + r * 2 ^ q) (n - (q + 1))) (refused 7 line)
   unfolding statesAt
-  states-good h e =
-      let k : n - q ≡ suc (n - (q + 1)) = omega arith in
-      rw k (simp e)
-
-  pub states-bad : q < n → stateLineAt s at q ≡ S.Bad → statesAt s line at q initial recurring (n - q) ≡ refused 7 line
-  unfolding statesAt
-  states-bad h e =
+  states-step h e =
       let k : n - q ≡ suc (n - (q + 1)) = omega arith in
       rw k (simp e)
 
@@ -58,18 +52,12 @@ module _ (s : List ℕ) (line at q initial recurring n : ℕ) where
 
 -- THE TRANSITION LINES: g of them may still come
 module _ (s : List ℕ) (n k line at least : ℕ) (table : List ℕ) (f g : ℕ) (h : g ≡ suc f) where
-  pub transitions-good :
-      {from letter to : ℕ} → getD s at 0 ≡ 84 → transitionLineAt s at n k least ≡ T.Is from letter to →
+  pub transitions-step :
+      {w : TransitionLine} → getD s at 0 ≡ 84 → transitionLineAt s at n k least ≡ w →
       transitionsAt s n k line at least table g ≡
-      transitionsAt s n k (line + 1) (at + 11) (place (record { from = from; letter = letter; to = to }) + 1)
-      (entered table (record { from = from; letter = letter; to = to })) f
+      withTransition w (λ t. transitionsAt s n k (line + 1) (at + 11) (place t + 1) (entered table t) f) (refused 8 line)
   unfolding transitionsAt
-  transitions-good t e = rw h (simp (eq-eqb _ _ t, e))
-
-  pub transitions-bad :
-      getD s at 0 ≡ 84 → transitionLineAt s at n k least ≡ T.Bad → transitionsAt s n k line at least table g ≡ refused 8 line
-  unfolding transitionsAt
-  transitions-bad t e = rw h (simp (eq-eqb _ _ t, e))
+  transitions-step t e = rw h (simp (eq-eqb _ _ t, e))
 
   pub transitions-end : (getD s at 0 ≡ 84 → ⊥) → transitionsAt s n k line at least table g ≡ endAt 9 s line at table
   unfolding transitionsAt

@@ -1,14 +1,13 @@
 -- A name is distinct from earlier ones exactly if the search among their composed names comes to their end. Assumes nothing.
 use Prim.Native.Nat.{ℕ, suc}
 use mathlib.Core.Path.{_≡_, refl, sym, ap, _∙_}
-use mathlib.Core.Bool.{Bool, true, false}
+use mathlib.Core.Bool.{Bool, true, false, false≢true, true≢false, and-eq-true-iff}
 use mathlib.Core.List.{List, [], _∷_, map}
 use lib.ListN.{length}
 use lib.Dec.{eqb}
 use borrow.Author.Tests.{eq-eqb, eqb-true}
 use native.Mathlib.Omega.{arith}
 use Rattle.text.specs.Choice.{choose}
-use Rattle.text.specs.ChoiceLaws.{true-is-not-false, both}
 use Rattle.names.specs.Name.{compose}
 use Rattle.format.specs.Format.{Distinct}
 use Rattle.parser.specs.Parse.{same, letterOf}
@@ -16,10 +15,10 @@ use Rattle.parser.specs.Parse.{same, letterOf}
 pub same-is : (x y : List ℕ) → same x y ≡ true → x ≡ y
 unfolding same
 same-is [] [] e = refl
-same-is [] (b ∷ y) e = absurd (true-is-not-false (sym e))
-same-is (a ∷ x) [] e = absurd (true-is-not-false (sym e))
+same-is [] (b ∷ y) e = absurd (false≢true e)
+same-is (a ∷ x) [] e = absurd (false≢true e)
 same-is (a ∷ x) (b ∷ y) e =
-    let (t, u) = both (eqb a b) (same x y) e in
+    let (t, u) = and-eq-true-iff (eqb a b) (same x y) .0 e in
     let h : a ≡ b = eqb-true a b t in
     let r = same-is x y u in
     cc
@@ -49,6 +48,6 @@ module _ (x : List ℕ) where
           (letterOf (map compose ys) (compose x) ≡ length (map compose ys) → Distinct ys x) → Distinct (y ∷ ys) x
       by true t e r = absurd (let z : _≡_ {A = ℕ} 0 (suc (length (map compose ys))) = e in omega arith)
       by false t e r = (
-        λ f. true-is-not-false (sym (same-self (compose x)) ∙ (ap (λ (c : List ℕ). same c (compose x)) (sym f) ∙ t)),
+        λ f. true≢false (sym (same-self (compose x)) ∙ (ap (λ (c : List ℕ). same c (compose x)) (sym f) ∙ t)),
         r (omega arith),
       )

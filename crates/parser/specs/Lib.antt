@@ -4,6 +4,7 @@ pub mod PhaseAnswers
 pub mod FieldLaws
 pub mod EndLaws
 pub mod LetterLaws
+pub mod FirstLaws
 pub mod HeadLaws
 pub mod NameLaws
 pub mod StateLaws

@@ -1,21 +1,19 @@
 -- The name lines: the phase that reads them passes or refuses as Format says, by induction along the lines. Assumes nothing.
 use Prim.Native.Nat.{ℕ, zero, suc, _+_, _-_, _≤_, _<_}
 use mathlib.Core.Path.{_≡_, refl, sym, ap, subst, _∙_}
-use mathlib.Core.Bool.{Bool, true, false}
+use mathlib.Core.Bool.{Bool, true, false, and-eq-true-iff}
 use mathlib.Core.List.{List, [], _∷_, _++_, map, append-assoc, append-nil, map-append}
-use lib.ListN.{length, getD, drop, length-append, length-map}
+use lib.ListN.{length, drop, length-map}
 use lib.Dec.{eqb}
 use borrow.Author.Tests.{eq-eqb, ne-eqb, eqb-true, eqb-false}
 use native.Mathlib.Omega.{arith}
-use native.Mathlib.Numerals.{add-one}
 use native.Mathlib.Nat.{zero-add, add-zero, suc-add}
 use Rattle.text.specs.Bytes.{lf, space, stretch}
 use Rattle.text.specs.Choice.{choose}
 use Rattle.text.specs.Column.{column}
-use Rattle.text.specs.Number.{numberAt}
-use Rattle.text.specs.NumberLaws.{number-is, some-number, column-of}
+use Rattle.text.specs.Number.{isNumbered}
+use Rattle.text.specs.NumberLaws.{numbered-of, numbered-is}
 use Rattle.text.specs.WordLaws.{goes-on, byte-is}
-use Rattle.text.specs.declared.Number.the-variants as N
 use Rattle.names.specs.Name.{IsName, compose}
 use Rattle.names.specs.Scan.{nameEndAt}
 use Rattle.names.specs.ScanLaws.{name-is, name-ends}
@@ -24,7 +22,7 @@ use Rattle.names.specs.declared.Ending.the-variants as E
 use Rattle.format.specs.Format.{nameLine, nameLines, Distinct, NamesRight}
 use Rattle.format.specs.FormatLaws.{name-length}
 use Rattle.parser.specs.Parse.{Phase, refused, passed, withEnding, Named, nameLineAt, letterOf, namesAt}
-use Rattle.text.specs.BytesLaws.{stretch-rest, stretch-is}
+use Rattle.text.specs.BytesLaws.{length-more, stretch-rest, stretch-is}
 use Rattle.parser.specs.LetterLaws.{distinct-letter, letter-distinct}
 use Rattle.text.specs.ChoiceLaws.{test-true}
 
@@ -38,45 +36,36 @@ unfolding nameLine
 bracketed l x rest = simp append-assoc
 
 module _ (s : List ℕ) (at l : ℕ) where
+  p5 : at + 4 + 1 ≡ at + 5
+  p5 = omega arith
+
   pub name-line-of : (x rest : List ℕ) → l < 1000 → IsName x → drop at s ≡ nameLine l x ++ rest →
       (nameLineAt s at l ≡ E.At (at + 5 + length x)) × (stretch s (at + 5) (at + 5 + length x) ≡ x)
   unfolding nameLineAt
   name-line-of x rest hl h e =
-      let e0 = goes-on s at 78 (column 3 l ++ (space ∷ (x ++ (lf ∷ rest)))) (e ∙ bracketed l x rest) in
-      let e1 = column-of s (at + 1) l (space ∷ (x ++ (lf ∷ rest))) hl (e0 .1) in
-      let p4 : at + 1 + 3 ≡ at + 4 = omega arith in
-      let e2 = goes-on s (at + 4) space (x ++ (lf ∷ rest)) (rw p4 at (e1 .1)) in
-      let p5 : at + 4 + 1 ≡ at + 5 = omega arith in
-      let e3 : drop (at + 5) s ≡ x ++ (lf ∷ rest) = rw p5 at (e2 .1) in
-      (simp (eq-eqb _ _ (e0 .0), e1 .0, eq-eqb l l refl, eq-eqb _ _ (e2 .0)) (name-ends s x rest (at + 5) h e3), stretch-is s (at + 5) x (lf ∷ rest) e3)
+      let (opening, behind) = numbered-of s at 78 l (space ∷ (x ++ (lf ∷ rest))) hl (e ∙ bracketed l x rest) in
+      let gap = goes-on s (at + 4) space (x ++ (lf ∷ rest)) behind in
+      let name : drop (at + 5) s ≡ x ++ (lf ∷ rest) = rw p5 at (gap .1) in
+      (simp (opening, eq-eqb _ _ (gap .0)) (name-ends s x rest (at + 5) h name), stretch-is s (at + 5) x (lf ∷ rest) name)
 
   -- a line whose LF stands at e, and what follows
   pub record NameLine (e : ℕ) : Type 0 where
     pub is-name : IsName (stretch s (at + 5) e)
     pub text : drop at s ≡ nameLine l (stretch s (at + 5) e) ++ drop (e + 1) s
 
-  name-line : (e : ℕ) → getD s at 0 ≡ 78 → numberAt s (at + 1) ≡ N.Is l → getD s (at + 4) 0 ≡ space → nameEndAt s (at + 5) ≡ E.At e → NameLine e
-  name-line e first number gap ends =
-      let name = name-is s (at + 5) e ends in
-      let p4 : at + 1 + 3 ≡ at + 4 = omega arith in
-      let p5 : at + 4 + 1 ≡ at + 5 = omega arith in
-      let f0 : drop at s ≡ 78 ∷ drop (at + 1) s = byte-is s at 78 (omega arith) first in
-      let f1 : drop (at + 1) s ≡ column 3 l ++ drop (at + 4) s = rw p4 at (number-is s (at + 1) l number .1) in
-      let f2 : drop (at + 4) s ≡ space ∷ drop (at + 5) s = rw p5 at (byte-is s (at + 4) space (omega arith) gap) in
-      record {
-        is-name = name .name;
-        text = f0 ∙ (ap (78 ∷_) (f1 ∙ ap (column 3 l ++_) (f2 ∙ ap (space ∷_) (name .line))) ∙ sym (bracketed l (stretch s (at + 5) e) (drop (e + 1) s)));
-      }
-
   pub name-line-is : (e : ℕ) → nameLineAt s at l ≡ E.At e → NameLine e
   unfolding nameLineAt
   name-line-is e h =
-      let n = bad-is-not e in
-      let e1 = test-true n (eqb (getD s at 0) 78) _ h in
-      let e2 = some-number n (numberAt s (at + 1)) _ (e1 .1) in
-      let e3 = test-true n (eqb (e2 .0) l) _ (e2 .2) in
-      let e4 = test-true n (eqb (getD s (at + 4) 0) space) _ (e3 .1) in
-      name-line e (eqb-true _ _ (e1 .0)) (e2 .1 ∙ ap N.Is (eqb-true (e2 .0) l (e3 .0))) (eqb-true _ _ (e4 .0)) (e4 .1)
+      let (tests, ends) = test-true (bad-is-not e) _ (nameEndAt s (at + 5)) h in
+      let (opening, gap) = and-eq-true-iff (isNumbered s at 78 l) _ .0 tests in
+      let name = name-is s (at + 5) e ends in
+      let behind : drop (at + 4) s ≡ space ∷ drop (at + 5) s = rw p5 at (byte-is s (at + 4) space (omega arith) (eqb-true _ _ gap)) in
+      record {
+        is-name = name .name;
+        text =
+            numbered-is s at 78 l (omega arith) opening
+            ∙ (ap (λ (y : List ℕ). 78 ∷ (column 3 l ++ y)) (behind ∙ ap (space ∷_) (name .line)) ∙ sym (bracketed l (stretch s (at + 5) e) (drop (e + 1) s)));
+      }
 
 -- THE FAULTS where a name is due behind earlier ones
 pub data NameFault (earlier : List (List ℕ)) (rest : List ℕ) : ℕ → Type 0 where
@@ -106,16 +95,13 @@ abbrev pub NamesOutcome : List ℕ → ℕ → ℕ → List (List ℕ) → ℕ �
 NamesOutcome s line at earlier todo (refused number at-line) = NamesRefused s line at earlier todo number at-line
 NamesOutcome s line at earlier todo (passed p) = NamesPassed s line at earlier todo p
 
-one-more : (xs : List (List ℕ)) (x : List ℕ) → length (xs ++ (x ∷ [])) ≡ suc (length xs)
-one-more xs x = length-append xs (x ∷ []) ∙ add-one (length xs)
-
 module _ (s : List ℕ) (line at : ℕ) (earlier : List (List ℕ)) (todo e : ℕ) (h : NameLine s at (length earlier) e) (d : Distinct earlier (stretch s (at + 5) e)) where
   -- a line more in front
   names-step : (p : Phase Named) →
       NamesOutcome s (line + 1) (e + 1) (earlier ++ (stretch s (at + 5) e ∷ [])) todo p → NamesOutcome s line at earlier (suc todo) p
   unfolding nameLines
   names-step (passed p) g =
-      let t : drop (e + 1) s ≡ nameLines (suc (length earlier)) (g .names) ++ drop (p .at) s = rw one-more at (g .text) in
+      let t : drop (e + 1) s ≡ nameLines (suc (length earlier)) (g .names) ++ drop (p .at) s = rw length-more at (g .text) in
       record {
         names = stretch s (at + 5) e ∷ g .names;
         right = (h .is-name, d, g .right);
@@ -125,7 +111,7 @@ module _ (s : List ℕ) (line at : ℕ) (earlier : List (List ℕ)) (todo e : �
         composed = rw append-assoc at (g .composed);
       }
   names-step (refused number at-line) g =
-      let t : drop (e + 1) s ≡ nameLines (suc (length earlier)) (g .names) ++ g .rest = rw one-more at (g .text) in
+      let t : drop (e + 1) s ≡ nameLines (suc (length earlier)) (g .names) ++ g .rest = rw length-more at (g .text) in
       record {
         names = stretch s (at + 5) e ∷ g .names;
         rest = g .rest;
@@ -148,7 +134,7 @@ names-outcome s zero line at earlier hl =
     record { names = []; right = tt; count = refl; text = refl; next = omega arith; composed = rw append-nil }
 names-outcome s (suc todo) line at earlier hl =
     by (nameLineAt s at (length (map compose earlier))) refl
-    (λ e x. names-outcome s todo (line + 1) (e + 1) (earlier ++ (x ∷ [])) (omega (arith, one-more earlier x)))
+    (λ e x. names-outcome s todo (line + 1) (e + 1) (earlier ++ (x ∷ [])) (omega (arith, length-more earlier x)))
   where
     go : ℕ → Phase Named
     go e = namesAt s (line + 1) (e + 1) (map compose earlier ++ (compose (stretch s (at + 5) e) ∷ [])) todo
@@ -248,6 +234,6 @@ names-along s rest [] todo line at earlier hl h e =
 names-along s rest (x ∷ names) todo line at earlier hl h e =
     let e1 : drop at s ≡ nameLine (length earlier) x ++ (nameLines (suc (length earlier)) names ++ rest) = rw append-assoc at e in
     let p : at + length (nameLine (length earlier) x) ≡ at + 5 + length x + 1 = omega (arith, name-length (length earlier) x) in
-    let e2 : drop (at + 5 + length x + 1) s ≡ nameLines (length (earlier ++ (x ∷ []))) names ++ rest = rw one-more (rw p at (stretch-rest s at (nameLine (length earlier) x) _ e1)) in
+    let e2 : drop (at + 5 + length x + 1) s ≡ nameLines (length (earlier ++ (x ∷ []))) names ++ rest = rw length-more (rw p at (stretch-rest s at (nameLine (length earlier) x) _ e1)) in
     along-step s rest names todo line at earlier x (nameLines (suc (length earlier)) names ++ rest) (omega arith) (h .0) (h .1) e1
-    (names-along s rest names todo (line + 1) (at + 5 + length x + 1) (earlier ++ (x ∷ [])) (omega (arith, one-more earlier x)) (h .2) e2)
+    (names-along s rest names todo (line + 1) (at + 5 + length x + 1) (earlier ++ (x ∷ [])) (omega (arith, length-more earlier x)) (h .2) e2)

@@ -2,19 +2,21 @@
 -- That this is what Format describes is a theorem. A byte past the end is 0, and 0 stands in no line.
 use Prim.Native.Nat.{ℕ, zero, suc, _+_, _*_, _^_}
 use mathlib.Core.List.{List, [], _∷_, _++_}
-use mathlib.Core.Bool.{Bool, true, false}
+use mathlib.Core.Bool.{Bool, true, false, _&&_}
 use lib.ListN.{length, getD, replicate}
-use lib.Dec.{ltb, eqb}
+use lib.Dec.{ltb, leb, eqb}
 use Rattle.text.specs.Choice.{choose}
 use Rattle.text.specs.Bytes.{space, stretch}
-use Rattle.text.specs.Number.{numberAt, withNumber}
+use Rattle.text.specs.Number.{numberAt, withNumber, isNumbered, isBetween}
 use Rattle.text.specs.Pair.{pairAt, withPair, firstLine}
 use Rattle.text.specs.Word.{startsAt}
+use Rattle.text.specs.declared.Pair.{Pair}
 use Rattle.names.specs.Name.{compose}
 use Rattle.names.specs.Scan.{nameEndAt}
 use Rattle.names.specs.declared.Ending.{Ending}
 use Rattle.names.specs.declared.Ending.the-variants as E
 use Rattle.format.specs.Format.{Transition, sheetWord, endLine, most, place, entered}
+use Rattle.parser.specs.declared.Bounds.{Bounds}
 use Rattle.parser.specs.declared.Sizes.{Sizes}
 use Rattle.parser.specs.declared.Sets.{Sets}
 use Rattle.parser.specs.declared.StateLine.{StateLine}
@@ -34,18 +36,22 @@ andThen (passed a) next = next a
 
 -- THE FIRST LINE
 
--- "Are n and k in range? No: 4."
-unfoldable pub rangesOf : ℕ → ℕ → Phase Sizes
-rangesOf n k =
-    choose (ltb n 1) (refused 4 1)
-    (choose (ltb 16 n) (refused 4 1)
-    (choose (ltb k 1) (refused 4 1)
-    (choose (ltb 8 k) (refused 4 1)
-    (passed (record { n = n; k = k })))))
+abbrev pub inBounds : Bounds → ℕ → ℕ → Bool
+inBounds β a b = isBetween (β .least) (β .most) a && isBetween (β .low) (β .high) b
 
--- "Is the first sheet line of its form? No: 3.": SHEET, n, k, LF
+-- a first line, of a sheet or of a plan: `form` is the number of a refusal for its form, and `range` for numbers out of bounds
+abbrev pub firstPhase : {A : Type 0} → Pair → Bounds → (ℕ → ℕ → A) → ℕ → ℕ → Phase A
+firstPhase w β make form range = withPair w (λ a b. choose (inBounds β a b) (passed (make a b)) (refused range 1)) (refused form 1)
+
+abbrev pub sizes : ℕ → ℕ → Sizes
+sizes n k = record { n = n; k = k }
+
+abbrev pub sheetBounds : Bounds
+sheetBounds = record { least = 1; most = 16; low = 1; high = 8 }
+
+-- "Is the first sheet line of its form? No: 3.": SHEET, n, k, LF. "Are n and k in range? No: 4."
 unfoldable pub headOf : List ℕ → Phase Sizes
-headOf s = firstLine s sheetWord rangesOf (refused 3 1)
+headOf s = firstPhase (firstLine s sheetWord) sheetBounds sizes 3 4
 
 -- THE NAME LINES
 
@@ -57,12 +63,7 @@ pub record Named : Type 0 where
 
 -- the line of letter l: where its LF stands
 unfoldable pub nameLineAt : List ℕ → ℕ → ℕ → Ending
-nameLineAt s at l =
-    choose (eqb (getD s at 0) 78)
-    (withNumber (numberAt s (at + 1))
-    (λ v. choose (eqb v l) (choose (eqb (getD s (at + 4) 0) space) (nameEndAt s (at + 5)) E.Bad) E.Bad)
-    E.Bad)
-    E.Bad
+nameLineAt s at l = choose (isNumbered s at 78 l && eqb (getD s (at + 4) 0) space) (nameEndAt s (at + 5)) E.Bad
 
 abbrev pub withEnding : {A : Type 0} → Ending → (ℕ → A) → A → A
 withEnding (E.At e) go bad = go e
@@ -73,7 +74,7 @@ unfoldable pub same : List ℕ → List ℕ → Bool
 same [] [] = true
 same [] (b ∷ y) = false
 same (a ∷ x) [] = false
-same (a ∷ x) (b ∷ y) = choose (eqb a b) (same x y) false
+same (a ∷ x) (b ∷ y) = eqb a b && same x y
 
 -- the number of the first of some composed names that is x, and their count where none is
 unfoldable pub letterOf : List (List ℕ) → List ℕ → ℕ
@@ -97,14 +98,13 @@ namesAt s line at names (suc todo) =
 
 -- THE STATE LINES
 
+-- two flags, each 0 or 1
+abbrev pub flagsOf : ℕ → ℕ → StateLine
+flagsOf i r = choose (isBetween 0 1 i && isBetween 0 1 r) (S.Is i r) S.Bad
+
 -- the line of state q: its two flags
 unfoldable pub stateLineAt : List ℕ → ℕ → ℕ → StateLine
-stateLineAt s at q =
-    choose (eqb (getD s at 0) 83)
-    (withNumber (numberAt s (at + 1))
-    (λ v. choose (eqb v q) (withPair (pairAt s (at + 4)) (λ i r. choose (ltb 1 i) S.Bad (choose (ltb 1 r) S.Bad (S.Is i r))) S.Bad) S.Bad)
-    S.Bad)
-    S.Bad
+stateLineAt s at q = choose (isNumbered s at 83 q) (withPair (pairAt s (at + 4)) flagsOf S.Bad) S.Bad
 
 abbrev pub withFlags : {A : Type 0} → StateLine → (ℕ → ℕ → A) → A → A
 withFlags (S.Is i r) go bad = go i r
@@ -124,13 +124,7 @@ statesAt s line at q initial recurring (suc todo) =
 -- a transition in range whose place is not below `least`
 unfoldable pub transitionOf : ℕ → ℕ → ℕ → ℕ → ℕ → ℕ → TransitionLine
 transitionOf n k least from letter to =
-    choose (ltb from n)
-    (choose (ltb letter k)
-    (choose (ltb to n)
-    (choose (ltb ((8 * from + letter) * 16 + to) least) T.Bad (T.Is from letter to))
-    T.Bad)
-    T.Bad)
-    T.Bad
+    choose (ltb from n && (ltb letter k && (ltb to n && leb least ((8 * from + letter) * 16 + to)))) (T.Is from letter to) T.Bad
 
 -- the line of a transition, behind its T
 unfoldable pub transitionLineAt : List ℕ → ℕ → ℕ → ℕ → ℕ → TransitionLine

@@ -6,10 +6,10 @@ use lib.ListN.{length}
 use Rattle.gate.specs.Gate.{refusal, cleared}
 use Rattle.automaton.specs.declared.Numbers.{Numbers}
 use Rattle.automaton.specs.Automaton.{InRange}
-use Rattle.parser.specs.declared.Sizes.{Sizes}
+use Rattle.parser.specs.declared.Bounds.{Bounds}
 use Rattle.parser.specs.declared.Sets.{Sets}
-use Rattle.parser.specs.declared.Head.{Head}
-use Rattle.parser.specs.declared.Head.the-variants as H
+use Rattle.parser.specs.declared.First.{First}
+use Rattle.parser.specs.declared.First.the-variants as R
 use Rattle.parser.specs.declared.File.{File}
 use Rattle.parser.specs.declared.File.the-variants as F
 use Rattle.parser.specs.declared.Names.{Names}
@@ -27,14 +27,17 @@ use Rattle.parser.specs.Rows.{Holds}
 use Rattle.format.specs.Format.{numbers}
 use Rattle.automaton.specs.Lent.{lentTable}
 
-abbrev pub headAnswer : Phase Sizes → Head
-headAnswer (refused number line) = H.Refused (refusal number line)
-headAnswer (passed z) = H.Is z
+abbrev pub firstAnswer : Phase (ℕ × ℕ) → First
+firstAnswer (refused number line) = R.Refused (refusal number line)
+firstAnswer (passed (a, b)) = R.Are a b
 
--- n and k of a first line that is read are in range
-abbrev pub SizesFit : Head → Type 0
-SizesFit (H.Refused r) = Unit
-SizesFit (H.Is z) = InRange (z .n) (z .k)
+-- the numbers of a first line that is read are within its bounds
+abbrev pub Within : Bounds → ℕ → ℕ → Type 0
+Within β a b = (β .least ≤ a) × (a ≤ β .most) × (β .low ≤ b) × (b ≤ β .high)
+
+abbrev pub FirstFits : Bounds → First → Type 0
+FirstFits β (R.Refused r) = Unit
+FirstFits β (R.Are a b) = Within β a b
 
 -- the answer of k name lines; where they are read, the rows hold the names
 abbrev pub NamesRead : ℕ → Phase Named → List ℕ → Names → Type 0

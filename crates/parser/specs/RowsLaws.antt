@@ -8,9 +8,9 @@ use lib.ListN.{length, getD, length-append, List·getD-append}
 use lib.Seq.{sets, getD-append-seam}
 use borrow.Author.Count.{below-more}
 use Rattle.names.specs.Name.{IsName}
-use Rattle.names.specs.NameLaws.{name-without}
 use Rattle.names.specs.Row.{row, padded}
-use Rattle.names.specs.RowLaws.{padded-length, row-stored, row-kept-ahead, padded-injective}
+use Rattle.text.specs.SetsLaws.{part-stored, part-kept}
+use Rattle.names.specs.RowLaws.{padded-length, padded-same}
 use Rattle.parser.specs.Parse.{same, letterOf}
 use Rattle.parser.specs.LetterLaws.{same-is, same-self}
 use Rattle.parser.specs.Rows.{RowIs, Holds, FirstLike, FirstName}
@@ -41,16 +41,13 @@ letter-is (y ∷ ys) x (suc l) f =
 
 -- NAMES BY THEIR ROWS
 
-padded-is : (x y : List ℕ) → IsName x → IsName y → padded x ≡ padded y → x ≡ y
-padded-is x y hx hy e = padded-injective x y (name-without 0 x (omega arith) hx) (name-without 0 y (omega arith) hy) e
-
 -- the first row that is like the row of x tells the first letter whose name x is
 pub first-name :
     (names : List (List ℕ)) (rows : List ℕ) (count : ℕ) (x : List ℕ) (l : ℕ) →
     length names ≡ count → Holds names rows → RowIs rows count x → FirstLike rows count l → FirstName names x l
 first-name names rows count x l n h k f = record {
   most = let m = f .most in omega arith;
-  is = λ b. padded-is (getD names l []) x (h l b .is-name) (k .is-name) (sym (h l b .is) ∙ (f .like ∙ k .is));
+  is = λ b. padded-same (getD names l []) x (h l b .is-name) (k .is-name) (sym (h l b .is) ∙ (f .like ∙ k .is));
   first = λ i b e.
       f .first i b
       (h i (let m = f .most in omega arith) .is ∙ (ap padded e ∙ sym (k .is)));
@@ -61,12 +58,12 @@ first-name names rows count x l n h k f = record {
 module _ (names : List (List ℕ)) (rows : List ℕ) (l : ℕ) (x : List ℕ) (n : length names ≡ l) (fits : 24 * l + 24 ≤ length rows)
     (h : Holds names rows) (fx : IsName x) where
   pub row-there : RowIs (sets rows (24 * l) (padded x)) l x
-  row-there = record { is-name = fx; is = row-stored rows (padded x) (24 * l) (padded-length x (fx .most)) fits }
+  row-there = record { is-name = fx; is = part-stored 24 rows (padded x) (24 * l) (padded-length x (fx .most)) fits }
 
   pub holds-still : Holds names (sets rows (24 * l) (padded x))
   holds-still i b = record {
     is-name = h i b .is-name;
-    is = row-kept-ahead rows (padded x) (24 * l) (24 * i) (omega arith) ∙ h i b .is;
+    is = part-kept 24 rows (padded x) (24 * l) (24 * i) (omega arith) ∙ h i b .is;
   }
 
   pub holds-more : Holds (names ++ (x ∷ [])) (sets rows (24 * l) (padded x))

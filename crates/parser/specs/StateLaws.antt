@@ -1,16 +1,14 @@
 -- The state lines: the phase that reads them passes or refuses as Format says, by induction along the lines. Assumes nothing.
 use Prim.Native.Nat.{ℕ, zero, suc, _+_, _*_, _^_, _≤_, _<_}
 use mathlib.Core.Path.{_≡_, refl, sym, ap, _∙_}
+use mathlib.Core.Bool.{_&&_}
 use mathlib.Core.List.{List, [], _∷_, _++_, append-assoc}
-use lib.ListN.{length, getD, drop}
-use lib.Dec.{eqb, ltb}
-use borrow.Author.Tests.{eq-eqb, eqb-true, le-ltb, ltb-false}
+use lib.ListN.{length, drop}
 use native.Mathlib.Omega.{arith}
 use native.Mathlib.Numerals.{add-one}
 use native.Mathlib.Nat.{zero-add, add-zero, suc-add}
 use Rattle.text.specs.Column.{column}
-use Rattle.text.specs.Number.{numberAt}
-use Rattle.text.specs.declared.Number.the-variants as N
+use Rattle.text.specs.Number.{isNumbered, isBetween}
 use Rattle.format.specs.Format.{State, stateLine, stateLines, FlagsRight, StatesRight, flagSet}
 use Rattle.format.specs.FormatLaws.{state-length}
 use Rattle.parser.specs.declared.Sets.{Sets}
@@ -19,11 +17,10 @@ use Rattle.parser.specs.declared.StateLine.the-variants as S
 use Rattle.parser.specs.Parse.{Phase, refused, passed, withFlags, stateLineAt, statesAt}
 use Rattle.text.specs.BytesLaws.{stretch-rest}
 use Rattle.text.specs.Pair.{pairAt}
-use Rattle.text.specs.ChoiceLaws.{test-true, test-false}
-use Rattle.text.specs.NumberLaws.{some-number}
+use Rattle.text.specs.ChoiceLaws.{test-true}
+use Rattle.text.specs.NumberLaws.{between-is, between-of}
 use Rattle.text.specs.PairLaws.{some-pair}
-use Rattle.text.specs.declared.Pair.the-variants as P
-use Rattle.parser.specs.FieldLaws.{Fields, fields-of, fields-is}
+use Rattle.parser.specs.FieldLaws.{fields-of, fields-is}
 
 abbrev pub flags : ℕ → ℕ → State
 flags i r = record { initial = i; recurring = r }
@@ -38,29 +35,20 @@ module _ (s : List ℕ) (at q : ℕ) where
   unfolding stateLineAt stateLine column
   state-line-of z rest hq h e =
       let f = fields-of s at 83 q (z .initial) (z .recurring) rest hq (omega arith) (omega arith) e in
-      simp (eq-eqb _ _ (f .first), f .one, eq-eqb q q refl, f .two, le-ltb 1 _ (h .0), le-ltb 1 _ (h .1))
+      simp (f .opening, f .two, between-of (z .initial) (z .recurring) {least = 0} {most = 1} {least′ = 0} {most′ = 1} (omega arith, h .0, omega arith, h .1))
 
   pub state-line-is : (i r : ℕ) → stateLineAt s at q ≡ S.Is i r → FlagsRight (flags i r) × (drop at s ≡ stateLine q (flags i r) ++ drop (at + 11) s)
   unfolding stateLineAt stateLine column
   state-line-is i r e =
       let n = bad-is-not i r in
-      let e1 = test-true n (eqb (getD s at 0) 83) _ e in
-      let e2 = some-number n (numberAt s (at + 1)) _ (e1 .1) in
-      let e3 = test-true n (eqb (e2 .0) q) _ (e2 .2) in
-      let e4 = some-pair n (pairAt s (at + 4)) _ (e3 .1) in
-      let e5 = test-false n (ltb 1 (e4 .0)) _ (e4 .3) in
-      let e6 = test-false n (ltb 1 (e4 .1)) (S.Is (e4 .0) (e4 .1)) (e5 .1) in
-      let same = e6 .1 in
-      let a : e4 .0 ≡ i = cc in
-      let b : e4 .1 ≡ r = cc in
-      let g = ltb-false 1 (e4 .0) (e5 .0) in
-      let h = ltb-false 1 (e4 .1) (e6 .0) in
-      let f : Fields s at 83 q i r = record {
-        first = eqb-true _ _ (e1 .0);
-        one = e2 .1 ∙ ap N.Is (eqb-true (e2 .0) q (e3 .0));
-        two = e4 .2 ∙ rw (a, b);
-      } in
-      ((omega arith, omega arith), fields-is s at 83 q i r (omega arith) f)
+      let e1 = test-true n (isNumbered s at 83 q) _ e in
+      let e2 = some-pair n (pairAt s (at + 4)) _ (e1 .1) in
+      let e3 = test-true n (isBetween 0 1 (e2 .0) && isBetween 0 1 (e2 .1)) (S.Is (e2 .0) (e2 .1)) (e2 .3) in
+      let same = e3 .1 in
+      let a : e2 .0 ≡ i = cc in
+      let b : e2 .1 ≡ r = cc in
+      let h = between-is (e2 .0) (e2 .1) {least = 0} {most = 1} {least′ = 0} {most′ = 1} (e3 .0) in
+      ((omega arith, omega arith), fields-is s at 83 q i r (omega arith) (record { opening = e1 .0; two = e2 .2 ∙ rw (a, b) }))
 
 -- THE PHASE, from state q on: the states of the lines that it read
 

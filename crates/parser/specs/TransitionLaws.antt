@@ -2,12 +2,12 @@
 -- Fuel never runs out before the file does. Assumes nothing.
 use Prim.Native.Nat.{ℕ, zero, suc, _+_, _*_, _≤_}
 use mathlib.Core.Path.{_≡_, refl, sym, ap, subst, _∙_}
-use mathlib.Core.Bool.{Bool, true, false}
+use mathlib.Core.Bool.{Bool, true, false, and-eq-true-iff}
 use mathlib.Core.List.{List, [], _∷_, _++_, append-assoc}
 use lib.ListN.{length, getD, drop, drop-of-length-le}
 use lib.Seq.{getD-drop}
 use lib.Dec.{eqb, ltb}
-use borrow.Author.Tests.{eq-eqb, ne-eqb, eqb-true, eqb-false, lt-ltb, le-ltb, ltb-true, ltb-false}
+use borrow.Author.Tests.{eq-eqb, ne-eqb, eqb-true, eqb-false, lt-ltb, ltb-true, le-leb, leb-true}
 use native.Mathlib.Omega.{arith}
 use native.Mathlib.Numerals.{add-one}
 use native.Mathlib.Nat.{zero-add, add-zero, suc-add}
@@ -23,8 +23,8 @@ use Rattle.parser.specs.declared.TransitionLine.the-variants as T
 use Rattle.parser.specs.Parse.{Phase, refused, passed, withTransition, transitionOf, transitionLineAt, endAt, transitionsAt}
 use Rattle.text.specs.BytesLaws.{stretch-rest}
 use Rattle.text.specs.Pair.{pairAt}
-use Rattle.text.specs.ChoiceLaws.{test-true, test-false}
-use Rattle.text.specs.NumberLaws.{some-number}
+use Rattle.text.specs.ChoiceLaws.{test-true}
+use Rattle.text.specs.NumberLaws.{some-number, numbered-by, numbered-parts}
 use Rattle.text.specs.PairLaws.{some-pair}
 use Rattle.text.specs.declared.Pair.the-variants as P
 use Rattle.parser.specs.FieldLaws.{Fields, fields-of, fields-is}
@@ -38,25 +38,25 @@ bad-is-not f l t e = let z : _≡_ {A = ℕ} 0 1 = cc in omega arith
 module _ (n k least : ℕ) where
   right-of : (t : Transition) → TransitionRight n k least t → transitionOf n k least (t .from) (t .letter) (t .to) ≡ T.Is (t .from) (t .letter) (t .to)
   unfolding transitionOf
-  right-of t h = simp (lt-ltb _ _ (h .from), lt-ltb _ _ (h .letter), lt-ltb _ _ (h .to), le-ltb _ _ (h .order))
+  right-of t h = simp (lt-ltb _ _ (h .from), lt-ltb _ _ (h .letter), lt-ltb _ _ (h .to), le-leb _ _ (h .order))
 
   right-is : (from letter to f l t : ℕ) → transitionOf n k least from letter to ≡ T.Is f l t →
       TransitionRight n k least (transition f l t) × (from ≡ f) × (letter ≡ l) × (to ≡ t)
   unfolding transitionOf
   right-is from letter to f l t e =
       let no-bad = bad-is-not f l t in
-      let e1 = test-true no-bad (ltb from n) _ e in
-      let e2 = test-true no-bad (ltb letter k) _ (e1 .1) in
-      let e3 = test-true no-bad (ltb to n) _ (e2 .1) in
-      let e4 = test-false no-bad (ltb ((8 * from + letter) * 16 + to) least) _ (e3 .1) in
-      let same : T.Is from letter to ≡ T.Is f l t = e4 .1 in
+      let all = test-true no-bad _ (T.Is from letter to) e in
+      let e1 = and-eq-true-iff (ltb from n) _ .0 (all .0) in
+      let e2 = and-eq-true-iff (ltb letter k) _ .0 (e1 .1) in
+      let e3 = and-eq-true-iff (ltb to n) _ .0 (e2 .1) in
+      let same = all .1 in
       let a : from ≡ f = cc in
       let b : letter ≡ l = cc in
       let c : to ≡ t = cc in
       let h1 = ltb-true from n (e1 .0) in
       let h2 = ltb-true letter k (e2 .0) in
       let h3 = ltb-true to n (e3 .0) in
-      let h4 = ltb-false ((8 * from + letter) * 16 + to) least (e4 .0) in
+      let h4 = leb-true least ((8 * from + letter) * 16 + to) (e3 .1) in
       (record { from = omega arith; letter = omega arith; to = omega arith; order = omega arith }, a, b, c)
 
   module _ (s : List ℕ) (at : ℕ) where
@@ -65,7 +65,8 @@ module _ (n k least : ℕ) where
     unfolding transitionLineAt transitionLine column
     transition-line-of t rest hn hk h e =
         let f = fields-of s at 84 (t .from) (t .letter) (t .to) rest (omega (arith, h .from)) (omega (arith, h .letter)) (omega (arith, h .to)) e in
-        (f .first, simp (f .one, f .two) (right-of t h))
+        let (first, one) = numbered-parts s at 84 (t .from) (f .opening) in
+        (first, simp (one, f .two) (right-of t h))
 
     pub transition-line-is : (f l t : ℕ) → getD s at 0 ≡ 84 → transitionLineAt s at n k least ≡ T.Is f l t →
         TransitionRight n k least (transition f l t) × (drop at s ≡ transitionLine (transition f l t) ++ drop (at + 11) s)
@@ -75,7 +76,7 @@ module _ (n k least : ℕ) where
         let e1 = some-number no-bad (numberAt s (at + 1)) _ e in
         let e2 = some-pair no-bad (pairAt s (at + 4)) _ (e1 .2) in
         let h = right-is (e1 .0) (e2 .0) (e2 .1) f l t (e2 .3) in
-        let g : Fields s at 84 f l t = record { first = first; one = e1 .1 ∙ ap N.Is (h .1); two = e2 .2 ∙ rw (h .2, h .3) } in
+        let g : Fields s at 84 f l t = record { opening = numbered-by s at 84 f first (e1 .1 ∙ ap N.Is (h .1)); two = e2 .2 ∙ rw (h .2, h .3) } in
         (h .0, fields-is s at 84 f l t (omega arith) g)
 
 -- THE FAULTS where a transition or END is due: the rest of the file starts at line `line`

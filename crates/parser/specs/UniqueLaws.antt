@@ -3,19 +3,20 @@ use Prim.Native.Nat.{ℕ, suc, _+_, _≤_, _<_}
 use mathlib.Core.Path.{_≡_, refl, sym, ap, ap₂, subst, _∙_}
 use mathlib.Core.Logic.{_⊎_, inl, inr}
 use mathlib.Core.List.{List, [], _∷_, _++_, append-assoc}
-use lib.ListN.{length, getD, drop}
-use lib.Seq.{drop-at}
+use lib.ListN.{length, getD}
 use native.Mathlib.Omega.{arith}
 use Rattle.text.specs.Bytes.{stretch}
+use Rattle.text.specs.BytesLaws.{append-same}
 use Rattle.names.specs.Name.{IsName}
 use Rattle.names.specs.declared.Ending.the-variants as E
 use Rattle.automaton.specs.Automaton.{InRange}
 use Rattle.format.specs.Format.{State, Transition, Sheet, headLine, nameLine, stateLine, transitionLine, nameLines, stateLines, transitionLines, endLine, lines, NamesRight, FlagsRight, StatesRight, place, TransitionRight, TransitionsRight, FileIs, Faulty}
+use Rattle.format.specs.NumbersLaws.{loosened}
 use Rattle.format.specs.FormatLaws.{head-length, name-length, state-length, transition-length}
 use Rattle.parser.specs.declared.Sizes.{Sizes}
 use Rattle.parser.specs.declared.StateLine.the-variants as S
 use Rattle.parser.specs.declared.TransitionLine.the-variants as T
-use Rattle.parser.specs.Parse.{Phase, refused, passed, headOf, stateLineAt, transitionLineAt, Contents, parse}
+use Rattle.parser.specs.Parse.{Phase, refused, passed, sizes, headOf, stateLineAt, transitionLineAt, Contents, parse}
 use Rattle.parser.specs.HeadLaws.{head-right}
 use Rattle.parser.specs.NameLaws.{name-line-of}
 use Rattle.parser.specs.StateLaws.{state-line-of}
@@ -25,17 +26,14 @@ use Rattle.parser.specs.CompleteLaws.{faulty-parse, file-read}
 
 -- ONE LINE at the top of a text is one line
 
-rest-same : (x y r t : List ℕ) (n : ℕ) → length x ≡ n → length y ≡ n → x ++ r ≡ y ++ t → r ≡ t
-rest-same x y r t n hx hy e = sym (drop-at x r n hx) ∙ (ap (drop n) e ∙ drop-at y t n hy)
-
 module _ (r t : List ℕ) where
   head-same : (n k m l : ℕ) → InRange n k → InRange m l → headLine n k ++ r ≡ headLine m l ++ t → (n ≡ m) × (k ≡ l) × (r ≡ t)
   head-same n k m l h g e =
       let s : List ℕ = headLine n k ++ r in
-      let a : headOf s ≡ passed (record { n = n; k = k }) = head-right s n k r h refl in
-      let b : headOf s ≡ passed (record { n = m; k = l }) = head-right s m l t g e in
-      let f : _≡_ {A = Sizes} (record { n = n; k = k }) (record { n = m; k = l }) = cc in
-      (ap (λ (z : Sizes). z .n) f, ap (λ (z : Sizes). z .k) f, rest-same (headLine n k) (headLine m l) r t 12 (head-length n k) (head-length m l) e)
+      let a : headOf s ≡ passed (sizes n k) = head-right s n k r h refl in
+      let b : headOf s ≡ passed (sizes m l) = head-right s m l t g e in
+      let f : _≡_ {A = Sizes} (sizes n k) (sizes m l) = cc in
+      (ap (λ (z : Sizes). z .n) f, ap (λ (z : Sizes). z .k) f, append-same (headLine n k) (headLine m l) r t (head-length n k ∙ sym (head-length m l)) e .1)
 
   name-same : (l : ℕ) (x y : List ℕ) → l < 1000 → IsName x → IsName y → nameLine l x ++ r ≡ nameLine l y ++ t → (x ≡ y) × (r ≡ t)
   name-same l x y hl h g e =
@@ -45,7 +43,7 @@ module _ (r t : List ℕ) where
       let f : E.At (0 + 5 + length x) ≡ E.At (0 + 5 + length y) = sym (a .0) ∙ b .0 in
       let d : 0 + 5 + length x ≡ 0 + 5 + length y = cc in
       let c : length y ≡ length x = omega arith in
-      (sym (a .1) ∙ (ap (stretch s (0 + 5)) d ∙ b .1), rest-same (nameLine l x) (nameLine l y) r t (6 + length x) (name-length l x) (name-length l y ∙ ap (6 +_) c) e)
+      (sym (a .1) ∙ (ap (stretch s (0 + 5)) d ∙ b .1), append-same (nameLine l x) (nameLine l y) r t (name-length l x ∙ (ap (6 +_) (sym c) ∙ sym (name-length l y))) e .1)
 
   state-same : (q : ℕ) (z y : State) → q < 1000 → FlagsRight z → FlagsRight y → stateLine q z ++ r ≡ stateLine q y ++ t → (z ≡ y) × (r ≡ t)
   state-same q z y hq h g e =
@@ -54,7 +52,7 @@ module _ (r t : List ℕ) where
       let b : stateLineAt s 0 q ≡ S.Is (y .initial) (y .recurring) = state-line-of s 0 q y t hq g e in
       let c : z .initial ≡ y .initial = cc in
       let d : z .recurring ≡ y .recurring = cc in
-      (λ i. record { initial = c i; recurring = d i }, rest-same (stateLine q z) (stateLine q y) r t 11 (state-length q z) (state-length q y) e)
+      (λ i. record { initial = c i; recurring = d i }, append-same (stateLine q z) (stateLine q y) r t (state-length q z ∙ sym (state-length q y)) e .1)
 
   transition-same : (n k : ℕ) (u v : Transition) → n ≤ 1000 → k ≤ 1000 → TransitionRight n k 0 u → TransitionRight n k 0 v → transitionLine u ++ r ≡ transitionLine v ++ t → (u ≡ v) × (r ≡ t)
   transition-same n k u v hn hk h g e =
@@ -64,7 +62,7 @@ module _ (r t : List ℕ) where
       let c : u .from ≡ v .from = cc in
       let d : u .letter ≡ v .letter = cc in
       let f : u .to ≡ v .to = cc in
-      (λ i. record { from = c i; letter = d i; to = f i }, rest-same (transitionLine u) (transitionLine v) r t 11 (transition-length u) (transition-length v) e)
+      (λ i. record { from = c i; letter = d i; to = f i }, append-same (transitionLine u) (transitionLine v) r t (transition-length u ∙ sym (transition-length v)) e .1)
 
 -- AS MANY LINES of a kind are the same lines
 
@@ -98,9 +96,6 @@ states-same q (z ∷ zs) (y ∷ ys) r t hq c h g e =
 end-is-no-transition : (u : Transition) (rest : List ℕ) → endLine ≡ transitionLine u ++ rest → ⊥
 unfolding transitionLine
 end-is-no-transition u rest e = let z : _≡_ {A = ℕ} 69 84 = ap (λ (l : List ℕ). getD l 0 0) e in omega arith
-
-loosened : {n k least : ℕ} {t : Transition} → TransitionRight n k least t → TransitionRight n k 0 t
-loosened h = record { from = h .from; letter = h .letter; to = h .to; order = omega arith }
 
 transitions-same :
     (n k : ℕ) → n ≤ 1000 → k ≤ 1000 → (least other : ℕ) (us vs : List Transition) → TransitionsRight n k least us → TransitionsRight n k other vs →

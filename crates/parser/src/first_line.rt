@@ -1,50 +1,34 @@
-// The first line of a sheet: questions 3 and 4.
+// The first line of a file: questions 3 and 4 of a sheet, 12 and 13 of a plan.
 ghost use mathlib.Core.Path.{_≡_};
-ghost use Rattle.parser.specs.Parse.{rangesOf, headOf};
-ghost use Rattle.parser.specs.PhaseAnswers.{headAnswer, SizesFit};
-use super::Head;
-use super::Sizes;
+ghost use Prim.Native.Nat.{_<_, _^_};
+ghost use lib.ListN.{length};
+ghost use Rattle.text.specs.Pair.{firstLine};
+ghost use Rattle.parser.specs.Parse.{firstPhase};
+ghost use Rattle.parser.specs.PhaseAnswers.{firstAnswer, FirstFits};
+use super::Bounds;
+use super::First;
 use gate::Refusal;
 use text::Pair;
 
-// n and k, or else question 4.
-fn ranges(n: usize, k: usize) -> Head
-    ensures { λ r. ⌜ (r ≡ headAnswer (rangesOf n k)) × SizesFit r ⌝ }
+// A word and two numbers within bounds, or else a refusal: `form` is its number for a line of another form, `range` for numbers out of bounds.
+pub fn first_line(s: &[u8], word: &[u8], bounds: Bounds, form: u8, range: u8) -> First
+    requires { ⌜ length (now word) < 2 ^ 30 ⌝ }
+    ensures { λ r. ⌜ (r ≡ firstAnswer (firstPhase (firstLine (now (s .entry)) (now (word .entry))) bounds (λ a b. (a, b)) form range))
+        × FirstFits bounds r ⌝ }
 {
-    let out = Refusal {
-        number: 4,
+    let Pair::Are(a, b) = text::first_line(s, word) else {
+        return First::Refused(Refusal {
+            number: form,
+            line: 1,
+            length: 0,
+        });
+    };
+    if text::are_between(a, bounds.least, bounds.most, b, bounds.low, bounds.high) {
+        return First::Are(a, b);
+    }
+    First::Refused(Refusal {
+        number: range,
         line: 1,
         length: 0,
-    };
-    if n < 1 {
-        return Head::Refused(out);
-    }
-    if 16 < n {
-        return Head::Refused(out);
-    }
-    if k < 1 {
-        return Head::Refused(out);
-    }
-    if 8 < k {
-        return Head::Refused(out);
-    }
-    Head::Is(Sizes { n, k })
-}
-
-// The first line, or else question 3.
-pub fn read_head(s: &[u8]) -> Head
-    ensures { λ r. ⌜ (r ≡ headAnswer (headOf (now (s .entry)))) × SizesFit r ⌝ }
-{
-    let bad = Refusal {
-        number: 3,
-        line: 1,
-        length: 0,
-    };
-    if !text::starts_at(s, 0, b"SHEET") {
-        return Head::Refused(bad);
-    }
-    match text::pair_at(s, 5) {
-        Pair::Are(n, k) => ranges(n, k),
-        Pair::Bad => Head::Refused(bad),
-    }
+    })
 }

@@ -9,16 +9,24 @@ pub mod whole_file;
 use automaton::Numbers;
 use gate::Refusal;
 
-// n and k of the first line.
+// What the two numbers of a first line may be: the first from `least` to `most`, the second from `low` to `high`.
+pub struct Bounds {
+    pub least: usize,
+    pub most: usize,
+    pub low: usize,
+    pub high: usize,
+}
+
+// The answer of a first line, of a sheet or of a plan.
+pub enum First {
+    Refused(Refusal),
+    Are(usize, usize),
+}
+
+// n and k of a sheet.
 pub struct Sizes {
     pub n: usize,
     pub k: usize,
-}
-
-// The answer of the first line.
-pub enum Head {
-    Refused(Refusal),
-    Is(Sizes),
 }
 
 // The next line's position and number.

@@ -12,26 +12,16 @@ use super::Names;
 use super::Place;
 use gate::Refusal;
 use names::Ending;
-use text::Number;
 
 // The line of letter l: where its LF stands.
 fn name_line(s: &[u8], at: usize, l: usize) -> Ending
     requires { ⌜ at < 2 ^ 30 ⌝ }
     ensures { λ r. ⌜ (r ≡ nameLineAt (now (s .entry)) at l) × nameFits (length (now (s .entry))) (at + 5) r ⌝ }
 {
-    if text::reader::opening(s, at) != 78 {
-        return Ending::Bad;
+    if text::is_numbered(s, at, b'N', l) && text::byte_at(s, at + 4) == b' ' {
+        return names::name_end(s, at + 5);
     }
-    let Number::Is(v) = text::number_at(s, at + 1) else {
-        return Ending::Bad;
-    };
-    if v != l {
-        return Ending::Bad;
-    }
-    if text::byte_at(s, at + 4) != 32 {
-        return Ending::Bad;
-    }
-    names::name_end(s, at + 5)
+    Ending::Bad
 }
 
 // The first row that is like row `count`.

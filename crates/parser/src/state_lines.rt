@@ -7,7 +7,6 @@ use super::Sets;
 use super::StateLine;
 use super::States;
 use gate::Refusal;
-use text::Number;
 use text::Pair;
 
 // The line of state q: its two flags, each 0 or 1.
@@ -15,25 +14,16 @@ fn state_line(s: &[u8], at: usize, q: usize) -> StateLine
     requires { ⌜ at < 2 ^ 30 ⌝ }
     ensures { λ r. ⌜ (r ≡ stateLineAt (now (s .entry)) at q) × FlagsFit r ⌝ }
 {
-    if text::reader::opening(s, at) != 83 {
-        return StateLine::Bad;
-    }
-    let Number::Is(v) = text::number_at(s, at + 1) else {
-        return StateLine::Bad;
-    };
-    if v != q {
+    if !text::is_numbered(s, at, b'S', q) {
         return StateLine::Bad;
     }
     let Pair::Are(i, r) = text::pair_at(s, at + 4) else {
         return StateLine::Bad;
     };
-    if 1 < i {
-        return StateLine::Bad;
+    if text::are_between(i, 0, 1, r, 0, 1) {
+        return StateLine::Is(i, r);
     }
-    if 1 < r {
-        return StateLine::Bad;
-    }
-    StateLine::Is(i, r)
+    StateLine::Bad
 }
 
 // The lines of n states, the first of which is line `first` and stands at `start`.

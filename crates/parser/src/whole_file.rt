@@ -7,14 +7,15 @@ ghost use Rattle.automaton.specs.Automaton.{InRange};
 ghost use Rattle.format.specs.Format.{most};
 ghost use Rattle.parser.specs.Parse.{Named, parse, afterNames};
 ghost use Rattle.parser.specs.PhaseAnswers.{NumbersRead, FileRead};
+use super::Bounds;
 use super::End;
 use super::File;
-use super::Head;
+use super::First;
 use super::Names;
 use super::Place;
 use super::Sizes;
 use super::States;
-use super::first_line::read_head;
+use super::first_line::first_line;
 use super::name_lines::read_names;
 use super::state_lines::read_states;
 use super::transition_lines::read_transitions;
@@ -59,14 +60,17 @@ pub fn read_file(s: &[u8], table: &mut [u16], rows: &mut [u8]) -> File
             length: 0,
         });
     }
-    match read_head(s) {
-        Head::Refused(r) => File::Refused(r),
-        Head::Is(z) => {
-            let k = z.k;
-            match read_names(s, k, rows) {
-                Names::Refused(r) => File::Refused(r),
-                Names::Are(place) => read_numbers(s, z, place, table),
-            }
-        }
+    let bounds = Bounds {
+        least: 1,
+        most: 16,
+        low: 1,
+        high: 8,
+    };
+    match first_line(s, b"SHEET", bounds, 3, 4) {
+        First::Refused(r) => File::Refused(r),
+        First::Are(n, k) => match read_names(s, k, rows) {
+            Names::Refused(r) => File::Refused(r),
+            Names::Are(place) => read_numbers(s, Sizes { n, k }, place, table),
+        },
     }
 }

@@ -14,14 +14,15 @@ use Rattle.gate.specs.declared.Refusal.{Refusal}
 use Rattle.parser.specs.declared.Place.{Place}
 use Rattle.parser.specs.Parse.{Phase, refused, passed, andThen}
 use Rattle.parser.specs.Rows.{Holds}
+use Rattle.plan.specs.declared.LetterLine.{LetterLine}
 use Rattle.plan.specs.declared.LetterLine.the-variants as L
 use Rattle.plan.specs.declared.Lengths.{Lengths}
 use Rattle.plan.specs.declared.Letters.the-variants as A
 use Rattle.plan.specs.declared.Planned.{Planned}
 use Rattle.plan.specs.declared.Planned.the-variants as P
 use Rattle.plan.specs.Plan.{LengthsRight}
-use Rattle.plan.specs.Parse.{Lettered, lettered, letterFrom, letterLineAt, lettersAt, endAt, Contents, contents, afterHead}
-use Rattle.plan.specs.Answers.{headAnswer, LengthsFit, LettersRead, planned, PlanRead}
+use Rattle.plan.specs.Parse.{Lettered, lettered, letterFrom, letterLineAt, withLetter, lettersAt, endAt, Contents, contents}
+use Rattle.plan.specs.Answers.{LengthsFit, LettersRead, planned, PlanRead}
 use Rattle.parser.specs.PhaseAnswers.{endAnswer}
 use Rattle.parser.specs.EndLaws.{end-same}
 
@@ -42,22 +43,11 @@ module _ (names : List (List ℕ)) (p : List ℕ) (at : ℕ) where
 
 -- THE NAME LINES: i of `count` are read
 module _ (names : List (List ℕ)) (p : List ℕ) (line at i count : ℕ) (letters : List ℕ) where
-  pub letters-good : {l e : ℕ} → i < count → letterLineAt names p at ≡ L.Is l e
-      → lettersAt names p line at letters (count - i) ≡ lettersAt names p (line + 1) (e + 1) (letters ++ (l ∷ [])) (count - (i + 1))
+  pub letters-step : {w : LetterLine} → i < count → letterLineAt names p at ≡ w
+      → lettersAt names p line at letters (count - i)
+      ≡ withLetter w (λ l e. lettersAt names p (line + 1) (e + 1) (letters ++ (l ∷ [])) (count - (i + 1))) (refused 14 line) (refused 12 line)
   unfolding lettersAt
-  letters-good h e =
-      let k : count - i ≡ suc (count - (i + 1)) = omega arith in
-      rw k (simp e)
-
-  pub letters-unknown : i < count → letterLineAt names p at ≡ L.Unknown → lettersAt names p line at letters (count - i) ≡ refused 14 line
-  unfolding lettersAt
-  letters-unknown h e =
-      let k : count - i ≡ suc (count - (i + 1)) = omega arith in
-      rw k (simp e)
-
-  pub letters-bad : i < count → letterLineAt names p at ≡ L.Bad → lettersAt names p line at letters (count - i) ≡ refused 12 line
-  unfolding lettersAt
-  letters-bad h e =
+  letters-step h e =
       let k : count - i ≡ suc (count - (i + 1)) = omega arith in
       rw k (simp e)
 
@@ -87,15 +77,7 @@ ends-fit z h (refused number line) = tt
 ends-fit z h (passed letters) = h
 
 -- THE WHOLE FILE: what the answer of a phase says of the rest
-pub head-passed : (w : Phase Lengths) (z : Lengths) → headAnswer w ≡ P.Is z → w ≡ passed z
-head-passed (refused number line) z e = absurd (let o : _≡_ {A = ℕ} 0 1 = cc in omega arith)
-head-passed (passed y) z e = let f : y ≡ z = cc in ap passed f
-
 module _ (names : List (List ℕ)) (p t u : List ℕ) where
-  pub head-refused : (w : Phase Lengths) (r : Refusal) → headAnswer w ≡ P.Refused r → PlanRead (andThen w (afterHead names p)) t u (P.Refused r)
-  head-refused (refused number line) r e = sym e
-  head-refused (passed y) r e = absurd (let o : _≡_ {A = ℕ} 0 1 = cc in omega arith)
-
   module _ (z : Lengths) where
     abbrev afterLetters : Phase Lettered → Phase Contents
     afterLetters w = andThen w (λ y. andThen (endAt p y) (λ letters. passed (contents z letters)))

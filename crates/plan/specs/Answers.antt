@@ -17,10 +17,6 @@ use Rattle.plan.specs.declared.Planned.the-variants as P
 use Rattle.plan.specs.Plan.{LengthsRight}
 use Rattle.plan.specs.Parse.{lengths, Lettered, Contents}
 
-abbrev pub headAnswer : Phase Lengths → Planned
-headAnswer (refused number line) = P.Refused (refusal number line)
-headAnswer (passed z) = P.Is z
-
 -- lengths that are read are in range
 abbrev pub LengthsFit : Planned → Type 0
 LengthsFit (P.Refused r) = Unit

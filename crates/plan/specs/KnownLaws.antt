@@ -1,12 +1,11 @@
 -- The letter that a name stands for is the one that a search among the composed names finds. Assumes nothing.
 use Prim.Native.Nat.{ℕ, zero, suc, _+_, _<_}
 use mathlib.Core.Path.{_≡_, refl, sym, ap, _∙_}
-use mathlib.Core.Bool.{Bool, true, false}
+use mathlib.Core.Bool.{Bool, true, false, true≢false}
 use mathlib.Core.List.{List, [], _∷_, _++_, map, append-assoc}
 use lib.ListN.{length, getD, length-map, length-append, List·getD-map, List·getD-append}
 use native.Mathlib.Omega.{arith}
 use Rattle.text.specs.Choice.{choose}
-use Rattle.text.specs.ChoiceLaws.{true-is-not-false}
 use Rattle.names.specs.Name.{IsName, compose}
 use Rattle.format.specs.Format.{Sheet, Distinct, NamesRight}
 use Rattle.sheet.specs.Letters.{StandsFor}
@@ -30,7 +29,7 @@ letter-first (y ∷ ys) x = by (same y x) refl (letter-first ys x)
     }
       where
         at : (i : ℕ) → i < suc (letterOf ys x) → getD (y ∷ ys) i [] ≡ x → ⊥
-        at zero h g = true-is-not-false (sym (same-self x) ∙ (ap (λ (z : List ℕ). same z x) (sym g) ∙ e))
+        at zero h g = true≢false (sym (same-self x) ∙ (ap (λ (z : List ℕ). same z x) (sym g) ∙ e))
         at (suc i) h g = f .first i (omega arith) g
 
 -- a composed name is the composed one of its letter

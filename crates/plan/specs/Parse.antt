@@ -9,8 +9,9 @@ use Rattle.text.specs.Bytes.{stretch}
 use Rattle.names.specs.Name.{compose}
 use Rattle.names.specs.Scan.{nameEndAt}
 use Rattle.text.specs.Pair.{firstLine}
+use Rattle.parser.specs.declared.Bounds.{Bounds}
 use Rattle.parser.specs.Parse as S
-use Rattle.parser.specs.Parse.{Phase, refused, passed, andThen, withEnding, letterOf}
+use Rattle.parser.specs.Parse.{Phase, refused, passed, andThen, firstPhase, withEnding, letterOf}
 use Rattle.plan.specs.declared.Lengths.{Lengths}
 use Rattle.plan.specs.declared.LetterLine.{LetterLine}
 use Rattle.plan.specs.declared.LetterLine.the-variants as L
@@ -21,17 +22,12 @@ lengths lead cycle = record { lead = lead; cycle = cycle }
 
 -- THE FIRST LINE
 
--- "Are both lengths in range? No: 13."
-unfoldable pub lengthsOf : ℕ → ℕ → Phase Lengths
-lengthsOf lead cycle =
-    choose (ltb 200 lead) (refused 13 1)
-    (choose (ltb cycle 1) (refused 13 1)
-    (choose (ltb 200 cycle) (refused 13 1)
-    (passed (lengths lead cycle))))
+abbrev pub planBounds : Bounds
+planBounds = record { least = 0; most = 200; low = 1; high = 200 }
 
--- "Is each plan line of its form? No: 12.": PLAN, lead-in length, cycle length, LF
+-- "Is each plan line of its form? No: 12.": PLAN, lead-in length, cycle length, LF. "Are both lengths in range? No: 13."
 unfoldable pub headOf : List ℕ → Phase Lengths
-headOf p = firstLine p planWord lengthsOf (refused 12 1)
+headOf p = firstPhase (firstLine p planWord) planBounds lengths 12 13
 
 -- THE NAME LINES
 

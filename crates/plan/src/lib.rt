@@ -1,5 +1,4 @@
 // The plan file, read into letters.
-pub mod first_line;
 pub mod name_lines;
 pub mod whole_file;
 

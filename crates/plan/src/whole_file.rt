@@ -12,10 +12,12 @@ ghost use Rattle.plan.specs.Read.{NamesIn, Reads};
 use super::Lengths;
 use super::Letters;
 use super::Planned;
-use super::first_line::read_head;
 use super::name_lines::read_letters;
+use parser::Bounds;
 use parser::End;
+use parser::First;
 use parser::Place;
+use parser::first_line::first_line;
 
 // The last line of a plan of lengths z.
 fn end_line(p: &[u8], z: Lengths, place: Place) -> Planned
@@ -34,11 +36,17 @@ pub fn read_plan(p: &[u8], rows: &mut [u8], k: usize, letters: &mut [u8]) -> Pla
     ensures { λ r. ⌜ LengthsFit r × ((σ : Sheet) → NamesIn σ k (now (rows .entry))
         → Reads σ (now (p .entry)) (now (letters .entry)) (now (letters .exit)) r) ⌝ }
 {
-    match read_head(p) {
-        Planned::Refused(r) => Planned::Refused(r),
-        Planned::Is(z) => match read_letters(p, rows, k, z.lead + z.cycle, letters) {
+    let bounds = Bounds {
+        least: 0,
+        most: 200,
+        low: 1,
+        high: 200,
+    };
+    match first_line(p, b"PLAN", bounds, 12, 13) {
+        First::Refused(r) => Planned::Refused(r),
+        First::Are(lead, cycle) => match read_letters(p, rows, k, lead + cycle, letters) {
             Letters::Refused(r) => Planned::Refused(r),
-            Letters::Are(place) => end_line(p, z, place),
+            Letters::Are(place) => end_line(p, Lengths { lead, cycle }, place),
         },
     }
 }

@@ -19,28 +19,35 @@ module _ (T : List ℕ) (count p q : ℕ) (c : Queue T count) (hp : p < 16) (hq 
       let b : other (pair T i) ≡ q = omega arith in
       new (rw (a, b) at (c .noted i l))
 
+  -- the pairs listed and the new one, as numbers
+  abbrev listed : ℕ → ℕ
+  listed i = pair T i % 256
+
+  abbrev asked : ℕ → ℕ
+  asked i = 16 * p + q
+
   has-room : count < 256
   has-room = by (decLt count 256)
     where
       numbers : ℕ → ℕ
-      numbers = glue (λ i. pair T i % 256) (λ i. 16 * p + q) count
+      numbers = glue listed asked count
 
       small : (i : ℕ) → numbers i < 256
       small i = at (decLt i count)
         where
           at : Dec (i < count) → numbers i < 256
-          at (yes l) = let e = glue-lt (λ i. pair T i % 256) (λ i. 16 * p + q) count i l in omega arith
-          at (no l) = let e = glue-ge (λ i. pair T i % 256) (λ i. 16 * p + q) count i (omega arith) in omega arith
+          at (yes l) = let e = glue-lt listed asked count i l in omega arith
+          at (no l) = let e = glue-ge listed asked count i (omega arith) in omega arith
 
       twice : (i j : ℕ) → i < j → j ≤ 256 → 256 ≤ count → numbers i ≡ numbers j → ⊥
       twice i j l m h e = at (decLt j count)
         where
           a : numbers i ≡ pair T i % 256
-          a = glue-lt (λ i. pair T i % 256) (λ i. 16 * p + q) count i (omega arith)
+          a = glue-lt listed asked count i (omega arith)
 
           at : Dec (j < count) → ⊥
-          at (yes k) = c .once i j l k (sym a ∙ e ∙ glue-lt (λ i. pair T i % 256) (λ i. 16 * p + q) count j k)
-          at (no k) = not-listed i (omega arith) (sym a ∙ e ∙ glue-ge (λ i. pair T i % 256) (λ i. 16 * p + q) count j (omega arith))
+          at (yes k) = c .once i j l k (sym a ∙ e ∙ glue-lt listed asked count j k)
+          at (no k) = not-listed i (omega arith) (sym a ∙ e ∙ glue-ge listed asked count j (omega arith))
 
       by : Dec (count < 256) → count < 256
       by (yes l) = l

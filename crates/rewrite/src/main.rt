@@ -29,8 +29,7 @@ fn main() {
     match writer::write(&sheet[..n], &mut word, &mut one, &mut other, &mut out) {
         Written::Bytes(m) => console::show(&out, m),
         Written::Refused(r) => {
-            let line = report::refusal_line(r);
-            console::say(&line);
+            console::say_refusal(r);
             let length = r.length;
             if r.number == 10 {
                 if length < 137 {

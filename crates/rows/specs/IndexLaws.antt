@@ -7,7 +7,7 @@ use native.Mathlib.Omega.{arith}
 use lib.ListN.{length, getD, set, replicate, length-set, length-replicate}
 use lib.Seq.{getD-set-same, getD-set-other, sets, length-sets}
 use Rattle.gate.specs.GateLaws.{zeros}
-use Rattle.rows.specs.RowLaws.{row-put, row-kept}
+use Rattle.text.specs.SetsLaws.{part-stored, part-kept}
 use Rattle.rows.specs.Rows.{rowAt, digestOf, Index, Indexed, Sought, Found, Added}
 
 -- Place p of the walk: one more than a row with digest h, or 0. No row that is looked for stands at p or behind.
@@ -161,8 +161,8 @@ added table m row h head link i s k l =
         links = simp length-set ls;
         index =
             index-more m (λ t. digestOf (rowAt table t)) (λ t. digestOf (rowAt (sets table (17 * m) row) t)) h head link (i .index)
-            (λ t j. ap digestOf (row-kept table m row t j (omega arith)))
-            (ap digestOf (row-put table m row (s .cells) l) ∙ sym (s .digest))
+            (λ t j. ap digestOf (part-kept 17 table row (17 * m) (17 * t) (omega arith)))
+            (ap digestOf (part-stored 17 table row (17 * m) (s .cells) l) ∙ sym (s .digest))
             (omega arith) (omega arith);
       };
     }

@@ -1,22 +1,21 @@
 -- From the file and the walk check to the answer of reading. Assumes nothing.
 use Prim.Native.Nat.{ℕ, _-_, _≤_}
 use mathlib.Core.Path.{_≡_, refl, sym, _∙_, ap, subst}
-use mathlib.Core.List.{List, [], _∷_, _++_}
+use mathlib.Core.List.{List, _++_}
 use mathlib.Core.Logic._⊎_.{inr}
 use native.Mathlib.Omega.{arith}
-use lib.ListN.{length, take, replicate, length-set, length-replicate}
-use lib.Seq.{take-at}
+use lib.ListN.{length, take, replicate}
 use Rattle.gate.specs.Gate.{Zero, cleared}
 use Rattle.automaton.specs.LentLaws.{tables-twice, long-cleared, meets-cleared}
 use Rattle.gate.specs.GateLaws.{cleared-twice, zero-cleared, length-cleared}
 use Rattle.gate.specs.declared.Refusal.{Refusal}
-use Rattle.automaton.specs.Automaton.{Automaton, automaton, Fits, AreNumbers}
+use Rattle.automaton.specs.Automaton.{Automaton, automaton, Fits}
 use Rattle.automaton.specs.declared.Numbers.{Numbers}
 use Rattle.automaton.specs.Meeting.{Everywhere}
 use Rattle.automaton.specs.Lent.{Tables, tables, Long, clearedTables, lentTable, Lengths}
 use Rattle.meeting.specs.Answer.{Asked, Answered}
-use Rattle.format.specs.Format.{Sheet, Transition, entered, tableOf, numbers}
-use Rattle.format.specs.NumbersLaws.{sheet-fits}
+use Rattle.format.specs.Format.{numbers}
+use Rattle.format.specs.NumbersLaws.{sheet-fits, numbers-length, read-is}
 use Rattle.sheet.specs.Read as read
 use Rattle.parser.specs.PhaseAnswers.{FileRead}
 use Rattle.sheet.specs.Answers.{Answers}
@@ -27,32 +26,18 @@ use Rattle.sheet.specs.declared.Read.the-variants as R
 use Rattle.sheet.proofs.FileMeans.{FileAccepted, file-refused, are-numbers, letters-of}
 
 -- THE AUTOMATON of a file that is read
-table-length : (ts : List Transition) (t : List ℕ) → length (tableOf t ts) ≡ length t
-unfolding tableOf entered
-table-length [] t = refl
-table-length (x ∷ ts) t = table-length ts (entered t x) ∙ simp length-set
-
-numbers-length : (σ : Sheet) → length (numbers σ .table) ≡ 128
-unfolding numbers
-numbers-length σ = table-length (σ .transitions) (replicate 128 0) ∙ length-replicate {A = ℕ} 128 0
-
-automaton-is : (A : Automaton) (a : Numbers) (x : List ℕ) → AreNumbers A a → x ≡ A .table → automaton a x ≡ A
-automaton-is A a x h e = rw (h .n, h .k, h .initial, h .recurring, e)
-
 module _ (s t u rows : List ℕ) (a : Numbers) (h : FileAccepted s t u rows a) where
-  sets-are : take 128 u ≡ numbers (h .sheet) .table
-  sets-are =
-      ap (λ (x : List ℕ). take 128 x) (h .table ∙ ap (λ (x : List ℕ). lentTable x t) (h .are .table)) ∙
-      take-at (numbers (h .sheet) .table) (replicate (length t - 128) 0) 128 (numbers-length (h .sheet))
+  table-is : u ≡ lentTable (numbers (h .sheet) .table) t
+  table-is = h .table ∙ ap (λ (x : List ℕ). lentTable x t) (h .are .table)
 
   pub sheet-automaton : automaton a (take 128 u) ≡ numbers (h .sheet)
-  sheet-automaton = automaton-is (numbers (h .sheet)) a (take 128 u) (are-numbers s t u rows a h) sets-are
+  sheet-automaton = read-is (h .sheet) t (are-numbers s t u rows a h) table-is
 
   module _ (v : Tables) (zeros : v ≡ clearedTables v) where
     pub asked : Long v → Asked (automaton a (take 128 u)) v
     asked long = record {
       fits = subst Fits (sym sheet-automaton) (sheet-fits s (h .sheet) (h .file));
-      cells = let n = numbers-length (h .sheet) in rw sets-are (omega arith);
+      cells = subst (λ (A : Automaton). 128 ≤ length (A .table)) (sym sheet-automaton) (omega (arith, numbers-length (h .sheet)));
       long = long;
       zero-word = subst (λ (x : Tables). Zero (x .word)) (sym zeros) (zero-cleared (v .word));
       zero-one = subst (λ (x : Tables). Zero (x .one)) (sym zeros) (zero-cleared (v .one));
@@ -67,7 +52,7 @@ module _ (s t u rows : List ℕ) (a : Numbers) (h : FileAccepted s t u rows a) w
       free-accepts e = record {
         letters = letters-of s t u rows a h;
         free = answered .free e;
-        table = h .table ∙ ap (λ (x : List ℕ). lentTable x t) (h .are .table);
+        table = table-is;
         clear = answered .kept e ∙ zeros;
       }
 

@@ -1,12 +1,23 @@
--- A stretch, byte by byte. Assumes nothing.
+-- Texts one behind the other, and a stretch of a text. Assumes nothing.
 use Prim.Native.Nat.{ℕ, suc, _+_, _-_, _<_, _≤_}
 use mathlib.Core.Path.{_≡_, refl, sym, _∙_, ap}
 use mathlib.Core.List.{List, [], _∷_, _++_}
-use lib.ListN.{length, getD, drop, length-drop}
-use lib.Seq.{drop-cons, length-take-le, getD-take, getD-drop, take-at, drop-at, drop-drop}
+use lib.ListN.{length, getD, take, drop, length-append}
+use lib.Seq.{drop-cons, take-at, drop-at, drop-drop}
 use native.Mathlib.Omega.{arith}
 use native.Mathlib.Numerals.{add-one}
 use Rattle.text.specs.Bytes.{stretch}
+use Rattle.text.specs.CellsLaws.{part-length, part-at}
+
+-- two texts whose first parts are as long
+pub append-same : (a b c d : List ℕ) → length a ≡ length b → a ++ c ≡ b ++ d → (a ≡ b) × (c ≡ d)
+append-same a b c d l e = (
+  sym (take-at a c (length b) l) ∙ (ap (take (length b)) e ∙ take-at b d (length b) refl),
+  sym (drop-at a c (length b) l) ∙ (ap (drop (length b)) e ∙ drop-at b d (length b) refl),
+)
+
+pub length-more : {A : Type 0} (x : List A) (a : A) → length (x ++ (a ∷ [])) ≡ suc (length x)
+length-more x a = length-append x (a ∷ []) ∙ add-one (length x)
 
 pub stretch-none : (s : List ℕ) (a e : ℕ) → e ≤ a → stretch s a e ≡ []
 stretch-none s a e h =
@@ -19,10 +30,10 @@ stretch-cons s a e h l =
     rw (drop-cons s a 0 (omega arith), ← add-one a, k)
 
 pub stretch-length : (s : List ℕ) (a e : ℕ) → e ≤ length s → length (stretch s a e) ≡ e - a
-stretch-length s a e h = length-take-le (e - a) (drop a s) (simp length-drop (omega arith))
+stretch-length s a e h = part-length s a (e - a) (omega arith)
 
 pub stretch-at : (s : List ℕ) (a e i : ℕ) → i < e - a → getD (stretch s a e) i 0 ≡ getD s (a + i) 0
-stretch-at s a e i h = getD-take (e - a) (drop a s) i 0 h ∙ getD-drop a s i 0
+stretch-at s a e i h = part-at s a (e - a) i h
 
 -- what a file goes on with is a stretch of it
 pub stretch-is : (s : List ℕ) (a : ℕ) (x rest : List ℕ) → drop a s ≡ x ++ rest → stretch s a (a + length x) ≡ x

@@ -5,6 +5,7 @@ pub mod Number
 pub mod Pair
 pub mod Word
 pub mod ChoiceLaws
+pub mod CellsLaws
 pub mod BytesLaws
 pub mod ColumnLaws
 pub mod WordLaws

@@ -1,9 +1,10 @@
 -- A number of a file, read: "decimal, right-justified with spaces in fixed columns, no leading zeros", three columns wide.
 -- Read loosely, and then the three bytes must be the writing of what they come to.
 use Prim.Native.Nat.{ℕ, _+_, _-_, _*_}
+use mathlib.Core.Bool.{Bool, false, _&&_}
 use mathlib.Core.List.{List}
 use lib.ListN.{getD}
-use lib.Dec.{ltb, eqb}
+use lib.Dec.{ltb, leb, eqb}
 use Rattle.text.specs.Choice.{choose}
 use Rattle.text.specs.Column.{digitByte}
 use Rattle.text.specs.declared.Number.{Number}
@@ -30,3 +31,11 @@ numberAt s at = numberOf (getD s at 0) (getD s (at + 1) 0) (getD s (at + 2) 0)
 abbrev pub withNumber : {A : Type 0} → Number → (ℕ → A) → A → A
 withNumber (Is v) go bad = go v
 withNumber Bad go bad = bad
+
+-- does the line at `at` open with a letter and a number
+unfoldable pub isNumbered : List ℕ → ℕ → ℕ → ℕ → Bool
+isNumbered s at letter v = eqb (getD s at 0) letter && withNumber (numberAt s (at + 1)) (λ n. eqb n v) false
+
+-- is a number from `least` to `most`
+abbrev pub isBetween : ℕ → ℕ → ℕ → Bool
+isBetween least most v = leb least v && leb v most

@@ -1,18 +1,19 @@
 -- What is written in three columns is read back, and what is read is what is written there. Assumes nothing.
-use Prim.Native.Nat.{ℕ, _+_, _/_, _%_, _<_}
+use Prim.Native.Nat.{ℕ, _+_, _/_, _%_, _<_, _≤_}
 use mathlib.Core.Path.{_≡_, refl, sym, _∙_, ap}
-use mathlib.Core.Bool.{true}
-use mathlib.Core.List.{List, _++_}
+use mathlib.Core.Bool.{true, _&&_, false≢true, and-eq-true-iff}
+use mathlib.Core.List.{List, _∷_, _++_}
 use lib.ListN.{length, getD, drop}
-use borrow.Author.Tests.{eq-eqb, eqb-true}
+use lib.Dec.{eqb, leb}
+use borrow.Author.Tests.{eq-eqb, eqb-true, le-leb, leb-true}
 use native.Mathlib.Omega.{arith}
 use Rattle.text.specs.ChoiceLaws.{test-true}
 use Rattle.text.specs.BytesLaws.{stretch-rest}
 use Rattle.text.specs.Column.{digitByte, column}
 use Rattle.text.specs.ColumnLaws.{digit-of, digit-small, column-no-zero, column-length}
 use Rattle.text.specs.Word.{startsAt}
-use Rattle.text.specs.WordLaws.{starts-is, goes-on}
-use Rattle.text.specs.Number.{digitOf, valueOf, numberOf, numberAt, withNumber}
+use Rattle.text.specs.WordLaws.{starts-is, goes-on, byte-is}
+use Rattle.text.specs.Number.{digitOf, valueOf, numberOf, numberAt, withNumber, isNumbered, isBetween}
 use Rattle.text.specs.declared.Number.{Number}
 use Rattle.text.specs.declared.Number.the-variants.{Is, Bad}
 
@@ -88,3 +89,42 @@ number-is s at v e =
     let w = read-is-written _ _ _ v e in
     let l : length (column 3 v) ≡ 3 = column-length 3 v in
     (w .0, starts-is s at (column 3 v) (column-no-zero 3 v) (starts-column s at v (w .1) (w .2) (w .3)) ∙ rw l)
+
+-- A LINE THAT OPENS WITH A LETTER AND A NUMBER
+module _ (s : List ℕ) (at letter v : ℕ) where
+  pub numbered-by : getD s at 0 ≡ letter → numberAt s (at + 1) ≡ Is v → isNumbered s at letter v ≡ true
+  unfolding isNumbered
+  numbered-by e f = simp (eq-eqb _ _ e, f, eq-eqb v v refl)
+
+  pub numbered-parts : isNumbered s at letter v ≡ true → (getD s at 0 ≡ letter) × (numberAt s (at + 1) ≡ Is v)
+  unfolding isNumbered
+  numbered-parts e =
+      let t = and-eq-true-iff (eqb (getD s at 0) letter) _ .0 e in
+      let n = some-number (λ z. false≢true z) (numberAt s (at + 1)) _ (t .1) in
+      (eqb-true _ _ (t .0), n .1 ∙ ap Is (eqb-true (n .0) v (n .2)))
+
+  p4 : at + 1 + 3 ≡ at + 4
+  p4 = omega arith
+
+  pub numbered-of : (rest : List ℕ) → v < 1000 → drop at s ≡ letter ∷ (column 3 v ++ rest) → (isNumbered s at letter v ≡ true) × (drop (at + 4) s ≡ rest)
+  numbered-of rest h e =
+      let e0 = goes-on s at letter (column 3 v ++ rest) e in
+      let e1 = column-of s (at + 1) v rest h (e0 .1) in
+      (numbered-by (e0 .0) (e1 .0), rw p4 at (e1 .1))
+
+  pub numbered-is : 0 < letter → isNumbered s at letter v ≡ true → drop at s ≡ letter ∷ (column 3 v ++ drop (at + 4) s)
+  numbered-is h e =
+      let p = numbered-parts e in
+      byte-is s at letter h (p .0) ∙ ap (letter ∷_) (rw p4 at (number-is s (at + 1) v (p .1) .1))
+
+-- TWO NUMBERS, each in its range
+module _ (a b : ℕ) {least most least′ most′ : ℕ} where
+  pub between-is : isBetween least most a && isBetween least′ most′ b ≡ true → (least ≤ a) × (a ≤ most) × (least′ ≤ b) × (b ≤ most′)
+  between-is e =
+      let t = and-eq-true-iff (isBetween least most a) _ .0 e in
+      let u = and-eq-true-iff (leb least a) _ .0 (t .0) in
+      let v = and-eq-true-iff (leb least′ b) _ .0 (t .1) in
+      (leb-true _ _ (u .0), leb-true _ _ (u .1), leb-true _ _ (v .0), leb-true _ _ (v .1))
+
+  pub between-of : (least ≤ a) × (a ≤ most) × (least′ ≤ b) × (b ≤ most′) → isBetween least most a && isBetween least′ most′ b ≡ true
+  between-of h = simp (le-leb least a (h .0), le-leb a most (h .1), le-leb least′ b (h .2), le-leb b most′ (h .3))

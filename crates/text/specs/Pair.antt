@@ -19,6 +19,6 @@ abbrev pub withPair : {A : Type 0} → Pair → (ℕ → ℕ → A) → A → A
 withPair (Are a b) go bad = go a b
 withPair Bad go bad = bad
 
--- a first line: a word and two numbers; `go` says what they give, and `bad` is for every other line
-abbrev pub firstLine : {A : Type 0} → List ℕ → List ℕ → (ℕ → ℕ → A) → A → A
-firstLine s word go bad = choose (startsAt s 0 word) (withPair (pairAt s (length word)) go bad) bad
+-- a first line: a word, and two numbers
+abbrev pub firstLine : List ℕ → List ℕ → Pair
+firstLine s word = choose (startsAt s 0 word) (pairAt s (length word)) Bad

@@ -69,18 +69,17 @@ module _ (s word : List ℕ) where
   pair-there : (a b : ℕ) (rest : List ℕ) → a < 1000 → b < 1000 → s ≡ word ++ twoNumbers a b rest → pairAt s (length word) ≡ Are a b
   pair-there a b rest ha hb e = rw zero-add at (pair-of s (0 + length word) a b rest ha hb (stretch-rest s 0 word (twoNumbers a b rest) e))
 
-  module _ {A : Type 0} (go : ℕ → ℕ → A) (bad : A) where
-    pub first-right : (a b : ℕ) (rest : List ℕ) → a < 1000 → b < 1000 → s ≡ word ++ twoNumbers a b rest → firstLine s word go bad ≡ go a b
-    first-right a b rest ha hb e = simp (starts-word s 0 word (twoNumbers a b rest) e, pair-there a b rest ha hb e)
+  pub first-of : (a b : ℕ) (rest : List ℕ) → a < 1000 → b < 1000 → s ≡ word ++ twoNumbers a b rest → firstLine s word ≡ Are a b
+  first-of a b rest ha hb e = simp (starts-word s 0 word (twoNumbers a b rest) e, pair-there a b rest ha hb e)
 
-    -- what is so where there is no such line, and where there is one, is so of what is read
-    pub first-outcome : (P : A → Type 0) → noZero word ≡ true → (NoFirst → P bad)
-        → ((a b : ℕ) → a < 1000 → b < 1000 → s ≡ word ++ twoNumbers a b (drop (length word + 7) s) → P (go a b)) → P (firstLine s word go bad)
-    first-outcome P z none some = by (startsAt s 0 word) (pairAt s (length word)) refl refl
-      where
-        by : (t : Bool) (w : Pair) → startsAt s 0 word ≡ t → pairAt s (length word) ≡ w → P (choose t (withPair w go bad) bad)
-        by false w e f = none (λ a b rest ha hb g. no-word s 0 word (twoNumbers a b rest) e g)
-        by true Bad e f = none (λ a b rest ha hb g. bad-is-not s (length word) a b (sym f ∙ pair-there a b rest ha hb g))
-        by true (Are a b) e f =
-            let w = pair-is s (length word) a b f in
-            some a b (w .0) (w .1) (starts-is s 0 word z e ∙ rw (zero-add, w .2))
+  -- what is so where there is no such line, and where there is one, is so of what is read
+  pub first-outcome : (P : Pair → Type 0) → noZero word ≡ true → (NoFirst → P Bad)
+      → ((a b : ℕ) → a < 1000 → b < 1000 → s ≡ word ++ twoNumbers a b (drop (length word + 7) s) → P (Are a b)) → P (firstLine s word)
+  first-outcome P z none some = by (startsAt s 0 word) (pairAt s (length word)) refl refl
+    where
+      by : (t : Bool) (w : Pair) → startsAt s 0 word ≡ t → pairAt s (length word) ≡ w → P (choose t w Bad)
+      by false w e f = none (λ a b rest ha hb g. no-word s 0 word (twoNumbers a b rest) e g)
+      by true Bad e f = none (λ a b rest ha hb g. bad-is-not s (length word) a b (sym f ∙ pair-there a b rest ha hb g))
+      by true (Are a b) e f =
+          let w = pair-is s (length word) a b f in
+          some a b (w .0) (w .1) (starts-is s 0 word z e ∙ rw (zero-add, w .2))

@@ -1,9 +1,9 @@
--- A run of stores (lib.Seq's `sets`) is two runs, one after the other. Assumes nothing.
-use Prim.Native.Nat.{ℕ, suc, _+_, _<_, _≤_}
-use mathlib.Core.Path.{_≡_, _∙_}
-use mathlib.Core.List.{List, [], _∷_, _++_}
-use lib.ListN.{length, getD, set, drop, drop-of-length-le}
-use lib.Seq.{sets, drop-cons}
+-- A run of stores (lib.Seq's `sets`): two runs, one after the other; what stands where it stored, and ahead of it. Assumes nothing.
+use Prim.Native.Nat.{ℕ, suc, _+_, _-_, _<_, _≤_}
+use mathlib.Core.Path.{_≡_, refl, _∙_, ap}
+use mathlib.Core.List.{List, [], _∷_, _++_, append-assoc}
+use lib.ListN.{length, getD, set, take, drop, drop-of-length-le}
+use lib.Seq.{sets, sets-eq, drop-cons, length-take-le, take-at, drop-at, drop-set-add, take-set-le}
 use native.Mathlib.Nat.{add-zero, add-suc, suc-add}
 use native.Mathlib.Omega.{arith}
 
@@ -24,3 +24,18 @@ module _ (out word : List ℕ) (at i : ℕ) where
 
   pub sets-done : length word ≤ i → sets out (at + i) (drop i word) ≡ out
   sets-done h = rw (drop-of-length-le word h)
+
+-- where a list of n cells was stored it stands, and what stands ahead of it stays
+pub part-stored : (n : ℕ) (out x : List ℕ) (at : ℕ) → length x ≡ n → at + n ≤ length out → take n (drop at (sets out at x)) ≡ x
+part-stored n out x at l h =
+    let k : length (take at out) ≡ at = length-take-le at out (omega arith) in
+    let rest = drop (at + length x) out in
+    let d : drop at (take at out ++ x ++ rest) ≡ x ++ rest = ap (drop at) (append-assoc (take at out) x rest) ∙ drop-at (take at out) (x ++ rest) at k in
+    rw (sets-eq x out at (omega arith)) (ap (take n) d ∙ take-at x rest n l)
+
+pub part-kept : (n : ℕ) (out x : List ℕ) (at b : ℕ) → b + n ≤ at → take n (drop b (sets out at x)) ≡ take n (drop b out)
+part-kept n out [] at b h = refl
+part-kept n out (v ∷ x) at b h =
+    let k : at ≡ b + (at - b) = omega arith in
+    part-kept n (set out at v) x (suc at) b (omega arith) ∙
+    (ap (λ (i : ℕ). take n (drop b (set out i v))) k ∙ (ap (take n) (drop-set-add b out (at - b) v) ∙ take-set-le n (drop b out) (at - b) v (omega arith)))

@@ -1,6 +1,6 @@
 -- A word that stands at a place of a file, as SHEET in "the first line opens with the five letters SHEET".
 use Prim.Native.Nat.{ℕ, _+_}
-use mathlib.Core.Bool.{Bool, true, false}
+use mathlib.Core.Bool.{Bool, true, false, _&&_}
 use mathlib.Core.List.{List, [], _∷_}
 use lib.ListN.{getD}
 use lib.Dec.{eqb}
@@ -8,7 +8,7 @@ use Rattle.text.specs.Choice.{choose}
 
 unfoldable pub startsAt : List ℕ → ℕ → List ℕ → Bool
 startsAt s at [] = true
-startsAt s at (b ∷ word) = choose (eqb (getD s at 0) b) (startsAt s (at + 1) word) false
+startsAt s at (b ∷ word) = eqb (getD s at 0) b && startsAt s (at + 1) word
 
 -- a byte stands nowhere in a list
 abbrev pub without : ℕ → List ℕ → Bool

@@ -1,7 +1,7 @@
 -- A word stands at a place exactly if the file goes on with it there. Assumes nothing.
 use Prim.Native.Nat.{ℕ, suc, _+_, _<_, _≤_}
 use mathlib.Core.Path.{_≡_, refl, sym, _∙_, ap}
-use mathlib.Core.Bool.{true, false}
+use mathlib.Core.Bool.{true, false, true≢false, and-eq-true-iff}
 use mathlib.Core.Logic.{_⊎_, ⊎-elim}
 use mathlib.Core.List.{List, [], _∷_, _++_}
 use lib.ListN.{length, getD, drop, drop-of-length-le, List·getD-eq-default}
@@ -11,7 +11,7 @@ use borrow.Author.Tests.{eq-eqb, ne-eqb, eqb-true, eqb-false}
 use native.Mathlib.Numerals.{add-one}
 use native.Mathlib.Nat.{add-assoc, add-zero}
 use native.Mathlib.Omega.{arith}
-use Rattle.text.specs.ChoiceLaws.{lt-or-ge, both, neither, true-is-not-false}
+use Rattle.text.specs.ChoiceLaws.{lt-or-ge, neither}
 use Rattle.text.specs.Word.{startsAt, noZero}
 
 -- ONE STEP along a word
@@ -66,7 +66,7 @@ pub starts-is :
 unfolding startsAt
 starts-is s at [] z e = rw add-zero
 starts-is s at (b ∷ word) z e =
-    let p = both (eqb (getD s at 0) b) (startsAt s (at + 1) word) e in
+    let p = and-eq-true-iff (eqb (getD s at 0) b) (startsAt s (at + 1) word) .0 e in
     let q = neither (eqb b 0) (noZero word) z in
     let here : getD s at 0 ≡ b = eqb-true _ _ (p .0) in
     let n : b ≡ 0 → ⊥ = eqb-false b 0 (q .0) in
@@ -77,4 +77,4 @@ starts-is s at (b ∷ word) z e =
 
 -- where a word does not stand, the file does not go on with it
 pub no-word : (s : List ℕ) (at : ℕ) (word rest : List ℕ) → startsAt s at word ≡ false → drop at s ≡ word ++ rest → ⊥
-no-word s at word rest b e = true-is-not-false (sym (starts-word s at word rest e) ∙ b)
+no-word s at word rest b e = true≢false (sym (starts-word s at word rest e) ∙ b)

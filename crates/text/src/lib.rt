@@ -1,11 +1,12 @@
 // The bytes of the files: numbers in columns, fixed words.
 ghost use mathlib.Core.Path.{_≡_};
+ghost use mathlib.Core.Bool.{_&&_};
 ghost use Prim.Native.Nat.{_+_, _<_, _≤_, _^_};
 ghost use lib.ListN.{getD, length};
 ghost use lib.Seq.{sets};
 ghost use Rattle.text.specs.Column.{digitByte, column};
-ghost use Rattle.text.specs.Number.{digitOf, numberOf, numberAt};
-ghost use Rattle.text.specs.Pair.{pairAt};
+ghost use Rattle.text.specs.Number.{digitOf, numberOf, numberAt, isNumbered, isBetween};
+ghost use Rattle.text.specs.Pair.{pairAt, firstLine};
 ghost use Rattle.text.specs.Word.{startsAt};
 
 pub mod reader; // reader.rt: a reader that carries a file and the next unread byte
@@ -78,6 +79,34 @@ pub fn number_at(s: &[u8], at: usize) -> Number
     number_of(byte_at(s, at), byte_at(s, at + 1), byte_at(s, at + 2))
 }
 
+// Whether the line at `at` opens with a letter and a number.
+pub fn is_numbered(s: &[u8], at: usize, letter: u8, v: usize) -> bool
+    requires { ⌜ at < 2 ^ 30 ⌝ }
+    ensures { λ r. ⌜ r ≡ isNumbered (now (s .entry)) at letter v ⌝ }
+{
+    if reader::opening(s, at) != letter {
+        return false;
+    }
+    match number_at(s, at + 1) {
+        Number::Is(n) => n == v,
+        Number::Bad => false,
+    }
+}
+
+// Whether v is from `least` to `most`.
+fn is_between(v: usize, least: usize, most: usize) -> bool
+    ensures { λ r. ⌜ r ≡ isBetween least most v ⌝ }
+{
+    least <= v && v <= most
+}
+
+// Whether a is from `least` to `most` and b from `low` to `high`.
+pub fn are_between(a: usize, least: usize, most: usize, b: usize, low: usize, high: usize) -> bool
+    ensures { λ r. ⌜ r ≡ isBetween least most a && isBetween low high b ⌝ }
+{
+    is_between(a, least, most) && is_between(b, low, high)
+}
+
 // The two numbers that a line ends with, in three columns each from `at`.
 pub fn pair_at(s: &[u8], at: usize) -> Pair
     requires { ⌜ at + 6 < 2 ^ 31 ⌝ }
@@ -109,6 +138,17 @@ pub fn starts_at(s: &[u8], at: usize, word: &[u8]) -> bool
         i += 1;
     }
     true
+}
+
+// The two numbers of a first line: a word, and they.
+pub fn first_line(s: &[u8], word: &[u8]) -> Pair
+    requires { ⌜ length (now word) < 2 ^ 30 ⌝ }
+    ensures { λ r. ⌜ r ≡ firstLine (now (s .entry)) (now (word .entry)) ⌝ }
+{
+    if starts_at(s, 0, word) {
+        return pair_at(s, word.len());
+    }
+    Pair::Bad
 }
 
 // 10 to the power w.

@@ -26,9 +26,6 @@ fn main() {
         &mut out,
     ) {
         Written::Bytes(m) => console::show(&out, m),
-        Written::Refused(r) => {
-            let line = report::refusal_line(r);
-            console::say(&line);
-        }
+        Written::Refused(r) => console::say_refusal(r),
     }
 }

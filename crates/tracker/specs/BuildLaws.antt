@@ -1,21 +1,19 @@
 -- The answers of building, one by one. Assumes nothing.
-use Prim.Native.Nat.{ℕ, _+_, _-_, _*_, _^_}
-use mathlib.Core.Path.{_≡_, refl, sym, ap, subst, _∙_}
-use mathlib.Core.List.{List, [], _∷_}
-use mathlib.Core.Bool.{Bool}
+use Prim.Native.Nat.{ℕ, _-_}
+use mathlib.Core.Path.{_≡_, refl, sym, subst}
+use mathlib.Core.List.{List}
+use mathlib.Core.Bool.{Bool, true, false}
 use mathlib.Core.Logic.{inl, inr}
 use native.Mathlib.Omega.{arith}
-use lib.ListN.{length, getD, take, replicate, length-set, length-replicate}
-use lib.Seq.{take-at}
+use lib.ListN.{length, take}
 use Rattle.gate.specs.Gate.{cleared, Decides}
 use Rattle.gate.specs.declared.Refusal.{Refusal}
-use Rattle.sets.specs.Sets.{unionOf}
 use Rattle.automaton.specs.Automaton.{Automaton, automaton, Fits, AreNumbers}
 use Rattle.automaton.specs.Lent.{Tables, clearedTables, lentTable}
 use Rattle.walks.specs.Check.{Checks}
 use Rattle.walks.specs.declared.Checked.the-variants.{Refused as CheckRefused}
-use Rattle.format.specs.Format.{Sheet, Transition, tableOf, numbers, entered as cellEntered}
-use Rattle.format.specs.NumbersLaws.{sheet-fits}
+use Rattle.format.specs.Format.{Sheet, numbers}
+use Rattle.format.specs.NumbersLaws.{sheet-fits, read-is}
 use Rattle.sheet.specs.Read.{Accepted, Reads}
 use Rattle.sheet.specs.declared.Read.the-variants.{Refused as ReadRefused, Is as ReadIs}
 use Rattle.automaton.specs.declared.Numbers.{Numbers}
@@ -25,18 +23,19 @@ use Rattle.tracker.specs.Build.{Store, clearedStore, Lent, Fitted, Track
 use Rattle.tracker.specs.Fill.{Enough}
 
 -- QUESTION 1 by the tables' lengths
-pub lent-decided : {answer : Bool} {room : ℕ} {t : List ℕ} {v : Tables} {f : Store}
-    → Decides answer (Enough room (length t) (length (f .tuples)) (length (f .nexts)) (length (v .word)) (length (v .one)) (length (v .other)))
-    → Decides answer (Lent room t v f)
-lent-decided (enough, short) = (
-  λ yes.
-      let e = enough yes in
+module _ {answer : Bool} {room : ℕ} {t : List ℕ} {v : Tables} {f : Store}
+    (decided : Decides answer (Enough room (length t) (length (f .tuples)) (length (f .nexts)) (length (v .word)) (length (v .one)) (length (v .other)))) where
+  pub lent-enough : answer ≡ true → Lent room t v f
+  lent-enough y =
+      let e = decided .0 y in
       record {
         lengths = record { cells = e .for-table; long = record { word = e .for-word; one = e .for-one; other = e .for-other } };
         store = record { some = e .some; most = e .most; tuples = e .for-tuples; nexts = e .for-nexts };
-      },
-  λ no l.
-      short no (record {
+      }
+
+  pub lent-short : answer ≡ false → Lent room t v f → ⊥
+  lent-short n l =
+      decided .1 n (record {
         some = l .store .some;
         most = l .store .most;
         for-tuples = l .store .tuples;
@@ -45,8 +44,7 @@ lent-decided (enough, short) = (
         for-word = l .lengths .long .word;
         for-one = l .lengths .long .one;
         for-other = l .lengths .long .other;
-      }),
-)
+      })
 
 -- FROM NUMBERS
 pub numbers-refused : {A : Automaton} {room : ℕ} {v w : Tables} {f g : Store} {r : Refusal} → Lent room (A .table) v f
@@ -56,23 +54,8 @@ numbers-refused {r = r} lent (inr (l, n)) c = BuildsNumbers.refused lent r n ref
 
 -- FROM A SHEET FILE
 
-length-table : (table : List ℕ) (ts : List Transition) → length (tableOf table ts) ≡ length table
-unfolding tableOf cellEntered
-length-table table [] = refl
-length-table table (t ∷ ts) = length-table (cellEntered table t) ts ∙ length-set table (8 * t .from + t .letter) (unionOf (getD table (8 * t .from + t .letter) 0) (2 ^ t .to))
-
-numbers-length : (σ : Sheet) → length (numbers σ .table) ≡ 128
-unfolding numbers
-numbers-length σ = length-table (replicate 128 0) (σ .transitions) ∙ length-replicate {A = ℕ} 128 0
-
--- the numbers that are read, with the first 128 cells of the table, are the sheet's
-read-is : (σ : Sheet) (a : Numbers) (t u : List ℕ) → AreNumbers (numbers σ) a → u ≡ lentTable (numbers σ .table) t → automaton a (take 128 u) ≡ numbers σ
-read-is σ a t u n e =
-    let p : take 128 u ≡ numbers σ .table = ap (take 128) e ∙ take-at (numbers σ .table) (replicate (length t - 128) 0) 128 (numbers-length σ) in
-    λ i. record { n = n .n i; k = n .k i; initial = n .initial i; recurring = n .recurring i; table = p i }
-
 pub read-fits : {s u : List ℕ} {v w : Tables} {a : Numbers} (t : List ℕ) → Reads s t u v w (ReadIs a) → Fits (automaton a (take 128 u))
-read-fits {s} {u} {a = a} t (l, (σ, x, n, z), q) = subst Fits (sym (read-is σ a t u n z)) (sheet-fits s σ (x .file))
+read-fits {s} {u} {a = a} t (l, (σ, x, n, z), q) = subst Fits (sym (read-is σ t n z)) (sheet-fits s σ (x .file))
 
 module _ {s : List ℕ} {room : ℕ} {t u : List ℕ} {v w : Tables} {f g : Store} (lent : Lent room t v f) where
   pub file-refused : {r : Refusal} → Reads s t u v w (ReadRefused r) → g ≡ clearedStore f → Builds s room t u v w f g (Refused r)
@@ -83,11 +66,11 @@ module _ {s : List ℕ} {room : ℕ} {t u : List ℕ} {v w : Tables} {f g : Stor
   pub file-over : {a : Numbers} {r : Refusal} {o : List ℕ} → Reads s t u v w (ReadIs a) → Tracks (automaton a (take 128 u)) room f g (Refused r)
       → o ≡ cleared t → Builds s room t o v w f g (Refused r)
   file-over {a} {r} (l, (σ, x, n, z), q) h e =
-      Builds.asked lent σ x q (subst (λ (A : Automaton). Tracks A room f g (Refused r)) (read-is σ a t u n z) h) e
+      Builds.asked lent σ x q (subst (λ (A : Automaton). Tracks A room f g (Refused r)) (read-is σ t n z) h) e
 
   pub file-is : {a : Numbers} {y : Tracker} → Reads s t u v w (ReadIs a) → Tracks (automaton a (take 128 u)) room f g (Is y) → Builds s room t u v w f g (Is y)
   file-is {a} {y} (l, (σ, x, n, z), q) h =
-      Builds.asked lent σ x q (subst (λ (A : Automaton). Tracks A room f g (Is y)) (read-is σ a t u n z) h) z
+      Builds.asked lent σ x q (subst (λ (A : Automaton). Tracks A room f g (Is y)) (read-is σ t n z) h) z
 
 -- WHAT A TRACKER TELLS of the questions on the way to it
 

@@ -8,8 +8,9 @@ use native.Mathlib.Decide.{ℕ-discrete, decLt}
 use native.Mathlib.Omega.{arith}
 use borrow.Author.Tests.{lt-ltb, le-ltb, eq-eqb, eqb-true}
 use lib.Dec.{eqb, ltb}
-use lib.ListN.{length, length-append, List·getD-append}
+use lib.ListN.{length, List·getD-append}
 use lib.Seq.{getD-append-seam}
+use Rattle.text.specs.BytesLaws.{length-more}
 use Rattle.text.specs.Choice.{choose}
 use Rattle.automaton.specs.Automaton.{Automaton}
 use Rattle.tuple.specs.Step.{Tuple, first, next}
@@ -138,9 +139,6 @@ agree-more A ts u i h = sym (List·getD-append ts (u ∷ []) (first A) i h)
 
 pub last-is : (A : Automaton) (ts : List Tuple) (u : Tuple) → tupleAt A (ts ++ (u ∷ [])) (length ts) ≡ u
 last-is A ts u = getD-append-seam ts u [] (first A)
-
-pub length-more : (ts : List Tuple) (u : Tuple) → length (ts ++ (u ∷ [])) ≡ suc (length ts)
-length-more ts u = length-append ts (u ∷ []) ∙ omega arith
 
 module _ (A : Automaton) (m : ℕ) (ts us : List Tuple) (a : Agree A m ts us) where
   pub enters-alike : (d : ℕ) → d / 8 < m → entered A ts d ≡ entered A us d

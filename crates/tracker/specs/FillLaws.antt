@@ -8,6 +8,7 @@ use native.Mathlib.Omega.{arith}
 use borrow.Author.Tests.{eq-eqb, ne-eqb}
 use lib.ListN.{length, getD, set, replicate, length-append, length-set, length-replicate}
 use lib.Seq.{take-at, drop-at, drop-drop, sets, sets-eq, length-sets, getD-set-same, getD-set-other}
+use Rattle.text.specs.BytesLaws.{length-more}
 use Rattle.gate.specs.GateLaws.{zeros, drop-zeros, length-cleared}
 use Rattle.rows.specs.Rows.{rowAt, Found, Added}
 use Rattle.automaton.specs.Automaton.{Automaton, Fits}
@@ -20,7 +21,7 @@ use Rattle.tuple.specs.TupleLaws.{first-formed, next-formed}
 use Rattle.tuple.specs.RowLaws.{formed-length, formed-row, row-injective, formed-steps}
 use Rattle.tracker.specs.Numbering.{tupleAt, entered, rows}
 use Rattle.tracker.specs.Explore.{step, found}
-use Rattle.tracker.specs.ExploreLaws.{Listed, Agree, step-skips, step-keeps, step-finds, length-more, agree-more, last-is, enters-alike}
+use Rattle.tracker.specs.ExploreLaws.{Listed, Agree, step-skips, step-keeps, step-finds, agree-more, last-is, enters-alike}
 use Rattle.tracker.specs.NumberingLaws.{reachable-all, found-reachable, found-all, found-more}
 use Rattle.tracker.specs.Build.{Store, store, clearedStore, RoomFits, Fitted}
 use Rattle.tracker.specs.Fill.{NextsBefore, Filled, Taken, Goes, firstCells, Filling, Fills}
@@ -78,7 +79,7 @@ module _ (A : Automaton) (fits : Fits A) where
 
 -- ONE STEP
 
-module _ (A : Automaton) (room c m : ℕ) (tuples nexts head link : List ℕ) (f : Filled A room c m tuples nexts head link) where
+module _ {A : Automaton} {room c m : ℕ} {tuples nexts head link : List ℕ} (f : Filled A room c m tuples nexts head link) where
   abbrev ts : List Tuple
   ts = found A c
 
@@ -101,6 +102,14 @@ module _ (A : Automaton) (room c m : ℕ) (tuples nexts head link : List ℕ) (f
       let h = s .from in
       ap (λ (l : List ℕ). row (next A (c % 8) (tupleOf l))) (row-of (c / 8) h)
       ∙ ap (λ (u : Tuple). row (next A (c % 8) u)) (formed-row (f .fits) (found-formed A (f .fits) c (c / 8) (omega arith)))
+
+  -- the cell for its number
+  pub in-nexts : Taken A c m → c < length nexts
+  in-nexts s =
+      let p = s .from in
+      let q = f .room-is in
+      let r = f .next-cells in
+      omega arith
 
   entered-formed : Taken A c m → Formed A (entered A ts c)
   entered-formed s = next-formed (f .fits) (c % 8) (s .letter) (tupleAt A ts (c / 8))
@@ -150,16 +159,9 @@ module _ (A : Automaton) (room c m : ℕ) (tuples nexts head link : List ℕ) (f
 
   -- the next number of step c is entered, where us is what is found then
   module _ (s : Taken A c m) (us : List Tuple) (a : Agree A (length ts) ts us) (l : length ts ≤ length us) (t : ℕ) (h : t < length us) (e : tupleAt A us t ≡ entered A us c) where
-    in-nexts : c < length nexts
-    in-nexts =
-        let p = s .from in
-        let q = f .room-is in
-        let r = f .next-cells in
-        omega arith
-
     next-more : (d : ℕ) → d < c + 1 → d % 8 < A .k → Dec (d ≡ c) → (getD (set nexts c t) d 0 < length us) × (tupleAt A us (getD (set nexts c t) d 0) ≡ entered A us d)
     next-more d k g (yes q) =
-        let v : getD (set nexts c t) d 0 ≡ t = ap (λ (i : ℕ). getD (set nexts c t) i 0) q ∙ getD-set-same nexts c t 0 in-nexts in
+        let v : getD (set nexts c t) d 0 ≡ t = ap (λ (i : ℕ). getD (set nexts c t) i 0) q ∙ getD-set-same nexts c t 0 (in-nexts s) in
         (omega arith, ap (tupleAt A us) v ∙ e ∙ ap (entered A us) (sym q))
     next-more d k g (no q) =
         let p = f .count in
@@ -266,42 +268,48 @@ module _ (A : Automaton) (room c m : ℕ) (tuples nexts head link : List ℕ) (f
 
 -- THE ANSWERS OF A STEP
 
-module _ (A : Automaton) (room c m : ℕ) (tuples nexts head link : List ℕ) (f : Filled A room c m tuples nexts head link) where
-  pub goes-skip : A .k ≤ c % 8 → Goes A room (c + 1) m tuples nexts head link
-  goes-skip h =
-      let p = f .room-is in
-      record { fitting = λ l. filled-skip A room c m tuples nexts head link f (λ g. omega arith); over = λ l. absurd (omega arith) }
+pub goes-skip : {A : Automaton} {room c m : ℕ} {tuples nexts head link : List ℕ} → Filled A room c m tuples nexts head link → A .k ≤ c % 8
+    → Goes A room (c + 1) m tuples nexts head link
+goes-skip f h =
+    let p = f .room-is in
+    record { fitting = λ l. filled-skip f (λ g. omega arith); over = λ l. absurd (omega arith) }
 
-  -- w is the row that the step gives, and t where it is found
-  module _ (s : Taken A c m) (w : List ℕ) (e : w ≡ row (next A (c % 8) (tupleOf (rowAt tuples (c / 8))))) (t : ℕ) (g : Found tuples m w t) where
-    is : w ≡ row (entered A (found A c) c)
-    is = e ∙ fill-enters A room c m tuples nexts head link f s
+-- w is the row that the step gives, and t where it is found
+pub record Looked (A : Automaton) (room c m : ℕ) (tuples nexts head link w : List ℕ) (t : ℕ) : Type 0 where
+  pub filled : Filled A room c m tuples nexts head link
+  pub taken : Taken A c m
+  pub gives : w ≡ row (next A (c % 8) (tupleOf (rowAt tuples (c / 8))))
+  pub found : Found tuples m w t
 
-    none : m ≤ t → (i : ℕ) → i < m → rowAt tuples i ≡ row (entered A (found A c) c) → ⊥
-    none h i k q = let p = g .most in g .none (omega arith) i k (q ∙ sym is)
+module _ {A : Automaton} {room c m t : ℕ} {tuples nexts head link w : List ℕ} (g : Looked A room c m tuples nexts head link w t) where
+  is : w ≡ row (entered A (found A c) c)
+  is = g .gives ∙ fill-enters (g .filled) (g .taken)
 
-    pub goes-old : t < m → Goes A room (c + 1) m tuples (set nexts c t) head link
-    goes-old h =
-        let p = f .room-is in
-        record {
-          fitting = λ l. filled-old A room c m tuples nexts head link f s t h (g .is h ∙ is);
-          over = λ l. absurd (omega arith);
-        }
+  none : m ≤ t → (i : ℕ) → i < m → rowAt tuples i ≡ row (entered A (found A c) c) → ⊥
+  none h i k q = let p = g .found .most in g .found .none (omega arith) i k (q ∙ sym is)
 
-    pub goes-new : m ≤ t → m < room → (tuples' head' link' : List ℕ) → Added tuples tuples' m w head' link'
-        → Goes A room (c + 1) (m + 1) tuples' (set nexts c m) head' link'
-    goes-new h k tuples' head' link' a =
-        record {
-          fitting = λ l. filled-new A room c m tuples nexts head link f s (none h) k tuples' head' link' (subst (λ (x : List ℕ). Added tuples tuples' m x head' link') is a);
-          over = λ l. absurd (omega arith);
-        }
+  pub goes-old : t < m → Goes A room (c + 1) m tuples (set nexts c t) head link
+  goes-old h =
+      let p = g .filled .room-is in
+      record {
+        fitting = λ l. filled-old (g .filled) (g .taken) t h (g .found .is h ∙ is);
+        over = λ l. absurd (omega arith);
+      }
 
-    pub goes-over : m ≤ t → room ≤ m → Goes A room (c + 1) (m + 1) tuples nexts head link
-    goes-over h k =
-        record {
-          fitting = λ l. absurd (omega arith);
-          over = λ l. filled-over A room c m tuples nexts head link f s (none h) k;
-        }
+  pub goes-new : m ≤ t → m < room → {tuples' head' link' : List ℕ} → Added tuples tuples' m w head' link'
+      → Goes A room (c + 1) (m + 1) tuples' (set nexts c m) head' link'
+  goes-new h k {tuples'} {head'} {link'} a =
+      record {
+        fitting = λ l. filled-new (g .filled) (g .taken) (none h) k tuples' head' link' (subst (λ (x : List ℕ). Added tuples tuples' m x head' link') is a);
+        over = λ l. absurd (omega arith);
+      }
+
+  pub goes-over : m ≤ t → room ≤ m → Goes A room (c + 1) (m + 1) tuples nexts head link
+  goes-over h k =
+      record {
+        fitting = λ l. absurd (omega arith);
+        over = λ l. filled-over (g .filled) (g .taken) (none h) k;
+      }
 
 -- BEFORE THE FIRST STEP
 
@@ -351,9 +359,9 @@ module _ (A : Automaton) (fits : Fits A) (room : ℕ) (v : Store) (r : RoomFits 
       }
 
 -- the first tuple in cleared tables
-pub filled-begins : (A : Automaton) (room : ℕ) (v : Store) → Filling A room v → (tuples' head' link' : List ℕ)
+pub filled-begins : {A : Automaton} {room : ℕ} {v : Store} → Filling A room v → {tuples' head' link' : List ℕ}
     → Added (v .tuples) tuples' 0 (firstCells (A .n) (A .initial)) head' link' → Filled A room 0 1 tuples' (v .nexts) head' link'
-filled-begins A room v g tuples' head' link' a =
+filled-begins {A} {room} {v} g {tuples'} {head'} {link'} a =
     rw (g .nexts)
     (filled-first A (g .fits) room v (g .room-fits) tuples' head' link'
     (subst (λ (l : List ℕ). Added (cleared (v .tuples)) tuples' 0 l head' link') (first-cells A)
@@ -361,14 +369,14 @@ filled-begins A room v g tuples' head' link' a =
 
 -- WHAT FILLING ANSWERS
 
-pub fills-over : (A : Automaton) (room c r : ℕ) (v w : Store) → room < r → room < length (found A c) → Fills A room v w r
-fills-over A room c r v w h k = record { fitting = λ l. absurd (omega arith); over = λ l. found-more A c room k }
+pub fills-over : {A : Automaton} {room r : ℕ} {v w : Store} (c : ℕ) → room < r → room < length (found A c) → Fills A room v w r
+fills-over {A} {room} c h k = record { fitting = λ l. absurd (omega arith); over = λ l. found-more A c room k }
 
-pub fills-all : (A : Automaton) (room c m : ℕ) (tuples nexts head link : List ℕ) → Filled A room c m tuples nexts head link
+pub fills-all : {A : Automaton} {room c m : ℕ} {tuples nexts head link : List ℕ} → Filled A room c m tuples nexts head link
     → (v : Store) → length (v .tuples) ≡ length tuples → length (v .nexts) ≡ length nexts → 8 * m ≤ c → Fills A room v (store tuples nexts) m
-fills-all A room c m tuples nexts head link f v p q h =
+fills-all f v p q h =
     let r = f .room-is in
-    record { fitting = λ l. filled-all A room c m tuples nexts head link f v p q h; over = λ l. absurd (omega arith) }
+    record { fitting = λ l. filled-all f v p q h; over = λ l. absurd (omega arith) }
 
 -- IN TABLES WITH ANY CONTENTS
 

@@ -3,10 +3,10 @@ use Prim.Native.Nat.{ℕ, _+_, _-_, _*_, _≤_, _<_}
 use mathlib.Core.Path.{_≡_, sym, ap, _∙_}
 use mathlib.Core.List.{List, _++_}
 use native.Mathlib.Omega.{arith}
-use lib.ListN.{length, getD, replicate}
+use lib.ListN.{length, getD, replicate, length-append, length-replicate}
 use lib.Seq.{getD-append-add}
 use Rattle.rows.specs.Rows.{rowAt}
-use Rattle.rows.specs.RowLaws.{part-at}
+use Rattle.text.specs.CellsLaws.{part-at}
 use Rattle.automaton.specs.Automaton.{Automaton, Fits}
 use Rattle.tuple.specs.Step.{Tuple, setAt, first, Formed}
 use Rattle.tuple.specs.Row.{row}
@@ -14,9 +14,9 @@ use Rattle.tuple.specs.TupleLaws.{first-formed, next-formed}
 use Rattle.tuple.specs.RowLaws.{formed-length, row-set, row-colour}
 use Rattle.tracker.specs.Numbering.{tupleAt, rows}
 use Rattle.tracker.specs.NumberingLaws.{reachable-all, numbering-reachable}
-use Rattle.tracker.specs.Build.{Store, Fitted}
+use Rattle.tracker.specs.Build.{Store, clearedStore, RoomFits, Fitted}
 use Rattle.gate.specs.GateLaws.{zeros}
-use Rattle.tracker.specs.FillLaws.{Whole, whole, rows-length, row-is}
+use Rattle.tracker.specs.FillLaws.{Whole, whole, rows-length, row-is, cleared-alike}
 
 module _ (A : Automaton) (fits : Fits A) (room m : ℕ) (v w : Store) (f : Fitted A room v w m) where
   -- tuple t of the tracker
@@ -34,7 +34,7 @@ module _ (A : Automaton) (fits : Fits A) (room m : ℕ) (v w : Store) (f : Fitte
   fitted-cell : (t j : ℕ) → t < m → j < 17 → getD (w .tuples) (17 * t + j) 0 ≡ getD (row (tuple t)) j 0
   fitted-cell t j h k =
       let e = f .count-is in
-      sym (part-at (w .tuples) (17 * t) j k)
+      sym (part-at (w .tuples) (17 * t) 17 j k)
       ∙ ap (λ (l : List ℕ). getD l j 0)
       (ap (λ (l : List ℕ). rowAt l t) (f .holds .tuples) ∙ row-is (f .list) (first A) (replicate (length (v .tuples) - 17 * length (f .list)) 0) t fitted-whole (omega arith))
 
@@ -47,13 +47,26 @@ module _ (A : Automaton) (fits : Fits A) (room m : ℕ) (v w : Store) (f : Fitte
   pub fitted-colour : (t : ℕ) → t < m → getD (w .tuples) (17 * t + 16) 0 ≡ tuple t .colour
   fitted-colour t h = fitted-cell t 16 h (omega arith) ∙ row-colour (tuple t) (few t h)
 
+  fitted-rows : length (rows (f .list)) ≡ 17 * m
+  fitted-rows = let e = f .count-is in omega (arith, rows-length (f .list) fitted-whole)
+
   pub fitted-behind : (i : ℕ) → 17 * m ≤ i → getD (w .tuples) i 0 ≡ 0
   fitted-behind i h =
-      let e = f .count-is in
       let n = length (v .tuples) - 17 * length (f .list) in
-      let l : length (rows (f .list)) ≡ 17 * length (f .list) = rows-length (f .list) fitted-whole in
-      let j : i ≡ length (rows (f .list)) + (i - 17 * m) = omega arith in
+      let j : i ≡ length (rows (f .list)) + (i - 17 * m) = omega (arith, fitted-rows) in
       ap (λ (l : List ℕ). getD l i 0) (f .holds .tuples)
       ∙ ap (λ (i : ℕ). getD (rows (f .list) ++ replicate n 0) i 0) j
       ∙ getD-append-add (rows (f .list)) (replicate n 0) (i - 17 * m) 0
       ∙ zeros n (i - 17 * m)
+
+  -- the tables are as long as they were
+  pub fitted-length : RoomFits room v → length (w .tuples) ≡ length (v .tuples)
+  fitted-length r =
+      let n = length (v .tuples) - 17 * length (f .list) in
+      let a = f .count-is in
+      let b = f .room-is in
+      let c = r .tuples in
+      ap length (f .holds .tuples) ∙ length-append (rows (f .list)) (replicate n 0) ∙ omega (arith, fitted-rows, length-replicate {A = ℕ} n 0)
+
+  pub fitted-cleared : RoomFits room v → clearedStore w ≡ clearedStore v
+  fitted-cleared r = cleared-alike w v (fitted-length r) (f .holds .same)

@@ -7,12 +7,13 @@ use native.Mathlib.Decide.{ℕ-discrete, decLt}
 use native.Mathlib.Omega.{arith}
 use lib.ListN.{length, take}
 use lib.Seq.{getD-take, length-take-le, ext-getD}
+use Rattle.text.specs.BytesLaws.{length-more}
 use Rattle.finite.specs.Finite.{pigeon-rel}
 use Rattle.automaton.specs.Automaton.{Automaton}
 use Rattle.tuple.specs.Step.{Tuple, first, next}
 use Rattle.tracker.specs.Numbering.{after, Word, Reachable, tupleAt, entered, FoundBy, Numbering, MoreThan}
 use Rattle.tracker.specs.Explore.{step, found}
-use Rattle.tracker.specs.ExploreLaws.{Listed, Agree, Stepped, Explored, stepped, explored, length-more, agree-more, last-is, enters-alike}
+use Rattle.tracker.specs.ExploreLaws.{Listed, Agree, Stepped, Explored, stepped, explored, agree-more, last-is, enters-alike}
 
 -- REACHABLE TUPLES
 

@@ -2,12 +2,13 @@
 use Prim.Native.Nat.{ℕ, zero, suc, _+_, _-_, _≤_, _<_, min}
 use mathlib.Core.Path.{_≡_, refl, sym, ap, ap₂, _∙_}
 use mathlib.Core.Bool.{Bool, not, _&&_}
+use mathlib.Core.Logic.{_⊎_, inl, inr}
 use mathlib.Core.List.{List, [], _∷_, _++_, append-assoc, append-nil}
 use native.Mathlib.Omega.{arith}
 use native.Mathlib.Numerals.{add-one}
 use borrow.Author.Tests.{eq-eqb, ne-eqb}
 use lib.Dec.{ltb}
-use lib.ListN.{length, getD, set, take, drop, replicate, length-append, length-replicate}
+use lib.ListN.{length, getD, set, take, drop, replicate, length-append, length-replicate, length-drop}
 use lib.Seq.{drop-cons, getD-at, set-at}
 use Rattle.sets.specs.Sets.{minusOf, isWithin, isEmpty}
 use Rattle.tuple.specs.Colour.{neutral}
@@ -152,13 +153,16 @@ module _ (n p count : ℕ) (cells : List ℕ) (long : count ≤ length cells) wh
         most = most-turned;
       }
 
-      pub sweep-empty : {result' : List ℕ} {j' : ℕ} → x ≡ 0 → result' ≡ set result i 0 → j' ≡ j
+      -- a set that is left is written behind those closed up so far
+      pub sweep-turn : {result' : List ℕ} {j' : ℕ}
+          → ((x ≡ 0 → ⊥) × (result' ≡ set (set result i 0) j x) × (j' ≡ j + 1)) ⊎ ((x ≡ 0) × (result' ≡ set result i 0) × (j' ≡ j))
           → Sweeping n p count cells result' c' o' j' (i + 1)
-      sweep-empty e a b = rw (a, b) (turn-empty e)
+      sweep-turn (inl (e, a, b)) = rw (a, b) (turn-full e)
+      sweep-turn (inr (e, a, b)) = rw (a, b) (turn-empty e)
 
-      pub sweep-full : {result' : List ℕ} {j' : ℕ} → (x ≡ 0 → ⊥) → result' ≡ set (set result i 0) j x → j' ≡ j + 1
-          → Sweeping n p count cells result' c' o' j' (i + 1)
-      sweep-full e a b = rw (a, b) (turn-full e)
+    -- no cell is lost
+    pub sweep-length : i ≤ count → length result ≡ length cells
+    sweep-length h = ap length (s .holds) ∙ simp (length-append, length-replicate, length-drop) (omega (arith, s .kept, s .passed))
 
     pub sweep-end : i ≡ count → Swept n p count cells result c
     unfolding pass turns closeUp closed least

@@ -1,16 +1,11 @@
 // The verdict on the sheet and the plan on standard input (room 1,024).
-use judge::Answer;
 use judge::Outcome;
 use judge::Verdict;
 use libc::STDIN_FILENO;
 
 fn print(v: Verdict) {
     let answer = v.answer;
-    let passed = match answer {
-        Answer::Yes => true,
-        Answer::No => false,
-    };
-    let line = report::verdict_line(passed, v.least as usize, v.passes);
+    let line = report::verdict_line(judge::passed(answer), v.least as usize, v.passes);
     console::say(&line);
 }
 
@@ -35,10 +30,7 @@ fn judge_input(all: &[u8]) {
         &mut other,
     ) {
         Outcome::Judged(v) => print(v),
-        Outcome::Refused(r) => {
-            let line = report::refusal_line(r);
-            console::say(&line);
-        }
+        Outcome::Refused(r) => console::say_refusal(r),
     }
 }
 

@@ -30,9 +30,9 @@ module _ (A : Automaton) (v : Tables) (l : Lengths (A .table) v) {word one other
   pub checked : (after : Tables) (c : Checked) → Judges A (tables word one other) after c → Checks A v after c
   checked after c j = judged A v after c l (rw (w, o, r) at j)
 
-pub judge-free : (A : Automaton) (v w : Tables) (r : ℕ) → Fits A → Answered A Everywhere v w r → r ≡ 0 → Judges A v w Free
-judge-free A v w r f a e = (f, a .free e, a .kept e)
+module _ {A : Automaton} {v w : Tables} {r : ℕ} (f : Fits A) (a : Answered A Everywhere v w r) where
+  pub judge-free : r ≡ 0 → Judges A v w Free
+  judge-free e = (f, a .free e, a .kept e)
 
-pub judge-meets : (A : Automaton) (v w : Tables) (r : ℕ) → Fits A → Answered A Everywhere v w r → (r ≡ 0 → ⊥)
-    → Judges A v w (Refused (record { number = 10; line = 0; length = r }))
-judge-meets A v w r f a e = inr (f, record { number = refl; line = refl; some = omega arith; witness = a .witness (omega arith); lengths = a .lengths })
+  pub judge-meets : (r ≡ 0 → ⊥) → Judges A v w (Refused (record { number = 10; line = 0; length = r }))
+  judge-meets e = inr (f, record { number = refl; line = refl; some = omega arith; witness = a .witness (omega arith); lengths = a .lengths })

@@ -1,25 +1,21 @@
 -- What is written is a sheet file: each line answers its question yes, and the longest text has 22,960 bytes. Assumes nothing.
-use Prim.Native.Nat.{ℕ, zero, suc, _+_, _*_, _/_, _%_, _≤_, _<_}
-use mathlib.Core.Path.{_≡_, refl, sym, ap, _∙_, subst}
-use mathlib.Core.List.{List, [], _∷_, _++_, map}
+use Prim.Native.Nat.{ℕ, zero, suc, _+_, _*_, _/_, _%_, _≤_}
+use mathlib.Core.Path.{_≡_, refl, sym, _∙_, subst}
+use mathlib.Core.List.{List, [], _∷_, _++_, map, map-append}
 use native.Mathlib.Omega.{arith}
-use native.Mathlib.Decide.{decLt}
 use lib.ListN.{length, getD, length-append, length-map}
 use Rattle.names.specs.Name.{compose}
 use Rattle.names.specs.NameLaws.{composed-name, compose-idempotent}
 use Rattle.sets.specs.Sets.{bit, Member}
-use Rattle.sets.specs.SetLaws.{bit-lt, no-member}
+use Rattle.sets.specs.SetLaws.{bit-lt}
 use Rattle.automaton.specs.Automaton.{Automaton, Fits}
+use Rattle.automaton.specs.EdgeLaws.{edge-of, edge-state}
 use Rattle.format.specs.Format.{Distinct, NamesRight, StatesRight, TransitionRight, TransitionsRight, Right, most, place, FileIs, nameLines, statesOf, placed, unless, transitionsOf, writtenSheet, written}
 use Rattle.format.specs.FormatLaws.{name-length}
 use Rattle.writer.specs.LengthLaws.{statesOf-length, transitionsOf-most}
 use Rattle.writer.specs.TextLaws.{written-length}
 
 -- The names
-
-map-snoc : (xs : List (List ℕ)) (x : List ℕ) → map compose (xs ++ (x ∷ [])) ≡ map compose xs ++ (compose x ∷ [])
-map-snoc [] x = refl
-map-snoc (y ∷ ys) x = ap (compose y ∷_) (map-snoc ys x)
 
 distinct-composed : (xs : List (List ℕ)) (x : List ℕ) → Distinct xs x → Distinct (map compose xs) (compose x)
 distinct-composed [] x d = tt
@@ -31,7 +27,7 @@ names-composed [] earlier r = tt
 names-composed (x ∷ xs) earlier r = (
   composed-name x (r .0),
   distinct-composed earlier x (r .1),
-  subst (λ (e : List (List ℕ)). NamesRight e (map compose xs)) (map-snoc earlier x) (names-composed xs (earlier ++ (x ∷ [])) (r .2)),
+  subst (λ (e : List (List ℕ)). NamesRight e (map compose xs)) (map-append compose earlier (x ∷ [])) (names-composed xs (earlier ++ (x ∷ [])) (r .2)),
 )
 
 -- the line of a name has at most 30 bytes
@@ -53,15 +49,10 @@ states-right initial recurring (suc n) q = ((omega (arith, bit-lt initial q), om
 module _ (A : Automaton) (fits : Fits A) where
   -- a member of a cell lies in range
   right : (i least : ℕ) → least ≤ i → Member (getD (A .table) (i / 16) 0) (i % 16) → TransitionRight (A .n) (A .k) least (placed i)
-  right i least h m = by (decLt (i / 16 / 8) (A .n)) (decLt (i / 16 % 8) (A .k))
-    where
-      outside : ((i / 16 / 8 < A .n) → (i / 16 % 8 < A .k) → ⊥) → ⊥
-      outside f = no-member (i % 16) (subst (λ (x : ℕ). Member x (i % 16)) (fits .cells (i / 16) .empty f) m)
-
-      by : Dec (i / 16 / 8 < A .n) → Dec (i / 16 % 8 < A .k) → TransitionRight (A .n) (A .k) least (placed i)
-      by (yes a) (yes b) = record { from = omega arith; letter = b; to = fits .cells (i / 16) .within (i % 16) m; order = omega arith }
-      by (no a) b = absurd (outside (λ f g. a f))
-      by (yes a) (no b) = absurd (outside (λ f g. b g))
+  right i least h m =
+      let e : 8 * (i / 128) + i / 16 % 8 ≡ i / 16 = omega arith in
+      let edge = edge-of A fits (i / 16 % 8) (i / 128) (i % 16) (omega arith) (rw e m) in
+      record { from = edge .from; letter = edge .letter; to = edge-state A fits (i / 16 % 8) (i / 128) (i % 16) edge; order = omega arith }
 
   pub transitions-right : (left i least : ℕ) → least ≤ i → TransitionsRight (A .n) (A .k) least (transitionsOf (A .table) i left)
   unfolding transitionsOf

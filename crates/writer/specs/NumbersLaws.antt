@@ -1,16 +1,17 @@
 -- The numbers of the sheet that is written are those it is written from: state by state, and place by place of the table. Assumes nothing.
 use Prim.Native.Nat.{ℕ, zero, suc, _+_, _*_, _/_, _%_, _^_, _≤_, _<_}
 use mathlib.Core.Path.{_≡_, refl, sym, ap, _∙_}
-use mathlib.Core.List.{List, [], _∷_}
+use mathlib.Core.List.{List}
 use native.Mathlib.Omega.{arith}
 use native.Mathlib.Decide.{decLt, ℕ-discrete}
 use native.Mathlib.Nat.{add-zero, zero-add}
-use lib.ListN.{length, getD, set, take, replicate, length-set, getD-replicate}
-use lib.Seq.{ext-getD, getD-take, length-take-le, getD-set-same, getD-set-other, set-out}
-use Rattle.sets.specs.Sets.{bit, Member, setOf, unionOf}
-use Rattle.sets.specs.SetLaws.{bit-lt, bit-out, bit-zero, bit-union, bit-single, bit-single-other, ext, small-of-within, set-is-sum}
+use lib.ListN.{length, getD, take, replicate, getD-replicate}
+use lib.Seq.{ext-getD, getD-take, length-take-le}
+use Rattle.sets.specs.Sets.{bit, Member, setOf}
+use Rattle.sets.specs.SetLaws.{bit-lt, bit-out, bit-zero, ext, small-of-within, set-is-sum}
 use Rattle.automaton.specs.Automaton.{Automaton, Fits}
 use Rattle.format.specs.Format.{State, Transition, flagSet, entered, tableOf, numbers, statesOf, placed, unless, transitionsOf, writtenSheet}
+use Rattle.format.specs.NumbersLaws.{entered-length, entered-new, entered-other, table-length}
 use Rattle.writer.specs.Same.{trimmed}
 
 -- The states' flags
@@ -38,49 +39,14 @@ abbrev enteredAt : ℕ → List ℕ → ℕ → List ℕ
 enteredAt zero table i = table
 enteredAt (suc b) table i = entered table (placed i)
 
-entered-length : (table : List ℕ) (t : Transition) → length (entered table t) ≡ length table
-unfolding entered
-entered-length table t = simp length-set
-
 enteredAt-length : (b : ℕ) (table : List ℕ) (i : ℕ) → length (enteredAt b table i) ≡ length table
 enteredAt-length zero table i = refl
 enteredAt-length (suc b) table i = entered-length table (placed i)
-
-pub table-length : (ts : List Transition) (table : List ℕ) → length (tableOf table ts) ≡ length table
-unfolding tableOf
-table-length [] table = refl
-table-length (t ∷ ts) table = table-length ts (entered table t) ∙ entered-length table t
 
 table-next : (b : ℕ) (table : List ℕ) (i : ℕ) (ts : List Transition) → tableOf table (unless b (placed i) ts) ≡ tableOf (enteredAt b table i) ts
 unfolding tableOf
 table-next zero table i ts = refl
 table-next (suc b) table i ts = refl
-
--- the cell of place i is number i / 16
-entered-is : (table : List ℕ) (i : ℕ) → entered table (placed i) ≡ set table (i / 16) (unionOf (getD table (i / 16) 0) (2 ^ (i % 16)))
-unfolding entered
-entered-is table i =
-    let e : 8 * (i / 128) + i / 16 % 8 ≡ i / 16 = omega arith in
-    rw e
-
-entered-same : (table : List ℕ) (i c q : ℕ) → c ≡ i / 16 → q ≡ i % 16 → c < length table → bit (getD (entered table (placed i)) c 0) q ≡ 1
-entered-same table i c q e f h =
-    let l : i / 16 < length table = omega arith in
-    let u = bit-union (getD table (i / 16) 0) (2 ^ (i % 16)) (i % 16) in
-    let o = bit-single (i % 16) in
-    rw (e, f, entered-is, getD-set-same) (omega (arith, bit-lt (getD table (i / 16) 0) (i % 16)))
-
-entered-other : (table : List ℕ) (i c q : ℕ) → (c ≡ i / 16 → q ≡ i % 16 → ⊥) → bit (getD (entered table (placed i)) c 0) q ≡ bit (getD table c 0) q
-entered-other table i c q h = rw entered-is (by (ℕ-discrete c (i / 16)) (decLt c (length table)))
-  where
-    by : Dec (c ≡ i / 16) → Dec (c < length table) → bit (getD (set table (i / 16) (unionOf (getD table (i / 16) 0) (2 ^ (i % 16)))) c 0) q ≡ bit (getD table c 0) q
-    by (no d) l = rw (getD-set-other table (i / 16) c _ 0 d)
-    by (yes e) (yes l) =
-        let l′ : i / 16 < length table = omega arith in
-        let u = bit-union (getD table (i / 16) 0) (2 ^ (i % 16)) q in
-        let o = bit-single-other (i % 16) q (h e) in
-        rw (e, getD-set-same) (omega arith)
-    by (yes e) (no l) = rw (set-out table (i / 16) _ (omega arith))
 
 -- The places of a table, from i on
 
@@ -97,7 +63,7 @@ module _ (T : List ℕ) where
     where
       by : (b : ℕ) → bit (getD (enteredAt b table i) c 0) q ≡ bit (getD table c 0) q
       by zero = refl
-      by (suc b) = entered-other table i c q (h i (omega arith))
+      by (suc b) = entered-other table (placed i) c q (λ e. h i (omega arith) (omega arith))
 
   -- a bit that is 0 and at a place from i on becomes T's
   gains : (left i : ℕ) (table : List ℕ) (c q : ℕ) → c < length table → q < 16 → i ≤ 16 * c + q → 16 * c + q < i + left → bit (getD table c 0) q ≡ 0
@@ -122,11 +88,14 @@ module _ (T : List ℕ) where
           by zero f = z ∙ sym f
           by (suc b) f =
               let o : bit (getD T c 0) q ≡ 1 = omega (arith, bit-lt (getD T c 0) q) in
-              entered-same table i c q (omega arith) (omega arith) hc ∙ sym o
+              let p : c ≡ 8 * (i / 128) + i / 16 % 8 = omega arith in
+              let r : q ≡ i % 16 = omega arith in
+              let one : bit (getD (entered table (placed i)) c 0) q ≡ 1 = rw (p, r) (entered-new table (placed i) (omega arith)) in
+              one ∙ sym o
 
       before : (b : ℕ) → (i ≡ 16 * c + q → ⊥) → bit (getD (enteredAt b table i) c 0) q ≡ bit (getD table c 0) q
       before zero d = refl
-      before (suc b) d = entered-other table i c q (λ f g. d (omega arith))
+      before (suc b) d = entered-other table (placed i) c q (λ f g. d (omega arith))
 
   -- the transitions of a table of 128 sets of states below 16 give it back
   pub table-back : 128 ≤ length T → ((c q : ℕ) → Member (getD T c 0) q → q < 16) → (empty : List ℕ) → length empty ≡ 128 → ((c : ℕ) → c < 128 → getD empty c 0 ≡ 0)

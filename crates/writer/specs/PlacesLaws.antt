@@ -9,24 +9,23 @@ use lib.Seq.{sets}
 use Rattle.text.specs.SetsLaws.{sets-append}
 use Rattle.sets.specs.Sets.{bit}
 use Rattle.sets.specs.SetLaws.{bit-zero}
-use Rattle.format.specs.Format.{placed, transitionsOf, transitionLine, transitionLines}
+use Rattle.format.specs.Format.{placed, unless, transitionsOf, transitionLine, transitionLines}
 use Rattle.format.specs.FormatLaws.{transition-length}
 use Rattle.writer.specs.Places.{places, transitionsFrom, At, Stop, First}
 
 module _ (T : List ℕ) where
-  place-here : (i : ℕ) → i < places → At T i → transitionsFrom T i ≡ placed i ∷ transitionsFrom T (i + 1)
+  place-step : (i : ℕ) → i < places → transitionsFrom T i ≡ unless (bit (getD T (i / 16) 0) (i % 16)) (placed i) (transitionsFrom T (i + 1))
   unfolding transitionsOf
-  place-here i h m =
+  place-step i h =
       let e : places - i ≡ suc (places - (i + 1)) = omega arith in
       let f : i + 1 ≡ suc i = add-one i in
-      rw (e, m, f)
+      rw (e, f)
+
+  place-here : (i : ℕ) → i < places → At T i → transitionsFrom T i ≡ placed i ∷ transitionsFrom T (i + 1)
+  place-here i h m = place-step i h ∙ rw m
 
   pub place-empty : (i : ℕ) → i < places → bit (getD T (i / 16) 0) (i % 16) ≡ 0 → transitionsFrom T i ≡ transitionsFrom T (i + 1)
-  unfolding transitionsOf
-  place-empty i h z =
-      let e : places - i ≡ suc (places - (i + 1)) = omega arith in
-      let f : i + 1 ≡ suc i = add-one i in
-      rw (e, z, f)
+  place-empty i h z = place-step i h ∙ rw z
 
   -- the places of an empty cell: `left` of them, up to the next cell
   cell-rest : (left i c : ℕ) → c < 128 → i + left ≡ 16 * c + 16 → 16 * c ≤ i → getD T c 0 ≡ 0 → transitionsFrom T i ≡ transitionsFrom T (16 * c + 16)

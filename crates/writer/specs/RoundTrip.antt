@@ -9,12 +9,12 @@ use Rattle.names.specs.NameLaws.{compose-idempotent}
 use Rattle.automaton.specs.Automaton.{Automaton, Fits}
 use Rattle.automaton.specs.Meeting.{Free, Everywhere}
 use Rattle.format.specs.Format.{Sheet, NamesRight, FileIs, lines, endLine, numbers, statesOf, transitionsOf, writtenSheet, written}
-use Rattle.format.specs.NumbersLaws.{sheet-fits}
+use Rattle.format.specs.NumbersLaws.{sheet-fits, numbers-length}
 use Rattle.sheet.specs.Read.{Accepted}
 use Rattle.parser.specs.UniqueLaws.{file-unique}
 use Rattle.writer.specs.Same.{SameSheet, trimmed, writing}
 use Rattle.writer.specs.NumbersLaws.{numbers-written}
-use Rattle.writer.specs.TrimmedLaws.{free-trimmed, written-trimmed, table-whole, trimmed-numbers}
+use Rattle.writer.specs.TrimmedLaws.{free-trimmed, written-trimmed, trimmed-numbers}
 use Rattle.writer.specs.FileLaws.{written-file}
 
 -- What is written depends on the numbers and the composed names alone
@@ -72,7 +72,7 @@ module _ (s : List ℕ) (σ : Sheet) (file : FileIs s σ) where
   fits = sheet-fits s σ file
 
   long : 128 ≤ length (numbers σ .table)
-  long = omega (arith, table-whole σ)
+  long = omega (arith, numbers-length σ)
 
   all : length (σ .names) ≡ numbers σ .k
   unfolding numbers

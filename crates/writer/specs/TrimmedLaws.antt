@@ -3,15 +3,15 @@ use Prim.Native.Nat.{ℕ, zero, suc, _+_, _*_, _/_, _%_, _≤_}
 use mathlib.Core.Path.{_≡_, refl, ap, ap₂, subst}
 use mathlib.Core.List.{List, _++_, map}
 use native.Mathlib.Omega.{arith}
-use lib.ListN.{length, take, replicate}
+use lib.ListN.{take}
 use lib.Seq.{getD-take, take-all}
 use Rattle.names.specs.Name.{compose}
 use Rattle.sets.specs.Sets.{bit, Member}
 use Rattle.automaton.specs.Automaton.{Automaton, Edge, Fits}
 use Rattle.automaton.specs.Meeting.{Walk, Free, Everywhere}
 use Rattle.format.specs.Format.{Sheet, Transition, lines, endLine, numbers, statesOf, unless, placed, transitionsOf, writtenSheet, written}
+use Rattle.format.specs.NumbersLaws.{numbers-length}
 use Rattle.writer.specs.Same.{trimmed}
-use Rattle.writer.specs.NumbersLaws.{table-length}
 
 transitions-trimmed : (T : List ℕ) (left i : ℕ) → i + left ≤ 2048 → transitionsOf (take 128 T) i left ≡ transitionsOf T i left
 unfolding transitionsOf
@@ -46,15 +46,11 @@ written-trimmed A names = ap (λ ts. lines (sheet ts) ++ endLine) (transitions-t
     sheet ts = record { n = A .n; k = A .k; names = map compose names; states = statesOf (A .initial) (A .recurring) 0 (A .n); transitions = ts }
 
 -- a sheet has no such cells
-pub table-whole : (σ : Sheet) → length (numbers σ .table) ≡ 128
-unfolding numbers
-table-whole σ = table-length (σ .transitions) (replicate 128 0)
-
 pub trimmed-numbers : (σ : Sheet) → trimmed (numbers σ) ≡ numbers σ
 trimmed-numbers σ = λ i. record {
   n = numbers σ .n;
   k = numbers σ .k;
   initial = numbers σ .initial;
   recurring = numbers σ .recurring;
-  table = take-all 128 (numbers σ .table) (omega (arith, table-whole σ)) i;
+  table = take-all 128 (numbers σ .table) (omega (arith, numbers-length σ)) i;
 }

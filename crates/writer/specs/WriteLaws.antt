@@ -1,12 +1,12 @@
 -- The ends of the two calls: refused before the last question, or asked it with the names that the rows hold. Assumes nothing.
-use Prim.Native.Nat.{ℕ, _-_, _≤_}
+use Prim.Native.Nat.{ℕ, _≤_}
 use mathlib.Core.Path.{_≡_, refl, sym, ap, _∙_, subst}
 use mathlib.Core.List.{List, map, append-nil}
 use mathlib.Core.Logic.{inl, inr}
 use native.Mathlib.Omega.{arith}
-use lib.ListN.{length, length-map}
-use lib.Seq.{sets}
+use lib.ListN.{length, replicate, length-map}
 use Rattle.gate.specs.Gate.{refusal, RefusedWith}
+use Rattle.gate.specs.GateLaws.{refused-first}
 use Rattle.gate.specs.declared.Refusal.{Refusal}
 use Rattle.names.specs.Name.{compose}
 use Rattle.automaton.specs.declared.Numbers.{Numbers}
@@ -16,7 +16,7 @@ use Rattle.format.specs.Format.{Sheet, FileIs, numbers}
 use Rattle.automaton.specs.QuestionLaws.{numbers-number}
 use Rattle.automaton.specs.LentLaws.{tables-twice, long-cleared, refuse-cleared}
 use Rattle.sheet.specs.ReadLaws.{refuses-number}
-use Rattle.format.specs.NumbersLaws.{sheet-fits}
+use Rattle.format.specs.NumbersLaws.{sheet-fits, numbers-length, automaton-is}
 use Rattle.walks.specs.declared.Checked.{Checked}
 use Rattle.walks.specs.declared.Checked.the-variants as K
 use Rattle.walks.specs.Check.{Checks}
@@ -34,7 +34,6 @@ use Rattle.writer.specs.Text.{textOf, rowsText, Writable, PutNamed, Asks
 use Rattle.writer.specs.TextLaws.{text-written}
 use Rattle.writer.specs.RowNames.{rowNames}
 use Rattle.writer.specs.RowNamesLaws.{rows-hold}
-use Rattle.writer.specs.TrimmedLaws.{table-whole}
 
 -- No question but the first has number 1
 
@@ -66,24 +65,27 @@ letters σ = refl
 pub writable : {A : Automaton} → Fits A → 128 ≤ length (A .table) → Writable A
 writable fits h = record { states = omega (arith, fits .range); letters = omega (arith, fits .range); table = h }
 
--- WRITING FROM A FILE, whose successor sets are read into a table t of 128 cells
+-- the table of 128 cells that the successor sets of a file are read into
+abbrev fresh : List ℕ
+fresh = replicate 128 0
 
-module _ (t : List ℕ) {s u : List ℕ} {v w : Tables} (whole : length t ≡ 128) where
-  pub write-refused : {b c : List ℕ} {x : Refusal} {r : Written} → Reads s t u v w (R.Refused x) → RefusedWith x b c r → Writes s v w b c r
+-- WRITING FROM A FILE
+
+module _ {s u : List ℕ} {v w : Tables} where
+  pub write-refused : {b c : List ℕ} {x : Refusal} {r : Written} → Reads s fresh u v w (R.Refused x) → RefusedWith x b c r → Writes s v w b c r
   write-refused (inl (short, e, f, z)) answer =
-      Writes.short (λ l. short (record { cells = omega arith; long = l })) (answer .is ∙ ap Refused e) z (answer .untouched (ap (λ (p : Refusal). p .number) e))
+      let (is, same) = refused-first answer e in
+      Writes.short (λ l. short (record { cells = omega arith; long = l })) is z same
   write-refused (inr (l, f, z)) answer = Writes.refused (l .long) _ f (answer .is) (answer .zero (refuses-number f))
 
-  module _ {a : Numbers} (reads : Reads s t u v w (R.Is a)) where
+  module _ {a : Numbers} (reads : Reads s fresh u v w (R.Is a)) where
     is : automaton a u ≡ numbers (reads .1 .0)
     is =
         let (l, (σ, f, e, g), y) = reads in
-        let z : length t - 128 ≡ 0 = omega arith in
-        let h : u ≡ numbers σ .table = g ∙ rw z (append-nil (numbers σ .table)) in
-        λ i. record { n = e .n i; k = e .k i; initial = e .initial i; recurring = e .recurring i; table = h i }
+        automaton-is σ e (g ∙ append-nil (numbers σ .table))
 
     pub write-asks : Writable (automaton a u)
-    write-asks = subst Writable (sym is) (writable (sheet-fits s (reads .1 .0) (reads .1 .1 .file)) (omega (arith, table-whole (reads .1 .0))))
+    write-asks = subst Writable (sym is) (writable (sheet-fits s (reads .1 .0) (reads .1 .1 .file)) (omega (arith, numbers-length (reads .1 .0))))
 
     pub write-finishes : {b c : List ℕ} {r : Written} → PutNamed (automaton a u) s b c r → Writes s v w b c r
     write-finishes {b} {c} {r} put =
@@ -92,18 +94,18 @@ module _ (t : List ℕ) {s u : List ℕ} {v w : Tables} (whole : length t ≡ 12
 
 -- WRITING FROM NUMBERS
 
--- the questions before the last: the names' file is read into a table t of 128 cells
-module _ (t : List ℕ) {s : List ℕ} {v : Tables} (whole : length t ≡ 128) where
-  pub ask-names : {A : Automaton} {u : List ℕ} {w : Tables} {x : Refusal} → 128 ≤ length (A .table) → Reads s t u v w (R.Refused x) → Asks A s v w (K.Refused x)
+-- the questions before the last
+module _ {s : List ℕ} {v : Tables} where
+  pub ask-names : {A : Automaton} {u : List ℕ} {w : Tables} {x : Refusal} → 128 ≤ length (A .table) → Reads s fresh u v w (R.Refused x) → Asks A s v w (K.Refused x)
   ask-names cells (inl (short, e, f, z)) = inl ((λ l. short (record { cells = omega arith; long = l .long })), e, z)
   ask-names cells (inr (l, f, z)) = inr (record { cells = cells; long = l .long }, NamedRefuse.by-names f)
 
-  pub ask-letters : {A : Automaton} {a : Numbers} {u : List ℕ} {w : Tables} {x : Refusal} → 128 ≤ length (A .table) → Reads s t u v w (R.Is a)
+  pub ask-letters : {A : Automaton} {a : Numbers} {u : List ℕ} {w : Tables} {x : Refusal} → 128 ≤ length (A .table) → Reads s fresh u v w (R.Is a)
       → (a .k ≡ A .k → ⊥) → x ≡ refusal 4 0 → Asks A s v w (K.Refused x)
   ask-letters cells (l, (σ, f, e, g), z) differ is =
       inr (record { cells = cells; long = l .long }, NamedRefuse.by-letters σ f (λ same. differ (e .k ∙ sym (letters σ) ∙ same)) is z)
 
-  pub ask-numbers : (A : Automaton) {a : Numbers} {u : List ℕ} {w : Tables} → 128 ≤ length (A .table) → Reads s t u v w (R.Is a)
+  pub ask-numbers : (A : Automaton) {a : Numbers} {u : List ℕ} {w : Tables} → 128 ≤ length (A .table) → Reads s fresh u v w (R.Is a)
       → a .k ≡ A .k → (x : Tables) (r : Checked) → Checks A w x r → Asks A s v x r
   ask-numbers A cells (l, (σ, f, e, g), z) same x (K.Refused y) (inl (short, i, j)) =
       absurd (short (record { cells = cells; long = subst Long (sym z) (long-cleared v (l .long)) }))
@@ -118,8 +120,7 @@ module _ (t : List ℕ) {s : List ℕ} {v : Tables} (whole : length t ≡ 128) w
 
 module _ {A : Automaton} {s : List ℕ} {v w : Tables} where
   pub numbers-refused : {b c : List ℕ} {x : Refusal} {r : Written} → Asks A s v w (K.Refused x) → RefusedWith x b c r → WritesNumbers A s v w b c r
-  numbers-refused (inl (short, e, z)) answer =
-      WritesNumbers.short short (answer .is ∙ ap Refused e) z (answer .untouched (ap (λ (p : Refusal). p .number) e))
+  numbers-refused (inl (short, e, z)) answer = let (is, same) = refused-first answer e in WritesNumbers.short short is z same
   numbers-refused (inr (l, f)) answer = WritesNumbers.refused l _ f (answer .is) (answer .zero (named-number f))
 
   pub numbers-finishes : {b c : List ℕ} {r : Written} → Asks A s v w K.Free → PutNamed A s b c r → WritesNumbers A s v w b c r

@@ -1,42 +1,15 @@
 -- Each answer is that of building, or of the last question. Assumes nothing.
 use Prim.Native.Nat.{ℕ}
-use mathlib.Core.Path.{ap, subst, _∙_}
+use mathlib.Core.Path.{ap, _∙_}
 use lib.ListN.{replicate}
-use Rattle.automaton.specs.Lent.{tables}
-use Rattle.tracker.specs.Build.{Store, store, Builds}
-use Rattle.tracker.specs.declared.Built.{Built}
-use Rattle.tracker.specs.declared.Built.the-variants.{Is}
-use Rattle.listing.specs.ListLaws.{SameLengths, file-refused, file-sized, file-last, file-bytes}
+use Rattle.listing.specs.ListLaws.{file-refused, file-sized, file-last, file-bytes}
 use borrow.Author.Needs.{needs}
 use Rattle.listing.proofs.list.Statement.{statement}
 use Rattle.listing.proofs.list.Tie as tie
 
--- the tables that are lent, and as they are behind building
-abbrev start : tie.After-build → tie.Start
-start c = c .before .before .before .before .before .before .before .before .before .before .before .before .before .before .before
-
-abbrev lent : tie.After-build → Store
-lent c = let a = start c .args in store (a .tuples .now) (a .nexts .now)
-
-abbrev left : tie.After-build → Store
-left c = let u = c .build .last .1 .1 .1 in store (u .0) (u .1 .0)
-
-abbrev Built-as : tie.After-build → Built → Type 0
-Built-as c b =
-    let a = start c .args in
-    let w = c .build .last .1 .1 .1 .1 .1 in
-    Builds (a .sheet .now) (a .room) (a .table .now) (c .build .last .1 .1 .0) (tables (a .word .now) (a .one .now) (a .other .now))
-    (tables (w .0) (w .1 .0) (w .1 .1 .0)) (lent c) (left c) b
-
--- a tracker
-abbrev behind : tie.After-x → tie.After-build
-behind c = c .before .before .before .before .before .before .before .before .before .before .before .before .before .before
-
-built : (c : tie.After-x) → Built-as (behind c) (Is (c .x .given .0 .0))
-built c = subst (Built-as (behind c)) (c .x .given .1) (behind c .build .ensures)
-
-kept : (c : tie.After-x) → SameLengths (lent (behind c)) (left (behind c))
-kept c = let k = behind c .build .kept .1 .1 .1 in record { tuples = k .0; nexts = k .1 .0 }
+-- building, from behind its tables
+abbrev behind : tie.After-slice-known13 → tie.After-build
+behind c = c .before .before .before .before .before .before .before .before .before .before .before .before
 
 build-requires : tie.Need-build-requires
 build-requires c κs = search needs
@@ -51,7 +24,9 @@ enum-known-x : tie.Need-enum-known-x
 enum-known-x c = search needs
 
 finish-requires : tie.Need-finish-requires
-finish-requires c κs = let told = c .before .before .before .before in file-sized (built told) (kept told)
+finish-requires c κs =
+    let told = c .before .before .before .before in
+    file-sized (behind (told .before .before) .build .ensures) (told .x .given .1)
 
 enum-told : tie.Need-enum-told
 enum-told c = search needs
@@ -87,8 +62,7 @@ returns : tie.Need-returns
 returns c =
     let refused = c .before .before in
     let told = refused .before .before .before in
-    let building = told .before .before .before .before .before .before .before .before .before .before .before .before .before .before in
-    file-refused (rw (told .r .given .1) at (building .build .ensures)) (refused .refuse .ensures)
+    file-refused (behind (told .before .before) .build .ensures) (told .r .given .1) (refused .refuse .ensures)
 
 same-length-8 : tie.Need-same-length-8
 same-length-8 c = search needs
@@ -117,8 +91,9 @@ returns-2 c =
     let over = cleared .before .before in
     let finished = over .before .before .before .before .before .before .before .before in
     let told = finished .before .before .before .before .before in
-    let table = cleared .clear .ensures ∙ ap (λ (n : ℕ). replicate n 0) (behind told .build .kept .1 .1 .0) in
-    rw (over .enum-told .given .1) (file-last (built told) (kept told) (rw (over .enum-told .given .1) at (finished .finish .ensures)) table)
+    let b = behind (told .before .before) .build in
+    file-last (b .ensures) (told .x .given .1) (finished .finish .ensures) (over .enum-told .given .1)
+    (cleared .clear .ensures ∙ ap (λ (n : ℕ). replicate n 0) (b .kept .1 .1 .0))
 
 same-length-15 : tie.Need-same-length-15
 same-length-15 c = search needs
@@ -145,7 +120,7 @@ returns-3 : tie.Need-returns-3
 returns-3 c =
     let finished = c .before .before .before .before .before .before .before .before in
     let told = finished .before .before .before .before .before in
-    rw (c .enum-told2 .given .1) (file-bytes (built told) (kept told) (rw (c .enum-told2 .given .1) at (finished .finish .ensures)))
+    file-bytes (behind (told .before .before) .build .ensures) (told .x .given .1) (finished .finish .ensures) (c .enum-told2 .given .1)
 
 pub list-spec : {M : Type 1} → statement M
 list-spec =

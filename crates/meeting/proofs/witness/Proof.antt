@@ -13,12 +13,22 @@ use borrow.Author.Needs.{needs}
 use Rattle.meeting.proofs.witness.Statement.{statement}
 use Rattle.meeting.proofs.witness.Tie as tie
 
+-- the states that the later ones go back to
+abbrev start : tie.After-number → tie.Start
+start c = c .before .before .before .before .before .before
+
+abbrev numbered : tie.After-note → tie.After-number
+numbered c = c .before .before .before .before .before .before .before
+
+abbrev noted : tie.After-trace → tie.After-note
+noted c = c .before .before .before .before .before .before .before .before .before .before
+
 deep : (c : tie.After-number) → c .number .result / 256 < 136
-deep c = rw (c .number .ensures) (c .before .before .before .before .before .before .pre .1 .most)
+deep c = rw (c .number .ensures) (start c .pre .1 .most)
 
 low : (c : tie.After-joining) → c .joining .result < 8
 low c =
-    let s = c .before .before .before .before .before .before .before in
+    let s = start (c .before) in
     let e = c .before .number in
     found-letter (automaton (s .args .a) (s .args .table .now)) (s .args .counts) (s .args .queue .now) (s .args .head) (e .result) (c .joining .result)
     (s .pre .1) (e .ensures) (c .joining .ensures)
@@ -31,11 +41,11 @@ joining-requires c κs = search needs
 
 common-requires : tie.Need-common-requires
 common-requires c κs =
-    (omega arith, omega arith, low c, c .before .before .before .before .before .before .before .pre .0 .cells)
+    (omega arith, omega arith, low c, start (c .before) .pre .0 .cells)
 
 member-requires : tie.Need-member-requires
 member-requires c κs =
-    let a = c .before .before .before .before .before .before .before .before .args in
+    let a = start (c .before .before) .args in
     let e = c .before .before .number in
     let j = c .before .joining in
     λ z. common-none (a .table .now) (a .counts) (e .result) (j .result) (c .common .result) (c .common .ensures) z (j .ensures .joins (low (c .before)))
@@ -45,9 +55,10 @@ cast-z c = search needs
 
 note-requires : tie.Need-note-requires
 note-requires c κs =
-    let d = deep (c .before .before .before .before .before .before) in
-    let long = c .before .before .before .before .before .before .before .before .before .before .before .before .pre .0 .long in
-    (low (c .before .before .before .before .before), omega arith, omega arith, omega arith)
+    let joined = c .before .before .before .before .before in
+    let d = deep (joined .before) in
+    let long = start (joined .before) .pre .0 .long in
+    (low joined, omega arith, omega arith, omega arith)
 
 add-one : tie.Need-add-one
 add-one c = search needs
@@ -70,15 +81,15 @@ slice-write-other c = search needs
 trace-requires : tie.Need-trace-requires
 trace-requires c κs =
     let n = c .before .before .before .before .before .before .before .before .before in
-    let s = n .before .before .before .before .before .before .before .before .before .before .before .before .before in
-    let d = deep (n .before .before .before .before .before .before .before) in
+    let s = start (numbered n) in
+    let d = deep (numbered n) in
     let k = n .note .kept in
     let long = s .pre .0 .long in
     record {
       size = s .pre .1 .size;
       some = s .pre .1 .some;
       linked = linked (automaton (s .args .a) (s .args .table .now)) (s .args .queue .now) (s .args .head) (s .pre .1 .sound);
-      deep = ap depth (sym (n .before .before .before .before .before .before .before .number .ensures));
+      deep = ap depth (sym (numbered n .number .ensures));
       word = omega arith;
       one = simp length-set (omega arith);
       other = simp length-set (omega arith);
@@ -92,22 +103,23 @@ same-length c = search needs
 
 same-length-2 : tie.Need-same-length-2
 same-length-2 c =
-    c .before .before .before .before .before .before .trace .kept .1 .1 .1 .1 .0
-    ∙ simp length-set (c .before .before .before .before .before .before .before .before .before .before .before .before .before .before .before .before .note .kept .1 .0)
+    let traced = c .before .before .before .before .before .before in
+    traced .trace .kept .1 .1 .1 .1 .0 ∙ simp length-set (noted traced .note .kept .1 .0)
 
 same-length-3 : tie.Need-same-length-3
 same-length-3 c =
-    c .before .before .before .before .before .before .trace .kept .1 .1 .1 .1 .1 .0
-    ∙ simp length-set (c .before .before .before .before .before .before .before .before .before .before .before .before .before .before .before .before .note .kept .1 .1 .0)
+    let traced = c .before .before .before .before .before .before in
+    traced .trace .kept .1 .1 .1 .1 .1 .0 ∙ simp length-set (noted traced .note .kept .1 .1 .0)
 
 returns : tie.Need-returns
 returns c =
-    let g = c .before .before .before .before .before .before .trace in
-    let n = c .before .before .before .before .before .before .before .before .before .before .before .before .before .before .before .before in
-    let s = n .before .before .before .before .before .before .before .before .before .before .before .before .before in
+    let traced = c .before .before .before .before .before .before in
+    let n = noted traced in
+    let s = start (numbered n) in
+    let g = traced .trace in
     let a = s .args in
     let A = automaton (a .a) (a .table .now) in
-    let e = n .before .before .before .before .before .before .before .number in
+    let e = numbered n .number in
     let j = n .before .before .before .before .before .before .joining in
     let r = n .before .before .before .before .before .common in
     let z = n .before .before .before .before .member in

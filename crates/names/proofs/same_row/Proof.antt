@@ -1,24 +1,23 @@
--- `names::same_row` meets its contract. The loop's invariant: the cells passed are equal. Assumes nothing.
-use Prim.Native.Nat.{ℕ, _+_, _-_, _≤_, _<_}
-use mathlib.Core.Path.{_≡_, refl, sym}
+-- `names::same_row` meets its contract: the cells passed are the same, `SameUpTo`. Assumes nothing.
+use Prim.Native.Nat.{_-_}
+use mathlib.Core.Path.{refl, sym, _∙_}
+use mathlib.Core.Bool.{false≢true}
 use native.Mathlib.Omega.{arith}
 use denote.Ref.{now}
-use borrow.Author.Count.{below-more}
-use lib.ListN.{getD}
-use Rattle.text.specs.ChoiceLaws.{true-is-not-false}
-use Rattle.names.specs.RowLaws.{rows-equal, cells-equal}
+use Rattle.text.specs.CellsLaws.{part-length, part-at, SameUpTo, same-none, same-more, same-all, same-cell}
+use Rattle.names.specs.Row.{row}
 use borrow.Author.Needs.{needs}
 use Rattle.names.proofs.same_row.Statement.{statement}
 use Rattle.names.proofs.same_row.Tie as tie
 
 abbrev Inv-loop : tie.InvT-loop
-Inv-loop rows a b i₀ i = (i ≤ 24) × ((k : ℕ) → k < i → getD rows (a + k) 0 ≡ getD rows (b + k) 0)
+Inv-loop rows a b i₀ i = SameUpTo rows a 24 (row rows b) i
 
 abbrev μ-loop : tie.MeasureT-loop
 μ-loop rows a b i₀ i = 24 - i
 
 loop-holds : tie.Need-loop-holds Inv-loop μ-loop
-loop-holds c = (omega arith, λ k h. absurd (omega arith))
+loop-holds c = same-none _ _ _ _
 
 add-if1 : tie.Need-add-if1 Inv-loop μ-loop
 add-if1 c = search needs
@@ -34,10 +33,10 @@ shared-slice-read-if1-2 c = search needs
 
 returns : tie.Need-returns Inv-loop μ-loop
 returns c =
-    let l = c .before .before .before .before .loop in
+    let i = c .before .before .before .before .loop .i in
     let a = c .before .before .before .before .before .args in (
-      λ e. absurd (true-is-not-false (sym e)),
-      λ e. absurd (c .if1 .taken (cells-equal (now (a .rows)) (a .a) (a .b) e (l .i) (omega arith))),
+      λ e. absurd (false≢true e),
+      λ e. absurd (c .if1 .taken (same-cell (now (a .rows)) (a .a) 24 (row (now (a .rows)) (a .b)) e i (omega arith) ∙ part-at (now (a .rows)) (a .b) 24 i (omega arith))),
     )
 
 add-i : tie.Need-add-i Inv-loop μ-loop
@@ -47,15 +46,15 @@ loop-less : tie.Need-loop-less Inv-loop μ-loop
 loop-less c = search needs
 
 loop-again : tie.Need-loop-again Inv-loop μ-loop
-loop-again c = (omega arith, below-more _ _ (c .before .before .before .before .loop .inv .1) (c .if1 .left))
+loop-again c =
+    let l = c .before .before .before .before .loop in
+    let a = c .before .before .before .before .before .args in
+    same-more (l .inv) (omega arith) (c .if1 .left ∙ sym (part-at (now (a .rows)) (a .b) 24 (l .i) (omega arith)))
 
 returns-2 : tie.Need-returns-2 Inv-loop μ-loop
 returns-2 c =
-    let l = c .before .loop in
-    let a = c .before .before .args in (
-      λ e. rows-equal (now (a .rows)) (a .a) (a .b) (omega arith) (omega arith) (λ k h. l .inv .1 k (omega arith)),
-      λ e. refl,
-    )
+    let a = c .before .before .args in
+    (λ e. same-all (c .before .loop .inv) (omega arith) (omega arith) (part-length (now (a .rows)) (a .b) 24 (omega arith)), λ e. refl)
 
 pub same-row-spec : {M : Type 1} → statement M
 same-row-spec =

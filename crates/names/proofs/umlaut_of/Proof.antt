@@ -1,52 +1,28 @@
--- `names::umlaut_of` meets its contract: the tests are those of `umlautOf`. Assumes nothing.
-use borrow.Author.Tests.{eq-eqb, ne-eqb}
+-- `names::umlaut_of` meets its contract: of each letter that is asked, `umlautOf` is known. Assumes nothing.
+use borrow.Author.Tests.{ne-eqb}
 use Rattle.names.specs.Name.{umlautOf}
 use Rattle.names.proofs.umlaut_of.Statement.{statement}
 use Rattle.names.proofs.umlaut_of.Tie as tie
 
 returns : tie.Need-returns
 unfolding umlautOf
-returns c =
-    simp (
-    eq-eqb _ _ (c .if1 .taken))
+returns c = rw (c .if1 .taken)
 
 returns-2 : tie.Need-returns-2
 unfolding umlautOf
-returns-2 c =
-    simp (
-      ne-eqb _ _ (c .before .if1 .left),
-      eq-eqb _ _ (c .if2 .taken),
-    )
+returns-2 c = rw (c .if2 .taken)
 
 returns-3 : tie.Need-returns-3
 unfolding umlautOf
-returns-3 c =
-    simp (
-      ne-eqb _ _ (c .before .before .if1 .left),
-      ne-eqb _ _ (c .before .if2 .left),
-      eq-eqb _ _ (c .if3 .taken),
-    )
+returns-3 c = rw (c .if3 .taken)
 
 returns-4 : tie.Need-returns-4
 unfolding umlautOf
-returns-4 c =
-    simp (
-      ne-eqb _ _ (c .before .before .before .if1 .left),
-      ne-eqb _ _ (c .before .before .if2 .left),
-      ne-eqb _ _ (c .before .if3 .left),
-      eq-eqb _ _ (c .if4 .taken),
-    )
+returns-4 c = rw (c .if4 .taken)
 
 returns-5 : tie.Need-returns-5
 unfolding umlautOf
-returns-5 c =
-    simp (
-      ne-eqb _ _ (c .before .before .before .before .if1 .left),
-      ne-eqb _ _ (c .before .before .before .if2 .left),
-      ne-eqb _ _ (c .before .before .if3 .left),
-      ne-eqb _ _ (c .before .if4 .left),
-      eq-eqb _ _ (c .if5 .taken),
-    )
+returns-5 c = rw (c .if5 .taken)
 
 returns-6 : tie.Need-returns-6
 unfolding umlautOf

@@ -1,23 +1,20 @@
--- The cells passed are the same. Assumes nothing.
-use Prim.Native.Nat.{ℕ, _+_, _-_, _≤_, _<_}
-use mathlib.Core.Path.{_≡_, sym}
+-- The cells passed are the same: `SameUpTo`. Assumes nothing.
+use Prim.Native.Nat.{_-_}
 use native.Mathlib.Omega.{arith}
-use borrow.Author.Count.{below-more}
-use lib.ListN.{getD}
 use Rattle.gate.specs.GateLaws.{decides-yes, decides-no}
-use Rattle.rows.specs.RowLaws.{part-is, part-not}
+use Rattle.text.specs.CellsLaws.{SameUpTo, same-none, same-more, same-all, same-cell}
 use borrow.Author.Needs.{needs}
 use Rattle.rows.proofs.same.Statement.{statement}
 use Rattle.rows.proofs.same.Tie as tie
 
 abbrev Inv-loop : tie.InvT-loop
-Inv-loop table at row i₀ i = (i ≤ 17) × ((j : ℕ) → j < i → getD row j 0 ≡ getD table (at + j) 0)
+Inv-loop table at row i₀ i = SameUpTo table at 17 row i
 
 abbrev μ-loop : tie.MeasureT-loop
 μ-loop table at row i₀ i = 17 - i
 
 loop-holds : tie.Need-loop-holds Inv-loop μ-loop
-loop-holds c = search needs
+loop-holds c = same-none _ _ _ _
 
 add-if1 : tie.Need-add-if1 Inv-loop μ-loop
 add-if1 c = search needs
@@ -36,9 +33,9 @@ shared-slice-read-if1-2 c = search needs
 
 returns : tie.Need-returns Inv-loop μ-loop
 returns c =
-    let a = c .before .before .before .before .before .args in
     let i = c .before .before .before .before .loop .i in
-    decides-no (part-not (a .table .now) (a .at) (a .row .now) i (omega arith) (c .if1 .taken))
+    let a = c .before .before .before .before .before .args in
+    decides-no (λ e. c .if1 .taken (same-cell (a .table .now) (a .at) 17 (a .row .now) e i (omega arith)))
 
 add-i : tie.Need-add-i Inv-loop μ-loop
 add-i c = search needs
@@ -47,15 +44,10 @@ loop-less : tie.Need-loop-less Inv-loop μ-loop
 loop-less c = search needs
 
 loop-again : tie.Need-loop-again Inv-loop μ-loop
-loop-again c =
-    let l = c .before .before .before .before .loop in
-    (omega arith, below-more _ (l .i) (l .inv .1) (sym (c .if1 .left)))
+loop-again c = same-more (c .before .before .before .before .loop .inv) (omega arith) (c .if1 .left)
 
 returns-2 : tie.Need-returns-2 Inv-loop μ-loop
-returns-2 c =
-    let l = c .before .loop in
-    let a = c .before .before .args in
-    decides-yes (part-is (a .table .now) (a .at) (a .row .now) (omega arith) (omega arith) (λ j h. l .inv .1 j (omega arith)))
+returns-2 c = decides-yes (same-all (c .before .loop .inv) (omega arith) (omega arith) (omega arith))
 
 pub same-spec : {M : Type 1} → statement M
 same-spec =

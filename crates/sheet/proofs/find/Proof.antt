@@ -1,12 +1,12 @@
 -- The file is refused, or read and the name looked up in the rows of its letters. Assumes nothing.
 use mathlib.Core.Path.{_≡_, refl, sym, _∙_}
+use mathlib.Core.Bool.{true≢false}
 use mathlib.Core.List.{map}
 use mathlib.Core.Logic._⊎_.{inl, inr}
 use native.Mathlib.Omega.{arith}
 use borrow.Author.Tests.{not-true, not-false}
 use denote.Ref.{now}
 use lib.ListN.{length}
-use Rattle.text.specs.ChoiceLaws.{true-is-not-false}
 use Rattle.names.specs.Name.{IsName, compose}
 use Rattle.parser.specs.Rows.{FirstName}
 use Rattle.sheet.specs.Answers.{LettersOf}
@@ -55,7 +55,7 @@ returns c =
       h .sheet,
       h .file,
       no-name h (now (c .before .before .before .before .before .before .before .before .before .before .args .name))
-          (λ is. true-is-not-false (sym (c .before .is-name .ensures .1 is) ∙ not-true _ (c .if1 .taken))),
+          (λ is. true≢false (sym (c .before .is-name .ensures .1 is) ∙ not-true _ (c .if1 .taken))),
       refl,
     )
 

@@ -1,84 +1,86 @@
 -- `text::number_of` meets its contract: the value is `valueOf`'s, and each test compares with its writing. Assumes nothing.
+use Rattle.text.specs.Choice.{choose}
 use Rattle.text.specs.Column.{digitByte}
 use Rattle.text.specs.Number.{valueOf, numberOf}
 use Rattle.text.specs.ChoiceLaws.{eqb-yes, eqb-no}
-use native.Mathlib.Omega.{arith}
-use Prim.Native.Nat.{_+_, _*_}
-use mathlib.Core.Path.{_≡_, _∙_, ap}
+use Rattle.text.specs.declared.Number.{Number}
+use Rattle.text.specs.declared.Number.the-variants.{Is, Bad}
+use Prim.Native.Nat.{ℕ, _+_, _*_}
+use mathlib.Core.Path.{_≡_}
+use lib.Dec.{eqb}
 use borrow.Author.Needs.{needs}
 use Rattle.text.proofs.number_of.Statement.{statement}
 use Rattle.text.proofs.number_of.Tie as tie
 
-value :
-    (c : tie.After-digit3) →
-    c .before .before .digit .result * 100 + c .before .digit2 .result * 10 + c .digit3 .result ≡
-    valueOf (c .before .before .before .args .a) (c .before .before .before .args .b) (c .before .before .before .args .c)
-unfolding valueOf
-value c = cc
+-- the number of the three bytes, and their value
+abbrev number : tie.After-digit3 → Number
+number c = let x = c .before .before .before .args in numberOf (x .a) (x .b) (x .c)
+
+abbrev value : tie.After-digit3 → ℕ
+value c = c .before .before .digit .result * 100 + c .before .digit2 .result * 10 + c .digit3 .result
+
+-- what is asked from each test on
+abbrev ones : tie.After-digit3 → Number
+ones c = choose (eqb (c .before .before .before .args .c) (digitByte 0 (value c))) (Is (value c)) Bad
+
+abbrev tens : tie.After-digit3 → Number
+tens c = choose (eqb (c .before .before .before .args .b) (digitByte 1 (value c))) (ones c) Bad
+
+abbrev hundreds : tie.After-digit3 → Number
+hundreds c = choose (eqb (c .before .before .before .args .a) (digitByte 2 (value c))) (tens c) Bad
+
+-- at each test, what is left to ask gives the number
+left1 : (c : tie.After-digit3) → hundreds c ≡ number c
+unfolding numberOf valueOf
+left1 c = cc
+
+left2 : (c : tie.Else1) → tens (c .before .before) ≡ number (c .before .before)
+left2 c = simp (eqb-yes (c .if1 .left) (c .before .digit-byte .ensures)) at (left1 (c .before .before))
+
+left3 : (c : tie.Else2) → ones (c .before .before .before .before) ≡ number (c .before .before .before .before)
+left3 c = simp (eqb-yes (c .if2 .left) (c .before .digit-byte2 .ensures)) at (left2 (c .before .before))
 
 digit-requires : tie.Need-digit-requires
 digit-requires c κs = search needs
 
 mul-v : tie.Need-mul-v
-mul-v c = omega arith
+mul-v c = search needs
 
 digit-requires-2 : tie.Need-digit-requires-2
 digit-requires-2 c κs = search needs
 
 mul-v-2 : tie.Need-mul-v-2
-mul-v-2 c = omega arith
+mul-v-2 c = search needs
 
 add-v : tie.Need-add-v
-add-v c = omega arith
+add-v c = search needs
 
 digit-requires-3 : tie.Need-digit-requires-3
 digit-requires-3 c κs = search needs
 
 add-v-2 : tie.Need-add-v-2
-add-v-2 c = omega arith
+add-v-2 c = search needs
 
 digit-byte-requires : tie.Need-digit-byte-requires
 digit-byte-requires c κs = search needs
 
 returns : tie.Need-returns
-unfolding numberOf
-returns c = simp (eqb-no (c .if1 .taken) (c .before .digit-byte .ensures ∙ ap (digitByte 2) (value (c .before .before))))
+returns c = simp (eqb-no (c .if1 .taken) (c .before .digit-byte .ensures)) at (left1 (c .before .before))
 
 digit-byte-requires-2 : tie.Need-digit-byte-requires-2
 digit-byte-requires-2 c κs = search needs
 
 returns-2 : tie.Need-returns-2
-unfolding numberOf
-returns-2 c =
-    let v = value (c .before .before .before .before) in
-    simp (
-      eqb-yes (c .before .before .if1 .left) (c .before .before .before .digit-byte .ensures ∙ ap (digitByte 2) v),
-      eqb-no (c .if2 .taken) (c .before .digit-byte2 .ensures ∙ ap (digitByte 1) v),
-    )
+returns-2 c = simp (eqb-no (c .if2 .taken) (c .before .digit-byte2 .ensures)) at (left2 (c .before .before))
 
 digit-byte-requires-3 : tie.Need-digit-byte-requires-3
 digit-byte-requires-3 c κs = search needs
 
 returns-3 : tie.Need-returns-3
-unfolding numberOf
-returns-3 c =
-    let v = value (c .before .before .before .before .before .before) in
-    simp (
-      eqb-yes (c .before .before .before .before .if1 .left) (c .before .before .before .before .before .digit-byte .ensures ∙ ap (digitByte 2) v),
-      eqb-yes (c .before .before .if2 .left) (c .before .before .before .digit-byte2 .ensures ∙ ap (digitByte 1) v),
-      eqb-no (c .if3 .taken) (c .before .digit-byte3 .ensures ∙ ap (digitByte 0) v),
-    )
+returns-3 c = simp (eqb-no (c .if3 .taken) (c .before .digit-byte3 .ensures)) at (left3 (c .before .before))
 
 returns-4 : tie.Need-returns-4
-unfolding numberOf
-returns-4 c =
-    let v = value (c .before .before .before .before .before .before) in
-    simp (
-      eqb-yes (c .before .before .before .before .if1 .left) (c .before .before .before .before .before .digit-byte .ensures ∙ ap (digitByte 2) v),
-      eqb-yes (c .before .before .if2 .left) (c .before .before .before .digit-byte2 .ensures ∙ ap (digitByte 1) v),
-      eqb-yes (c .if3 .left) (c .before .digit-byte3 .ensures ∙ ap (digitByte 0) v),
-      v,
-    )
+returns-4 c = simp (eqb-yes (c .if3 .left) (c .before .digit-byte3 .ensures)) at (left3 (c .before .before))
 
 pub number-of-spec : {M : Type 1} → statement M
 number-of-spec =

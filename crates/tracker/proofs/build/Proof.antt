@@ -5,41 +5,32 @@ use native.Mathlib.Omega.{arith}
 use lib.ListN.{replicate}
 use lib.Seq.{length-take-le}
 use Rattle.automaton.specs.Lent.{Tables, tables}
-use Rattle.gate.specs.Gate.{Decides}
 use Rattle.sheet.specs.Read.{Reads}
 use Rattle.sheet.specs.declared.Read.{Read}
 use Rattle.sheet.specs.declared.Read.the-variants.{Is}
 use Rattle.tracker.specs.Build.{store, Lent, Builds}
-use Rattle.tracker.specs.BuildLaws.{lent-decided, read-fits, file-refused, file-over, file-is}
+use Rattle.tracker.specs.BuildLaws.{lent-enough, lent-short, read-fits, file-refused, file-over, file-is}
 use borrow.Author.Needs.{needs}
 use Rattle.tracker.proofs.build.Statement.{statement}
 use Rattle.tracker.proofs.build.Tie as tie
 
--- what is handed over
-abbrev witness : tie.Start → Tables
-witness c = tables (c .args .word .now) (c .args .one .now) (c .args .other .now)
-
-abbrev Long-enough : tie.Start → Type 0
-Long-enough c = Lent (c .args .room) (c .args .table .now) (witness c) (store (c .args .tuples .now) (c .args .nexts .now))
-
--- the start, from behind question 1 and from behind reading
-abbrev start : tie.After-enough → tie.Start
-start c = c .before .before .before .before .before .before .before .before
-
+-- the start, from behind reading, and what is handed over
 abbrev begun : tie.After-read-sheet → tie.Start
-begun c = start (c .before .before .before .before .before .before)
+begun c = c .before .before .before .before .before .before .before .before .before .before .before .before .before .before
 
-asked : (c : tie.After-enough) → Decides (c .enough .result) (Long-enough (start c))
-asked c = lent-decided (c .enough .ensures)
+abbrev witness : tie.After-read-sheet → Tables
+witness c = let a = begun c .args in tables (a .word .now) (a .one .now) (a .other .now)
 
-lent : (c : tie.After-read-sheet) → Long-enough (begun c)
-lent c = let granted = c .before .before .before .before .before in asked (granted .before) .0 (granted .if1 .taken)
+lent : (c : tie.After-read-sheet) →
+    let a = begun c .args in
+    Lent (a .room) (a .table .now) (witness c) (store (a .tuples .now) (a .nexts .now))
+lent c = let granted = c .before .before .before .before .before in lent-enough (granted .before .enough .ensures) (granted .if1 .taken)
 
 abbrev left : tie.After-read-sheet → Tables
 left c = let w = c .read-sheet .last .1 .1 in tables (w .0) (w .1 .0) (w .1 .1 .0)
 
 abbrev Read-as : tie.After-read-sheet → Read → Type 0
-Read-as c x = Reads (begun c .args .sheet .now) (begun c .args .table .now) (c .read-sheet .last .1 .0) (witness (begun c)) (left c) x
+Read-as c x = Reads (begun c .args .sheet .now) (begun c .args .table .now) (c .read-sheet .last .1 .0) (witness c) (left c) x
 
 -- an accepted sheet
 abbrev behind : tie.After-a → tie.After-read-sheet
@@ -164,7 +155,7 @@ returns-3 c =
     rw (c .enum-told2 .given .1) (file-is (lent (behind told)) (accepted told) (rw (c .enum-told2 .given .1) at (tracked .track .ensures)))
 
 returns-4 : tie.Need-returns-4
-returns-4 c = Builds.short (asked (c .before) .1 (c .if1 .left)) refl refl refl refl
+returns-4 c = Builds.short (lent-short (c .before .enough .ensures) (c .if1 .left)) refl refl refl refl
 
 pub build-spec : {M : Type 1} → statement M
 build-spec =

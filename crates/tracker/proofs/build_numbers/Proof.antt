@@ -1,46 +1,40 @@
 -- Each answer is that of the questions on the way to it. Assumes nothing.
-use mathlib.Core.Path.{refl}
-use Rattle.automaton.specs.Automaton.{Automaton, automaton}
+use mathlib.Core.Path.{refl, subst}
+use Rattle.automaton.specs.Automaton.{automaton}
 use Rattle.automaton.specs.Lent.{Tables, tables}
-use Rattle.gate.specs.Gate.{Decides}
 use Rattle.walks.specs.Check.{Checks}
 use Rattle.walks.specs.declared.Checked.{Checked}
 use Rattle.walks.specs.declared.Checked.the-variants.{Free}
 use Rattle.tracker.specs.Build.{store, Lent, BuildsNumbers}
-use Rattle.tracker.specs.BuildLaws.{lent-decided, numbers-refused}
+use Rattle.tracker.specs.BuildLaws.{lent-enough, lent-short, numbers-refused}
 use borrow.Author.Needs.{needs}
 use Rattle.tracker.proofs.build_numbers.Statement.{statement}
 use Rattle.tracker.proofs.build_numbers.Tie as tie
 
--- what is handed over
-abbrev sheet : tie.Start → Automaton
-sheet c = automaton (c .args .a) (c .args .table .now)
-
-abbrev witness : tie.Start → Tables
-witness c = tables (c .args .word .now) (c .args .one .now) (c .args .other .now)
-
-abbrev Long-enough : tie.Start → Type 0
-Long-enough c = Lent (c .args .room) (c .args .table .now) (witness c) (store (c .args .tuples .now) (c .args .nexts .now))
-
--- the start, from behind question 1 and from behind the check
-abbrev start : tie.After-enough → tie.Start
-start c = c .before .before .before .before .before .before .before
-
+-- the start, from behind the check, and what is handed over
 abbrev begun : tie.After-check → tie.Start
-begun c = start (c .before .before .before .before .before)
+begun c = c .before .before .before .before .before .before .before .before .before .before .before .before
 
-asked : (c : tie.After-enough) → Decides (c .enough .result) (Long-enough (start c))
-asked c = lent-decided (c .enough .ensures)
+abbrev witness : tie.After-check → Tables
+witness c = let a = begun c .args in tables (a .word .now) (a .one .now) (a .other .now)
 
-lent : (c : tie.After-check) → Long-enough (begun c)
-lent c = let granted = c .before .before .before .before in asked (granted .before) .0 (granted .if1 .taken)
+lent : (c : tie.After-check) →
+    let a = begun c .args in
+    Lent (a .room) (a .table .now) (witness c) (store (a .tuples .now) (a .nexts .now))
+lent c = let granted = c .before .before .before .before in lent-enough (granted .before .enough .ensures) (granted .if1 .taken)
 
 abbrev Checked-as : tie.After-check → Checked → Type 0
-Checked-as c x = let w = c .check .last .1 .1 in Checks (sheet (begun c)) (witness (begun c)) (tables (w .0) (w .1 .0) (w .1 .1 .0)) x
+Checked-as c x =
+    let a = begun c .args in
+    let w = c .check .last .1 .1 in
+    Checks (automaton (a .a) (a .table .now)) (witness c) (tables (w .0) (w .1 .0) (w .1 .1 .0)) x
 
 -- an accepted sheet
-accepted : (c : tie.After-enum-told) → Checked-as (c .before .before .before .before .before .before .before .before) Free
-accepted c = rw (c .enum-told .given .1) at (c .before .before .before .before .before .before .before .before .check .ensures)
+abbrev behind : tie.After-enum-told → tie.After-check
+behind c = c .before .before .before .before .before .before .before .before
+
+accepted : (c : tie.After-enum-told) → Checked-as (behind c) Free
+accepted c = subst (Checked-as (behind c)) (c .enum-told .given .1) (behind c .check .ensures)
 
 enough-requires : tie.Need-enough-requires
 enough-requires c κs = search needs
@@ -82,7 +76,7 @@ enum-told c = search needs
 track-requires : tie.Need-track-requires
 track-requires c κs =
     let told = c .before .before in
-    (accepted told .1, lent (told .before .before .before .before .before .before .before .before) .store)
+    (accepted told .1, lent (behind told) .store)
 
 same-length-6 : tie.Need-same-length-6
 same-length-6 c = search needs
@@ -104,10 +98,10 @@ returns-2 c =
     let tracked = c .before .before .before .before in
     let told = tracked .before .before .before in
     let (l, fits, free, cleared) = accepted told in
-    BuildsNumbers.asked (lent (told .before .before .before .before .before .before .before .before)) fits free cleared (tracked .track .ensures)
+    BuildsNumbers.asked (lent (behind told)) fits free cleared (tracked .track .ensures)
 
 returns-3 : tie.Need-returns-3
-returns-3 c = BuildsNumbers.short (asked (c .before) .1 (c .if1 .left)) refl refl refl
+returns-3 c = BuildsNumbers.short (lent-short (c .before .enough .ensures) (c .if1 .left)) refl refl refl
 
 pub build-numbers-spec : {M : Type 1} → statement M
 build-numbers-spec =

@@ -1,11 +1,11 @@
 -- Before each turn: the sets closed up so far, and what is removed from the places left. Assumes nothing.
-use Prim.Native.Nat.{_+_, _-_, _≤_}
-use mathlib.Core.Path.{_≡_, ap, _∙_}
-use mathlib.Core.Logic.{⊎-elim}
+use Prim.Native.Nat.{_+_, _-_, _≤_, _<_}
+use mathlib.Core.Path.{_≡_, _∙_}
+use mathlib.Core.Logic.{inl, inr, ⊎-elim}
 use native.Mathlib.Omega.{arith}
 use denote.Ref.{now}
 use lib.ListN.{length, length-set}
-use Rattle.tuple.specs.SweepLaws.{Sweeping, sweep-none, sweep-empty, sweep-full, sweep-end}
+use Rattle.tuple.specs.SweepLaws.{Sweeping, sweep-none, sweep-turn, sweep-length, sweep-end}
 use borrow.Author.Needs.{needs}
 use Rattle.tuple.proofs.sweep.Statement.{statement}
 use Rattle.tuple.proofs.sweep.Tie as tie
@@ -75,33 +75,22 @@ loop-less c = search needs
 
 loop-again : tie.Need-loop-again Inv-loop μ-loop
 loop-again c =
-    let g = c .before .before .before .before .before .before .before .before .before .before .before .before .before .args in
-    let l = c .before .before .before .before .before .before .before .before .before .loop in
+    let inside = c .before .before .before .before .before .before .before .before in
+    let start = inside .before .before .before .before .before in
+    let g = start .args in
+    let l = inside .before .loop in
+    let here : l .i < g .p + 1 = omega (arith, inside .loop-test .taken) in
     let left = c .before .before .before .before .before .before .minus in
     let tested = c .before .before .before .before .is-marked in
+    let place = c .before .before .before .colour-at in
     let least = c .before .before .least in
     let out = c .before .out-of in
-    let x = left .result in
-    let pre = c .before .before .before .before .before .before .before .before .before .before .before .before .before .pre in
-    let long : g .p + 1 ≤ length (now (g .w)) = omega (arith, pre .1, pre .2) in
-    let unions = pre .4 (l .i) (omega arith) in
-    let place = c .before .before .before .colour-at in
-    ⊎-elim
-    (λ t. (
-      omega arith,
-      omega arith,
-      ap length (t .1) ∙ simp length-set (l .inv .2),
-      sweep-full (g .n) (g .p) (g .p + 1) (now (g .w)) long (l .inv .3) x (least .result .0) (out .result) _ (place .result .0)
-          (tested .result) (omega arith) (left .ensures) unions (tested .ensures) (place .ensures) (least .ensures) (out .ensures) (t .0 .taken) (t .1) (t .2),
-    ))
-    (λ t. (
-      omega arith,
-      omega arith,
-      ap length (t .1) ∙ simp length-set (l .inv .2),
-      sweep-empty (g .n) (g .p) (g .p + 1) (now (g .w)) long (l .inv .3) x (least .result .0) (out .result) _ (place .result .0)
-          (tested .result) (omega arith) (left .ensures) unions (tested .ensures) (place .ensures) (least .ensures) (out .ensures) (t .0 .left) (t .1) (t .2),
-    ))
-    (c .if1 .came)
+    let long : g .p + 1 ≤ length (now (g .w)) = omega (arith, start .pre .1, start .pre .2) in
+    let turned : Sweeping (g .n) (g .p) (g .p + 1) (now (g .w)) (c .if1 .w) (least .result .0) (out .result) (c .if1 .j) (l .i + 1) =
+    sweep-turn (g .n) (g .p) (g .p + 1) (now (g .w)) long (l .inv .3) (left .result) (least .result .0) (out .result) _ (place .result .0)
+    (tested .result) here (left .ensures) (start .pre .4 (l .i) here) (tested .ensures) (place .ensures) (least .ensures) (out .ensures)
+    (⊎-elim (λ t. inl (t .0 .taken, t .1, t .2)) (λ t. inr (t .0 .left, t .1, t .2)) (c .if1 .came)) in
+    (omega arith, omega (arith, turned .passed), sweep-length (g .n) (g .p) (g .p + 1) (now (g .w)) long turned (omega arith) ∙ start .pre .2, turned)
 
 same-length : tie.Need-same-length Inv-loop μ-loop
 same-length c = search needs

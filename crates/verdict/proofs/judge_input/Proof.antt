@@ -50,11 +50,8 @@ print-requires c κs = search needs
 enum-known-r : tie.Need-enum-known-r
 enum-known-r c = search needs
 
-refusal-line-requires : tie.Need-refusal-line-requires
-refusal-line-requires c κs = search needs
-
-say-requires : tie.Need-say-requires
-say-requires c κs = search needs
+say-refusal-requires : tie.Need-say-refusal-requires
+say-refusal-requires c κs = search needs
 
 returns : tie.Need-returns
 returns c = search needs
@@ -81,7 +78,6 @@ judge-input-spec =
     enum-known-v
     print-requires
     enum-known-r
-    refusal-line-requires
-    say-requires
+    say-refusal-requires
     returns
     returns-2)

@@ -1,12 +1,24 @@
 -- The questions in their order; each answer is what its call ensures. Assumes nothing.
 use mathlib.Core.Path.{refl}
 use mathlib.Core.Logic.{inl}
-use Rattle.automaton.specs.Automaton.{automaton}
-use Rattle.automaton.specs.Lent.{tables}
+use Rattle.automaton.specs.Automaton.{automaton, Fits}
 use Rattle.walks.specs.CheckLaws.{judge-free, judge-meets}
 use borrow.Author.Needs.{needs}
 use Rattle.walks.proofs.judge.Statement.{statement}
 use Rattle.walks.proofs.judge.Tie as tie
+
+-- behind questions 4, 7 and 8 the numbers fit
+abbrev start : tie.Else1 → tie.Start
+start c = c .before .before .before .before .before .before
+
+fits : (c : tie.Else1) →
+    let a = start c .args in
+    Fits (automaton (a .a) (a .table .now))
+fits c = c .before .first-no .ensures .0 (c .if1 .left)
+
+-- question 10, from behind its tables
+abbrev asked : tie.After-slice-known6 → tie.After-ask
+asked c = c .before .before .before .before .before .before
 
 first-no-requires : tie.Need-first-no-requires
 first-no-requires c κs = search needs
@@ -18,8 +30,9 @@ returns c =
 
 ask-requires : tie.Need-ask-requires
 ask-requires c κs =
-    let p = c .before .before .before .before .before .before .before .before .before .pre in
-    record { fits = c .before .before .before .before .first-no .ensures .0 (c .before .before .before .if1 .left); cells = p .0 .cells; long = p .0 .long; zero-word = p .1; zero-one = p .2; zero-other = p .3 }
+    let passed = c .before .before .before in
+    let p = start passed .pre in
+    record { fits = fits passed; cells = p .0 .cells; long = p .0 .long; zero-word = p .1; zero-one = p .2; zero-other = p .3 }
 
 same-length : tie.Need-same-length
 same-length c = search needs
@@ -32,11 +45,8 @@ same-length-3 c = search needs
 
 returns-2 : tie.Need-returns-2
 returns-2 c =
-    let a = c .before .before .before .before .before .before .before .before .before .before .before .before .before .before .before .before .before .args in
-    let g = c .before .before .before .before .before .before .before .ask in
-    let fits = c .before .before .before .before .before .before .before .before .before .before .before .before .first-no .ensures .0 (c .before .before .before .before .before .before .before .before .before .before .before .if1 .left) in
-    judge-free (automaton (a .a) (a .table .now)) (tables (a .word .now) (a .one .now) (a .other .now))
-    (tables (g .last .1 .1 .0) (g .last .1 .1 .1 .0) (g .last .1 .1 .1 .1 .0)) (g .result) fits (g .ensures) (c .if2 .taken)
+    let g = asked (c .before) in
+    judge-free (fits (g .before .before .before .before)) (g .ask .ensures) (c .if2 .taken)
 
 same-length-4 : tie.Need-same-length-4
 same-length-4 c = search needs
@@ -49,11 +59,8 @@ same-length-6 c = search needs
 
 returns-3 : tie.Need-returns-3
 returns-3 c =
-    let a = c .before .before .before .before .before .before .before .before .before .before .before .before .before .before .before .before .before .args in
-    let g = c .before .before .before .before .before .before .before .ask in
-    let fits = c .before .before .before .before .before .before .before .before .before .before .before .before .first-no .ensures .0 (c .before .before .before .before .before .before .before .before .before .before .before .if1 .left) in
-    judge-meets (automaton (a .a) (a .table .now)) (tables (a .word .now) (a .one .now) (a .other .now))
-    (tables (g .last .1 .1 .0) (g .last .1 .1 .1 .0) (g .last .1 .1 .1 .1 .0)) (g .result) fits (g .ensures) (c .if2 .left)
+    let g = asked (c .before) in
+    judge-meets (fits (g .before .before .before .before)) (g .ask .ensures) (c .if2 .left)
 
 pub judge-spec : {M : Type 1} → statement M
 judge-spec =

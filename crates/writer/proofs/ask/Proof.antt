@@ -1,16 +1,23 @@
 -- `writer::ask` meets its contract: what reading the names' file answers is handed on, and then what the check of the numbers answers.
 -- Assumes nothing.
-use mathlib.Core.Path.{refl}
+use mathlib.Core.Path.{refl, subst}
 use mathlib.Core.Logic.{inl}
 use native.Mathlib.Omega.{arith}
 use denote.Ref.{now}
-use lib.ListN.{replicate}
 use Rattle.automaton.specs.Automaton.{automaton}
 use Rattle.automaton.specs.Lent.{tables}
+use Rattle.sheet.specs.Read.{Reads}
 use Rattle.writer.specs.WriteLaws.{ask-names, ask-letters, ask-numbers}
 use borrow.Author.Needs.{needs}
 use Rattle.writer.proofs.ask.Statement.{statement}
 use Rattle.writer.proofs.ask.Tie as tie
+
+-- the names' file is read, behind question 1 of the numbers' table
+abbrev reading : tie.After-slice-known6 → tie.After-read-sheet
+reading c = c .before .before .before .before .before .before .before
+
+abbrev long : tie.After-slice-known6 → tie.Else1
+long c = reading c .before .before .before .before .before
 
 returns : tie.Need-returns
 returns c = inl ((λ l. let h = l .cells in omega arith), refl, refl)
@@ -39,8 +46,7 @@ same-length-3 c = search needs
 returns-2 : tie.Need-returns-2
 returns-2 c =
     let told = c .before .before .before .before in
-    let long = told .before .before .before .before .before .before .before .before .before .before .before .before .before .before .if1 .left in
-    ask-letters (replicate 128 0) refl long (rw (told .b .given .1) at (told .before .before .before .before .before .before .before .before .before .read-sheet .ensures))
+    ask-letters (long (told .before .before) .if1 .left) (subst (Reads _ _ _ _ _) (told .b .given .1) (reading (told .before .before) .read-sheet .ensures))
     (c .if2 .taken) refl
 
 check-requires : tie.Need-check-requires
@@ -58,8 +64,7 @@ same-length-6 c = search needs
 returns-3 : tie.Need-returns-3
 returns-3 c =
     let told = c .before in
-    let long = told .before .before .before .before .before .before .before .before .before .before .before .before .before .before .if1 .left in
-    ask-names (replicate 128 0) refl long (rw (told .r .given .1) at (told .before .before .before .before .before .before .before .before .before .read-sheet .ensures))
+    ask-names (long (told .before .before) .if1 .left) (subst (Reads _ _ _ _ _) (told .r .given .1) (reading (told .before .before) .read-sheet .ensures))
 
 same-length-7 : tie.Need-same-length-7
 same-length-7 c = search needs
@@ -74,10 +79,9 @@ returns-4 : tie.Need-returns-4
 returns-4 c =
     let check = c .before .before .before .before .before .before .check in
     let told = c .before .before .before .before .before .before .before .before .before .before .before .before .before .before in
-    let long = told .before .before .before .before .before .before .before .before .before .before .before .before .before .before in
-    let a = long .before .before .before .before .before .before .args in
-    ask-numbers (replicate 128 0) refl (automaton (a .a) (now (a .table))) (long .if1 .left)
-    (rw (told .b .given .1) at (told .before .before .before .before .before .before .before .before .before .read-sheet .ensures))
+    let a = long (told .before .before) .before .before .before .before .before .before .args in
+    ask-numbers (automaton (a .a) (now (a .table))) (long (told .before .before) .if1 .left)
+    (subst (Reads _ _ _ _ _) (told .b .given .1) (reading (told .before .before) .read-sheet .ensures))
     (c .before .before .before .before .before .before .before .before .before .before .if2 .left)
     (tables (check .last .1 .1 .0) (check .last .1 .1 .1 .0) (check .last .1 .1 .1 .1 .0)) (check .result) (check .ensures)
 

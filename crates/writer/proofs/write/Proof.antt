@@ -1,10 +1,14 @@
 -- `writer::write` meets its contract: what reading answers is handed on, and then the last question's answer. Assumes nothing.
-use mathlib.Core.Path.{refl}
-use lib.ListN.{replicate}
+use mathlib.Core.Path.{subst}
+use Rattle.sheet.specs.Read.{Reads}
 use Rattle.writer.specs.WriteLaws.{write-refused, write-asks, write-finishes}
 use borrow.Author.Needs.{needs}
 use Rattle.writer.proofs.write.Statement.{statement}
 use Rattle.writer.proofs.write.Tie as tie
+
+-- the file is read
+abbrev reading : tie.After-slice-known7 → tie.After-read-sheet
+reading c = c .before .before .before .before .before .before .before
 
 slice-aggregate-read-sheet : tie.Need-slice-aggregate-read-sheet
 slice-aggregate-read-sheet c = search needs
@@ -27,7 +31,7 @@ slice-aggregate-finish c = search needs
 finish-requires : tie.Need-finish-requires
 finish-requires c κs =
     let told = c .before .before .before in
-    write-asks (replicate 128 0) refl (rw (told .a .given .1) at (told .before .before .before .before .before .before .before .before .before .read-sheet .ensures))
+    write-asks (subst (Reads _ _ _ _ _) (told .a .given .1) (reading (told .before .before) .read-sheet .ensures))
 
 same-length : tie.Need-same-length
 same-length c = search needs
@@ -44,7 +48,7 @@ same-length-4 c = search needs
 returns : tie.Need-returns
 returns c =
     let told = c .before .before .before .before .before in
-    write-refused (replicate 128 0) refl (rw (told .r .given .1) at (told .before .before .before .before .before .before .before .before .before .read-sheet .ensures))
+    write-refused (subst (Reads _ _ _ _ _) (told .r .given .1) (reading (told .before .before) .read-sheet .ensures))
     (c .before .before .refuse .ensures)
 
 same-length-5 : tie.Need-same-length-5
@@ -62,7 +66,7 @@ same-length-8 c = search needs
 returns-2 : tie.Need-returns-2
 returns-2 c =
     let told = c .before .before .before .before .before .before in
-    write-finishes (replicate 128 0) refl (rw (told .a .given .1) at (told .before .before .before .before .before .before .before .before .before .read-sheet .ensures))
+    write-finishes (subst (Reads _ _ _ _ _) (told .a .given .1) (reading (told .before .before) .read-sheet .ensures))
     (c .before .before .finish .ensures)
 
 pub write-spec : {M : Type 1} → statement M

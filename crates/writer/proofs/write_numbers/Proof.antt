@@ -1,8 +1,14 @@
 -- `writer::write_numbers` meets its contract: what the questions answer is handed on, and then the last one's answer. Assumes nothing.
+use mathlib.Core.Path.{subst}
+use Rattle.writer.specs.Text.{Asks}
 use Rattle.writer.specs.WriteLaws.{writable, numbers-refused, numbers-finishes}
 use borrow.Author.Needs.{needs}
 use Rattle.writer.proofs.write_numbers.Statement.{statement}
 use Rattle.writer.proofs.write_numbers.Tie as tie
+
+-- the questions are asked
+abbrev asking : tie.After-slice-known7 → tie.After-ask
+asking c = c .before .before .before .before .before .before
 
 ask-requires : tie.Need-ask-requires
 ask-requires c κs = search needs
@@ -19,7 +25,7 @@ enum-told c = search needs
 finish-requires : tie.Need-finish-requires
 finish-requires c κs =
     let told = c .before in
-    let asks = rw (told .enum-told .given .1) at (told .before .before .before .before .before .before .before .before .ask .ensures) in
+    let asks = subst (Asks _ _ _ _) (told .enum-told .given .1) (asking (told .before .before) .ask .ensures) in
     writable (asks .1 .1 .fits) (asks .0 .cells)
 
 same-length : tie.Need-same-length
@@ -37,7 +43,7 @@ same-length-4 c = search needs
 returns : tie.Need-returns
 returns c =
     let told = c .before .before .before .before .before in
-    numbers-refused (rw (told .r .given .1) at (told .before .before .before .before .before .before .before .before .ask .ensures))
+    numbers-refused (subst (Asks _ _ _ _) (told .r .given .1) (asking (told .before .before) .ask .ensures))
     (c .before .before .refuse .ensures)
 
 same-length-5 : tie.Need-same-length-5
@@ -55,7 +61,7 @@ same-length-8 c = search needs
 returns-2 : tie.Need-returns-2
 returns-2 c =
     let told = c .before .before .before .before in
-    numbers-finishes (rw (told .enum-told .given .1) at (told .before .before .before .before .before .before .before .before .ask .ensures))
+    numbers-finishes (subst (Asks _ _ _ _) (told .enum-told .given .1) (asking (told .before .before) .ask .ensures))
     (c .before .before .finish .ensures)
 
 pub write-numbers-spec : {M : Type 1} → statement M

@@ -3,21 +3,12 @@ use mathlib.Core.Path.{refl}
 use mathlib.Core.Logic.{inl, inr}
 use Rattle.automaton.specs.LentLaws.{tables-cleared}
 use Rattle.automaton.specs.Lent.{tables}
-use Rattle.gate.specs.Gate.{Decides}
-use Rattle.tracker.specs.Build.{store, Lent}
-use Rattle.tracker.specs.BuildLaws.{lent-decided}
+use Rattle.tracker.specs.Build.{store}
+use Rattle.tracker.specs.BuildLaws.{lent-enough, lent-short}
 use Rattle.judge.specs.VerdictLaws.{store-cleared}
 use borrow.Author.Needs.{needs}
 use Rattle.judge.proofs.files.too_long.Statement.{statement}
 use Rattle.judge.proofs.files.too_long.Tie as tie
-
-abbrev start : tie.After-enough → tie.Start
-start c = c .before .before .before .before .before .before .before
-
-asked : (c : tie.After-enough)
-    → let a = start c .args in
-    Decides (c .enough .result) (Lent (a .room) (a .table .now) (tables (a .word .now) (a .one .now) (a .other .now)) (store (a .tuples .now) (a .nexts .now)))
-asked c = lent-decided (c .enough .ensures)
 
 enough-requires : tie.Need-enough-requires
 enough-requires c κs = search needs
@@ -67,9 +58,9 @@ returns c =
     let second = third .before .before .before .before in
     let first = second .before .before .before .before in
     let granted = first .before .before in
-    let a = start (granted .before) .args in
+    let a = granted .before .before .before .before .before .before .before .before .args in
     inr (
-      asked (granted .before) .0 (granted .if1 .taken),
+      lent-enough (granted .before .enough .ensures) (granted .if1 .taken),
       refl,
       first .clear .ensures,
       tables-cleared (tables (a .word .now) (a .one .now) (a .other .now)) (fourth .clear4 .ensures) (fifth .clear5 .ensures) (sixth .clear6 .ensures),
@@ -77,7 +68,7 @@ returns c =
     )
 
 returns-2 : tie.Need-returns-2
-returns-2 c = inl (asked (c .before) .1 (c .if1 .left), refl, refl, refl, refl)
+returns-2 c = inl (lent-short (c .before .enough .ensures) (c .if1 .left), refl, refl, refl, refl)
 
 pub too-long-spec : {M : Type 1} → statement M
 too-long-spec =

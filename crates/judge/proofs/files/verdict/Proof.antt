@@ -1,39 +1,20 @@
 -- Each exit is a case of the contract, by the laws of its parts. Assumes nothing.
-use mathlib.Core.Path.{subst}
 use native.Mathlib.Omega.{arith}
-use Rattle.automaton.specs.Lent.{tables}
-use Rattle.tracker.specs.Build.{Store, store, Builds}
-use Rattle.tracker.specs.declared.Built.{Built}
-use Rattle.tracker.specs.declared.Built.the-variants as B
 use Rattle.judge.specs.Verdict.{SizesFit}
-use Rattle.judge.specs.VerdictLaws.{size-refused, built-refused, built-tables, plan-refused, plan-judged, store-cleared}
+use Rattle.judge.specs.VerdictLaws.{size-refused, built-refused, built-tables, plan-refused, plan-judged}
 use borrow.Author.Needs.{needs}
 use Rattle.judge.proofs.files.verdict.Statement.{statement}
 use Rattle.judge.proofs.files.verdict.Tie as tie
 
--- behind building: the sizes fit, and the tables are those of its answer
-abbrev start : tie.After-build → tie.Start
-start c = c .before .before .before .before .before .before .before .before .before .before .before .before .before .before .before .before .before
+-- building, from behind its tables
+abbrev behind : tie.After-slice-known24 → tie.After-build
+behind c = c .before .before .before .before .before .before .before .before .before .before .before .before
 
-sizes : (c : tie.After-build) → SizesFit (start c .args .sheet .now) (start c .args .plan .now)
+-- there the sizes fit
+sizes : (c : tie.After-build) →
+    let a = c .before .before .before .before .before .before .before .before .before .before .before .before .before .before .before .before .before .args in
+    SizesFit (a .sheet .now) (a .plan .now)
 sizes c = let fit = c .before .before .before .before .before .before .before in record { sheet = fit .before .if1 .left; plan = fit .if2 .left }
-
-abbrev left : tie.After-build → Store
-left c = let u = c .build .last .1 .1 .1 in store (u .0) (u .1 .0)
-
-abbrev Built-as : tie.After-build → Built → Type 0
-Built-as c b =
-    let a = start c .args in
-    let w = c .build .last .1 .1 .1 .1 .1 in
-    Builds (a .sheet .now) (a .room) (a .table .now) (c .build .last .1 .1 .0) (tables (a .word .now) (a .one .now) (a .other .now))
-    (tables (w .0) (w .1 .0) (w .1 .1 .0)) (store (a .tuples .now) (a .nexts .now)) (left c) b
-
--- a tracker
-abbrev behind : tie.After-x → tie.After-build
-behind c = c .before .before .before .before .before .before .before .before .before .before .before .before .before .before
-
-built : (c : tie.After-x) → Built-as (behind c) (B.Is (c .x .given .0 .0))
-built c = subst (Built-as (behind c)) (c .x .given .1) (behind c .build .ensures)
 
 too-long-requires : tie.Need-too-long-requires
 too-long-requires c κs = search needs
@@ -101,7 +82,8 @@ enum-known-x c = search needs
 judge-plan-requires : tie.Need-judge-plan-requires
 judge-plan-requires c κs =
     let told = c .before .before .before in
-    (sizes (behind told) .plan, built-tables (sizes (behind told)) (built told) (behind told .build .kept .1 .1 .1 .0))
+    let b = behind (told .before .before) in
+    (sizes b .plan, built-tables (sizes b) (b .build .ensures) (told .x .given .1))
 
 enum-known-r-2 : tie.Need-enum-known-r-2
 enum-known-r-2 c = search needs
@@ -139,20 +121,20 @@ same-length-18 c = search needs
 returns-3 : tie.Need-returns-3
 returns-3 c =
     let told = c .before in
-    let building = told .before .before .before .before .before .before .before .before .before .before .before .before .before .before in
-    built-refused (sizes building) (rw (told .r .given .1) at (building .build .ensures))
+    let b = behind (told .before .before) in
+    built-refused (sizes b) (b .build .ensures) (told .r .given .1)
 
 same-length-19 : tie.Need-same-length-19
 same-length-19 c =
     let first = c .before .before .before .before .before .before .before .before .before .before in
     let told = first .before .before .before .before .before .before .before .before .before in
-    omega (arith, first .clear .kept .0, behind told .build .kept .1 .1 .0)
+    omega (arith, first .clear .kept .0, behind (told .before .before) .build .kept .1 .1 .0)
 
 same-length-20 : tie.Need-same-length-20
 same-length-20 c =
     let second = c .before .before .before .before .before .before in
     let told = second .before .before .before .before .before .before .before .before .before .before .before .before .before in
-    omega (arith, second .clear2 .kept .0, behind told .build .kept .1 .1 .1 .0)
+    omega (arith, second .clear2 .kept .0, behind (told .before .before) .build .kept .1 .1 .1 .0)
 
 same-length-21 : tie.Need-same-length-21
 same-length-21 c = search needs
@@ -174,9 +156,9 @@ returns-4 c =
     let refused = first .before .before .before in
     let planned = refused .before .before in
     let told = planned .before .before .before .before in
-    let k = behind told .build .kept .1 .1 in
-    plan-refused (sizes (behind told)) (built told) (rw (refused .r2 .given .1) at (planned .judge-plan .ensures)) (k .0) (k .1 .0) (k .1 .1 .0) (first .clear .ensures)
-    (store-cleared (left (behind told)) _ _ (second .clear2 .ensures) (third .clear3 .ensures))
+    let b = behind (told .before .before) in
+    plan-refused (sizes b) (b .build .ensures) (told .x .given .1) (rw (refused .r2 .given .1) at (planned .judge-plan .ensures)) (b .build .kept .1 .1 .0)
+    (first .clear .ensures) (second .clear2 .ensures) (third .clear3 .ensures)
 
 same-length-25 : tie.Need-same-length-25
 same-length-25 c = search needs
@@ -201,7 +183,8 @@ returns-5 c =
     let judged = c .before in
     let planned = judged .before .before in
     let told = planned .before .before .before .before in
-    plan-judged (sizes (behind told)) (built told) (rw (judged .v .given .1) at (planned .judge-plan .ensures))
+    let b = behind (told .before .before) in
+    plan-judged (sizes b) (b .build .ensures) (told .x .given .1) (rw (judged .v .given .1) at (planned .judge-plan .ensures))
 
 pub verdict-spec : {M : Type 1} → statement M
 verdict-spec =

@@ -1,8 +1,9 @@
 -- The loop's invariant: `seen` tells the ends of the passes run apart, and `leasts` has their least colours. It ends since ends that differ are
 -- no more than tuples. Assumes nothing.
 use mathlib.Core.Path.{refl}
-use Prim.Native.Nat.{_-_}
+use Prim.Native.Nat.{_-_, _≤_, _<_}
 use native.Mathlib.Omega.{arith}
+use lib.ListN.{getD}
 use borrow.Author.Needs.{needs}
 use Rattle.judge.specs.PassLaws.{AfterPasses, passes-none, passes-few, passes-more, repeat-range, repeat-judged}
 use Rattle.judge.proofs.table.judge_letters.Statement.{statement}
@@ -14,14 +15,26 @@ Inv-loop tuples nexts count letters lead cycle seen₀ leasts₀ passes₀ at₀
 abbrev μ-loop : tie.MeasureT-loop
 μ-loop tuples nexts count letters lead cycle seen₀ leasts₀ passes₀ at₀ seen leasts passes at = count - passes
 
+abbrev start : tie.At-loop Inv-loop μ-loop → tie.Start Inv-loop μ-loop
+start c = c .before .before .before .before .before
+
+-- while no end is met again the passes are fewer than the tuples
+few : (c : tie.In-loop Inv-loop μ-loop) → c .before .loop .passes < start (c .before) .args .count
+few c = let pre = start (c .before) .pre in passes-few (pre .0) (pre .1) (c .before .loop .inv) (c .loop-test .taken)
+
+-- the end met again tells a pass that was run
+range : (c : tie.After-loop Inv-loop μ-loop) →
+    let l = c .before .loop in
+    (getD (l .seen) (l .at) 0 ≤ l .passes) × (l .passes < 1025)
+range c = let pre = start (c .before) .pre in repeat-range (pre .0) (pre .1) (c .before .loop .inv) (c .loop-test .left)
+
 pass-requires : tie.Need-pass-requires Inv-loop μ-loop
 pass-requires c κs = search needs
 
 loop-holds : tie.Need-loop-holds Inv-loop μ-loop
 loop-holds c =
-    let a = c .before .before .before .before .args in
     let pre = c .before .before .before .before .pre in
-    passes-none (a .tuples .now) (a .nexts .now) (a .count) (a .letters .now) (a .lead) (a .cycle) (pre .0) (pre .1) (c .pass .result) (c .pass .ensures)
+    passes-none (pre .0) (pre .1) (c .pass .result) (c .pass .ensures)
 
 mul-loop : tie.Need-mul-loop Inv-loop μ-loop
 mul-loop c = search needs
@@ -48,27 +61,16 @@ mul-leasts : tie.Need-mul-leasts Inv-loop μ-loop
 mul-leasts c = search needs
 
 array-write-leasts : tie.Need-array-write-leasts Inv-loop μ-loop
-array-write-leasts c =
-    let a = c .before .before .before .before .before .before .before .args in
-    let pre = c .before .before .before .before .before .before .before .pre in
-    let v = c .before .before .loop in
-    let l = passes-few (a .tuples .now) (a .nexts .now) (a .count) (a .letters .now) (a .lead) (a .cycle) (pre .0) (pre .1) (v .seen) (v .leasts) (v .passes) (v .at) (v .inv) (c .before .loop-test .taken) in
-    omega arith
+array-write-leasts c = let l = few (c .before) in omega arith
 
 loop-less : tie.Need-loop-less Inv-loop μ-loop
-loop-less c =
-    let a = c .before .before .before .before .before .before .before .args in
-    let pre = c .before .before .before .before .before .before .before .pre in
-    let v = c .before .before .loop in
-    let l = passes-few (a .tuples .now) (a .nexts .now) (a .count) (a .letters .now) (a .lead) (a .cycle) (pre .0) (pre .1) (v .seen) (v .leasts) (v .passes) (v .at) (v .inv) (c .before .loop-test .taken) in
-    omega arith
+loop-less c = let l = few (c .before) in omega arith
 
 loop-again : tie.Need-loop-again Inv-loop μ-loop
 loop-again c =
-    let a = c .before .before .before .before .before .before .before .args in
-    let pre = c .before .before .before .before .before .before .before .pre in
-    let v = c .before .before .loop in
-    passes-more (a .tuples .now) (a .nexts .now) (a .count) (a .letters .now) (a .lead) (a .cycle) (pre .0) (pre .1) (v .seen) (v .leasts) (v .passes) (v .at) (v .inv) (c .before .loop-test .taken) (c .pass2 .result) (c .pass2 .ensures)
+    let inside = c .before in
+    let pre = start (inside .before) .pre in
+    passes-more (pre .0) (pre .1) (inside .before .loop .inv) (inside .loop-test .taken) (c .pass2 .result) (c .pass2 .ensures)
 
 slice-aggregate-least-of : tie.Need-slice-aggregate-least-of Inv-loop μ-loop
 slice-aggregate-least-of c = search needs
@@ -80,30 +82,21 @@ array-read-least-of : tie.Need-array-read-least-of Inv-loop μ-loop
 array-read-least-of c = search needs
 
 cast-least-of : tie.Need-cast-least-of Inv-loop μ-loop
-cast-least-of c =
-    let a = c .before .before .before .before .before .before .before .args in
-    let pre = c .before .before .before .before .before .before .before .pre in
-    let v = c .before .before .loop in
-    let l = repeat-range (a .tuples .now) (a .nexts .now) (a .count) (a .letters .now) (a .lead) (a .cycle) (pre .0) (pre .1) (v .seen) (v .leasts) (v .passes) (v .at) (v .inv) (c .before .loop-test .left) in
-    omega arith
+cast-least-of c = let l = range (c .before) in omega arith
 
 least-of-requires : tie.Need-least-of-requires Inv-loop μ-loop
 least-of-requires c κs =
-    let a = c .before .before .before .before .before .before .before .args in
-    let pre = c .before .before .before .before .before .before .before .pre in
-    let v = c .before .before .loop in
-    let l = repeat-range (a .tuples .now) (a .nexts .now) (a .count) (a .letters .now) (a .lead) (a .cycle) (pre .0) (pre .1) (v .seen) (v .leasts) (v .passes) (v .at) (v .inv) (c .before .loop-test .left) in
-    (l .0, omega (arith, v .inv .leasts-cells, l .1))
+    let l = range (c .before) in
+    (l .0, omega (arith, c .before .before .loop .inv .leasts-cells, l .1))
 
 answer-of-requires : tie.Need-answer-of-requires Inv-loop μ-loop
 answer-of-requires c κs = search needs
 
 returns : tie.Need-returns Inv-loop μ-loop
 returns c =
-    let a = c .before .before .before .before .before .before .before .before .before .args in
-    let pre = c .before .before .before .before .before .before .before .before .before .pre in
-    let v = c .before .before .before .before .loop in
-    repeat-judged (a .tuples .now) (a .nexts .now) (a .count) (a .letters .now) (a .lead) (a .cycle) (pre .0) (pre .1) (v .seen) (v .leasts) (v .passes) (v .at) (v .inv) (c .before .before .before .loop-test .left) _ refl (c .before .least-of .ensures) (c .answer-of .ensures)
+    let behind = c .before .before .before in
+    let pre = start (behind .before) .pre in
+    repeat-judged (pre .0) (pre .1) (behind .before .loop .inv) (behind .loop-test .left) _ refl (c .before .least-of .ensures) (c .answer-of .ensures)
 
 pub judge-letters-spec : {M : Type 1} → statement M
 judge-letters-spec =

@@ -1,9 +1,9 @@
 -- The loop's invariant: no row passed is like row `count`. Assumes nothing.
 use Prim.Native.Nat.{ℕ, _-_, _*_, _≤_, _<_}
 use mathlib.Core.Path.{_≡_, refl, sym, _∙_}
+use mathlib.Core.Bool.{true≢false}
 use native.Mathlib.Omega.{arith}
 use borrow.Author.Count.{below-more}
-use Rattle.text.specs.ChoiceLaws.{true-is-not-false}
 use Rattle.names.specs.Row.{row}
 use borrow.Author.Needs.{needs}
 use Rattle.parser.proofs.name_lines.first_like.Statement.{statement}
@@ -41,7 +41,7 @@ loop-less c = search needs
 loop-again : tie.Need-loop-again Inv-loop μ-loop
 loop-again c =
     let l = c .before .before .before .loop in
-    (search needs, below-more _ (l .l) (l .inv .1) (λ e. true-is-not-false (sym (c .before .same-row .ensures .1 e) ∙ c .if1 .left)))
+    (search needs, below-more _ (l .l) (l .inv .1) (λ e. true≢false (sym (c .before .same-row .ensures .1 e) ∙ c .if1 .left)))
 
 returns-2 : tie.Need-returns-2 Inv-loop μ-loop
 returns-2 c =

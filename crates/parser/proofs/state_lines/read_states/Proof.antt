@@ -5,9 +5,10 @@ use native.Mathlib.Nat.{sub-zero}
 use native.Mathlib.Omega.{arith}
 use denote.Ref.{now}
 use lib.Pow.{pow-mono}
-use Rattle.parser.specs.Parse.{statesAt}
+use Rattle.parser.specs.declared.StateLine.{StateLine}
+use Rattle.parser.specs.Parse.{refused, withFlags, statesAt}
 use Rattle.parser.specs.PhaseAnswers.{statesAnswer}
-use Rattle.parser.proofs.Steps.{states-good, states-bad, states-done, flag-part, double}
+use Rattle.parser.proofs.Steps.{states-step, states-done, flag-part, double}
 use borrow.Author.Needs.{needs}
 use Rattle.parser.proofs.state_lines.read_states.Statement.{statement}
 use Rattle.parser.proofs.state_lines.read_states.Tie as tie
@@ -19,6 +20,18 @@ Inv-loop s first start n line₀ at₀ q₀ bit₀ initial₀ recurring₀ line 
 
 abbrev μ-loop : tie.MeasureT-loop
 μ-loop s first start n line₀ at₀ q₀ bit₀ initial₀ recurring₀ line at q bit initial recurring = n - q
+
+-- what a line holds decides what is left of the definition
+turn : (c : tie.After-state-line Inv-loop μ-loop) →
+    let l = c .before .before .loop in
+    let a = c .before .before .before .before .args in
+    (w : StateLine) → c .state-line .result ≡ w →
+    withFlags w (λ i r. statesAt (a .s .now) (l .line + 1) (l .at + 11) (l .q + 1) (l .initial + i * 2 ^ l .q) (l .recurring + r * 2 ^ l .q) (a .n - (l .q + 1))) (refused 7 (l .line)) ≡
+    statesAt (a .s .now) (a .first) (a .start) 0 0 0 (a .n)
+turn c w e =
+    let l = c .before .before .loop in
+    let a = c .before .before .before .before .args in
+    sym (states-step (a .s .now) (l .line) (l .at) (l .q) (l .initial) (l .recurring) (a .n) (omega arith) (sym (c .state-line .ensures .0) ∙ e)) ∙ l .inv .6
 
 -- both flags of the line are 0 or 1
 small : (c : tie.After-known-told Inv-loop μ-loop) → (c .before .i .given .0 .0 ≤ 1) × (c .before .i .given .0 .1 .0 ≤ 1)
@@ -46,15 +59,7 @@ enum-told : tie.Need-enum-told Inv-loop μ-loop
 enum-told c = search needs
 
 returns : tie.Need-returns Inv-loop μ-loop
-returns c =
-    let l = c .before .before .before .before .loop in
-    let a = c .before .before .before .before .before .before .args in
-    let e =
-    sym
-    (states-bad (now (a .s)) (l .line) (l .at) (l .q) (l .initial) (l .recurring) (a .n) (omega arith)
-    (sym (c .before .before .state-line .ensures .0) ∙ c .enum-told .given .1)) ∙
-    l .inv .6 in
-    (ap statesAnswer e, tt)
+returns c = (ap statesAnswer (turn (c .before .before) _ (c .enum-told .given .1)), tt)
 
 mul-initial : tie.Need-mul-initial Inv-loop μ-loop
 mul-initial c = omega (arith, parts c)
@@ -86,12 +91,15 @@ loop-less c = search needs
 loop-again : tie.Need-loop-again Inv-loop μ-loop
 loop-again c =
     let l = c .before .before .before .before .before .loop in
-    let a = c .before .before .before .before .before .before .before .args in
-    let b : l .bit ≡ 2 ^ l .q = l .inv .3 in
-    let g =
-    states-good (now (a .s)) (l .line) (l .at) (l .q) (l .initial) (l .recurring) (a .n) (omega arith)
-    (sym (c .before .before .before .state-line .ensures .0) ∙ c .before .i .given .1) in
-    (omega arith, omega arith, omega arith, rw b (double (l .q)), omega (arith, parts c), omega (arith, parts c), rw b (sym g ∙ l .inv .6))
+    let b : l .bit ≡ 2 ^ l .q = l .inv .3 in (
+      omega arith,
+      omega arith,
+      omega arith,
+      rw b (double (l .q)),
+      omega (arith, parts c),
+      omega (arith, parts c),
+      rw b (turn (c .before .before .before) _ (c .before .i .given .1)),
+    )
 
 cast-t17 : tie.Need-cast-t17 Inv-loop μ-loop
 cast-t17 c = omega (arith, pow-mono {i = c .before .loop .q} {j = 16} (omega arith))

@@ -1,54 +1,37 @@
--- Each answer is what the tests passed make of the definition. Assumes nothing.
-use mathlib.Core.Path.{sym}
-use borrow.Author.Tests.{eq-eqb, ne-eqb, lt-ltb, le-ltb}
-use Rattle.parser.specs.Parse.{stateLineAt}
+-- The line's opening, then its two flags, and their range. Assumes nothing.
+use mathlib.Core.Path.{_≡_, sym, _∙_, ap}
+use mathlib.Core.Bool.{Bool, true, false}
+use borrow.Author.Tests.{not-true, not-false}
+use Rattle.text.specs.Choice.{choose}
+use Rattle.text.specs.Pair.{withPair}
+use Rattle.text.specs.declared.Pair.{Pair}
+use Rattle.text.specs.NumberLaws.{between-is}
+use Rattle.parser.specs.declared.StateLine.the-variants.{Is, Bad}
+use Rattle.parser.specs.Parse.{flagsOf, stateLineAt}
 use borrow.Author.Needs.{needs}
 use Rattle.parser.proofs.state_lines.state_line.Statement.{statement}
 use Rattle.parser.proofs.state_lines.state_line.Tie as tie
 
-opening-requires : tie.Need-opening-requires
-opening-requires c κs = search needs
+-- behind the opening, the two numbers decide; behind them, their range
+numbers : (c : tie.After-pair-at) → let a = c .before .before .before .before .args in
+    (w : Pair) → c .pair-at .result ≡ w → withPair w flagsOf Bad ≡ stateLineAt (a .s .now) (a .at) (a .q)
+unfolding stateLineAt
+numbers c w e =
+    simp (sym (c .before .before .is-numbered .ensures) ∙ not-false _ (c .before .if1 .left), sym (c .pair-at .ensures), e)
+
+flags : (c : tie.After-are-between) → let a = c .before .before .before .before .before .before .before .before .args in
+    let (i, (r, _)) = c .before .before .i .given .0 in
+    (t : Bool) → c .are-between .result ≡ t → choose t (Is i r) Bad ≡ stateLineAt (a .s .now) (a .at) (a .q)
+flags c t e =
+    let (i, (r, _)) = c .before .before .i .given .0 in
+    ap (λ (t : Bool). choose t (Is i r) Bad) (sym e ∙ c .are-between .ensures) ∙ numbers (c .before .before .before .before) _ (c .before .before .i .given .1)
+
+is-numbered-requires : tie.Need-is-numbered-requires
+is-numbered-requires c κs = search needs
 
 returns : tie.Need-returns
 unfolding stateLineAt
-returns c = (simp (sym (c .before .opening .ensures), ne-eqb _ _ (c .if1 .taken)), tt)
-
-add-number-at : tie.Need-add-number-at
-add-number-at c = search needs
-
-number-at-requires : tie.Need-number-at-requires
-number-at-requires c κs = search needs
-
-enum-known-v : tie.Need-enum-known-v
-enum-known-v c = search needs
-
-enum-told : tie.Need-enum-told
-enum-told c = search needs
-
-returns-2 : tie.Need-returns-2
-unfolding stateLineAt
-returns-2 c = (
-  simp (
-    sym (c .before .before .before .before .opening .ensures),
-    eq-eqb _ _ (c .before .before .before .if1 .left),
-    sym (c .before .before .number-at .ensures),
-    c .enum-told .given .1,
-  ),
-  tt,
-)
-
-returns-3 : tie.Need-returns-3
-unfolding stateLineAt
-returns-3 c = (
-  simp (
-    sym (c .before .before .before .before .before .before .opening .ensures),
-    eq-eqb _ _ (c .before .before .before .before .before .if1 .left),
-    sym (c .before .before .before .before .number-at .ensures),
-    c .before .before .v .given .1,
-    ne-eqb _ _ (c .if2 .taken),
-  ),
-  tt,
-)
+returns c = (simp (sym (c .before .is-numbered .ensures) ∙ not-true _ (c .if1 .taken)), tt)
 
 add-pair-at : tie.Need-add-pair-at
 add-pair-at c = search needs
@@ -59,91 +42,35 @@ pair-at-requires c κs = search needs
 enum-known-i : tie.Need-enum-known-i
 enum-known-i c = search needs
 
-enum-told-2 : tie.Need-enum-told-2
-enum-told-2 c = search needs
+enum-told : tie.Need-enum-told
+enum-told c = search needs
+
+returns-2 : tie.Need-returns-2
+returns-2 c = (numbers (c .before .before) _ (c .enum-told .given .1), tt)
+
+are-between-requires : tie.Need-are-between-requires
+are-between-requires c κs = search needs
+
+returns-3 : tie.Need-returns-3
+returns-3 c =
+    let (i, (r, _)) = c .before .before .before .i .given .0 in
+    let h = between-is i r {least = 0} {most = 1} {least′ = 0} {most′ = 1} (sym (c .before .are-between .ensures) ∙ c .if2 .taken) in
+    (flags (c .before) true (c .if2 .taken), (h .1, h .3))
 
 returns-4 : tie.Need-returns-4
-unfolding stateLineAt
-returns-4 c = (
-  simp (
-    sym (c .before .before .before .before .before .before .before .before .before .opening .ensures),
-    eq-eqb _ _ (c .before .before .before .before .before .before .before .before .if1 .left),
-    sym (c .before .before .before .before .before .before .before .number-at .ensures),
-    c .before .before .before .before .before .v .given .1,
-    eq-eqb _ _ (c .before .before .before .if2 .left),
-    sym (c .before .before .pair-at .ensures),
-    c .enum-told2 .given .1,
-  ),
-  tt,
-)
-
-returns-5 : tie.Need-returns-5
-unfolding stateLineAt
-returns-5 c = (
-  simp (
-    sym (c .before .before .before .before .before .before .before .before .before .before .before .opening .ensures),
-    eq-eqb _ _ (c .before .before .before .before .before .before .before .before .before .before .if1 .left),
-    sym (c .before .before .before .before .before .before .before .before .before .number-at .ensures),
-    c .before .before .before .before .before .before .before .v .given .1,
-    eq-eqb _ _ (c .before .before .before .before .before .if2 .left),
-    sym (c .before .before .before .before .pair-at .ensures),
-    c .before .before .i .given .1,
-    lt-ltb _ _ (c .if3 .taken),
-  ),
-  tt,
-)
-
-returns-6 : tie.Need-returns-6
-unfolding stateLineAt
-returns-6 c = (
-  simp (
-    sym (c .before .before .before .before .before .before .before .before .before .before .before .before .opening .ensures),
-    eq-eqb _ _ (c .before .before .before .before .before .before .before .before .before .before .before .if1 .left),
-    sym (c .before .before .before .before .before .before .before .before .before .before .number-at .ensures),
-    c .before .before .before .before .before .before .before .before .v .given .1,
-    eq-eqb _ _ (c .before .before .before .before .before .before .if2 .left),
-    sym (c .before .before .before .before .before .pair-at .ensures),
-    c .before .before .before .i .given .1,
-    le-ltb _ _ (c .before .if3 .left),
-    lt-ltb _ _ (c .if4 .taken),
-  ),
-  tt,
-)
-
-returns-7 : tie.Need-returns-7
-unfolding stateLineAt
-returns-7 c = (
-  simp (
-    sym (c .before .before .before .before .before .before .before .before .before .before .before .before .opening .ensures),
-    eq-eqb _ _ (c .before .before .before .before .before .before .before .before .before .before .before .if1 .left),
-    sym (c .before .before .before .before .before .before .before .before .before .before .number-at .ensures),
-    c .before .before .before .before .before .before .before .before .v .given .1,
-    eq-eqb _ _ (c .before .before .before .before .before .before .if2 .left),
-    sym (c .before .before .before .before .before .pair-at .ensures),
-    c .before .before .before .i .given .1,
-    le-ltb _ _ (c .before .if3 .left),
-    le-ltb _ _ (c .if4 .left),
-  ),
-  (c .before .if3 .left, c .if4 .left),
-)
+returns-4 c = (flags (c .before) false (c .if2 .left), tt)
 
 pub state-line-spec : {M : Type 1} → statement M
 state-line-spec =
     tie.close
     (tie.spec
-    opening-requires
+    is-numbered-requires
     returns
-    add-number-at
-    number-at-requires
-    enum-known-v
-    enum-told
-    returns-2
-    returns-3
     add-pair-at
     pair-at-requires
     enum-known-i
-    enum-told-2
-    returns-4
-    returns-5
-    returns-6
-    returns-7)
+    enum-told
+    returns-2
+    are-between-requires
+    returns-3
+    returns-4)

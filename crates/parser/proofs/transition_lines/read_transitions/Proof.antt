@@ -6,8 +6,9 @@ use denote.Ref.{now}
 use lib.ListN.{length, getD, take, drop, length-set, take-append-drop}
 use lib.Seq.{drop-set-lt, take-set-lt, getD-take}
 use Rattle.format.specs.Format.{place, entered}
-use Rattle.parser.specs.Parse.{transitionsAt}
-use Rattle.parser.proofs.Steps.{transitions-good, transitions-bad, transitions-end, end-fills}
+use Rattle.parser.specs.declared.TransitionLine.{TransitionLine}
+use Rattle.parser.specs.Parse.{refused, withTransition, transitionsAt}
+use Rattle.parser.proofs.Steps.{transitions-step, transitions-end, end-fills}
 use Rattle.text.specs.WordLaws.{within}
 use borrow.Author.Needs.{needs}
 use Rattle.parser.proofs.transition_lines.read_transitions.Statement.{statement}
@@ -29,6 +30,22 @@ a-T c = sym (c .before .opening .ensures) ∙ c .if1 .taken
 
 inside : (c : tie.Then1 Inv-loop μ-loop) → c .before .before .loop .at < length (now (c .before .before .before .before .before .args .s))
 inside c = within (now (c .before .before .before .before .before .args .s)) (c .before .before .loop .at) (omega (arith, a-T c))
+
+-- what a line holds decides what is left of the definition
+turn : (c : tie.After-transition-line Inv-loop μ-loop) →
+    let l = c .before .before .before .loop in
+    let a = c .before .before .before .before .before .before .args in
+    (w : TransitionLine) → c .transition-line .result ≡ w →
+    withTransition w (λ t. transitionsAt (a .s .now) (a .n) (a .k) (l .line + 1) (l .at + 11) (place t + 1) (entered (take 128 (l .table)) t) (length (a .s .now) + 1 + a .first - (l .line + 1)))
+    (refused 8 (l .line)) ≡
+    transitionsAt (a .s .now) (a .n) (a .k) (a .first) (a .start) 0 (take 128 (a .table .now)) (length (a .s .now) + 1)
+turn c w e =
+    let l = c .before .before .before .loop in
+    let a = c .before .before .before .before .before .before .args in
+    sym
+    (transitions-step (a .s .now) (a .n) (a .k) (l .line) (l .at) (l .least) (take 128 (l .table)) _ (length (a .s .now) + 1 + a .first - l .line) (omega (arith, inside (c .before)))
+    (a-T (c .before)) (sym (c .transition-line .ensures .0) ∙ e)) ∙
+    l .inv .5
 
 -- from, letter and to are small
 small :
@@ -58,17 +75,7 @@ same-length : tie.Need-same-length Inv-loop μ-loop
 same-length c = c .before .before .before .before .before .loop .inv .3
 
 returns : tie.Need-returns Inv-loop μ-loop
-returns c =
-    let l = c .before .before .before .before .before .loop in
-    let a = c .before .before .before .before .before .before .before .before .args in
-    let s = now (a .s) in
-    let f = length s + a .first - l .line in
-    let e =
-    sym
-    (transitions-bad s (a .n) (a .k) (l .line) (l .at) (l .least) (take 128 (l .table)) f (length s + 1 + a .first - l .line) (omega arith)
-    (a-T (c .before .before .before)) (sym (c .before .before .transition-line .ensures .0) ∙ c .enum-told .given .1)) ∙
-    l .inv .5 in
-    rw (← e) refl
+returns c = rw (← turn (c .before .before) _ (c .enum-told .given .1)) refl
 
 mul-cell : tie.Need-mul-cell Inv-loop μ-loop
 mul-cell c = omega (arith, small c)
@@ -113,22 +120,16 @@ loop-again : tie.Need-loop-again Inv-loop μ-loop
 unfolding entered
 loop-again c =
     let l = c .before .before .before .before .before .before .before .before .loop in
-    let a = c .before .before .before .before .before .before .before .before .before .before .before .args in
     let z = c .before .before .before .from .given .0 in
     let w = inside (c .before .before .before .before .before .before) in
-    let s = now (a .s) in
-    let f = length s + 1 + a .first - (l .line + 1) in
-    let g =
-    transitions-good s (a .n) (a .k) (l .line) (l .at) (l .least) (take 128 (l .table)) f (length s + 1 + a .first - l .line) (omega arith)
-    (a-T (c .before .before .before .before .before .before))
-    (sym (c .before .before .before .before .before .transition-line .ensures .0) ∙ c .before .before .before .from .given .1) in
     let b : 8 * z .0 + z .1 .0 < 128 = omega (arith, small (c .before .before)) in (
       omega arith,
       omega arith,
       omega arith,
       simp length-set (l .inv .3),
       drop-set-lt 128 (l .table) (8 * z .0 + z .1 .0) (c .insert .result) b ∙ l .inv .4,
-      rw (take-set-lt 128 (l .table) (8 * z .0 + z .1 .0) (c .insert .result) b, c .insert .ensures, ← getD-take 128 (l .table) (8 * z .0 + z .1 .0) 0 b) (sym g ∙ l .inv .5),
+      rw (take-set-lt 128 (l .table) (8 * z .0 + z .1 .0) (c .insert .result) b, c .insert .ensures, ← getD-take 128 (l .table) (8 * z .0 + z .1 .0) 0 b)
+          (turn (c .before .before .before .before .before) _ (c .before .before .before .from .given .1)),
     )
 
 end-line-requires : tie.Need-end-line-requires Inv-loop μ-loop

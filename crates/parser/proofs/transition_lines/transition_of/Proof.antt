@@ -1,10 +1,24 @@
 -- Each answer is what the tests passed make of the definition. Assumes nothing.
+use Prim.Native.Nat.{_+_, _*_}
+use mathlib.Core.Path.{_≡_}
+use mathlib.Core.Bool.{Bool, true, false}
+use lib.Dec.{leb}
 use native.Mathlib.Omega.{arith}
-use borrow.Author.Tests.{lt-ltb, le-ltb}
+use borrow.Author.Tests.{lt-ltb, le-ltb, lt-leb, le-leb}
+use Rattle.text.specs.Choice.{choose}
+use Rattle.parser.specs.declared.TransitionLine.the-variants.{Is, Bad}
 use Rattle.parser.specs.Parse.{transitionOf}
 use borrow.Author.Needs.{needs}
 use Rattle.parser.proofs.transition_lines.transition_of.Statement.{statement}
 use Rattle.parser.proofs.transition_lines.transition_of.Tie as tie
+
+-- behind the range, the order decides
+ordered : (c : tie.Else3) →
+    let a = c .before .before .before .args in
+    (t : Bool) → leb (a .least) ((8 * a .from + a .letter) * 16 + a .to) ≡ t →
+    choose t (Is (a .from) (a .letter) (a .to)) Bad ≡ transitionOf (a .n) (a .k) (a .least) (a .from) (a .letter) (a .to)
+unfolding transitionOf
+ordered c t e = simp (lt-ltb _ _ (c .before .before .if1 .left), lt-ltb _ _ (c .before .if2 .left), lt-ltb _ _ (c .if3 .left), e)
 
 returns : tie.Need-returns
 unfolding transitionOf
@@ -31,12 +45,10 @@ add-if4-2 : tie.Need-add-if4-2
 add-if4-2 c = search needs
 
 returns-4 : tie.Need-returns-4
-unfolding transitionOf
-returns-4 c = (simp (lt-ltb _ _ (c .before .before .before .if1 .left), lt-ltb _ _ (c .before .before .if2 .left), lt-ltb _ _ (c .before .if3 .left), lt-ltb _ _ (c .if4 .taken)), tt)
+returns-4 c = (ordered (c .before) false (lt-leb _ _ (c .if4 .taken)), tt)
 
 returns-5 : tie.Need-returns-5
-unfolding transitionOf
-returns-5 c = (simp (lt-ltb _ _ (c .before .before .before .if1 .left), lt-ltb _ _ (c .before .before .if2 .left), lt-ltb _ _ (c .before .if3 .left), le-ltb _ _ (c .if4 .left)), omega arith)
+returns-5 c = (ordered (c .before) true (le-leb _ _ (c .if4 .left)), omega arith)
 
 pub transition-of-spec : {M : Type 1} → statement M
 transition-of-spec =

@@ -4,9 +4,13 @@ use mathlib.Core.Path.{_≡_, refl, sym, _∙_, ap}
 use native.Mathlib.Omega.{arith}
 use native.Mathlib.Nat.{sub-zero}
 use denote.Ref.{now}
-use mathlib.Core.List.{List, _++_}
+use mathlib.Core.List.{List, [], _∷_, _++_}
 use lib.ListN.{length, take, drop, length-set, take-append-drop}
-use Rattle.plan.proofs.Laws.{SoFar, letters-good, letters-unknown, letters-bad, letters-done, stored, behind}
+use Rattle.plan.proofs.Laws.{SoFar, letters-step, letters-done, stored, behind}
+use Rattle.parser.specs.Parse.{refused}
+use Rattle.parser.specs.Rows.{Holds}
+use Rattle.plan.specs.declared.LetterLine.{LetterLine}
+use Rattle.plan.specs.Parse.{withLetter, lettersAt}
 use borrow.Author.Needs.{needs}
 use Rattle.plan.proofs.name_lines.read_letters.Statement.{statement}
 use Rattle.plan.proofs.name_lines.read_letters.Tie as tie
@@ -18,6 +22,21 @@ Inv-loop p rows₀ k count letters₀ line₀ at₀ i₀ rows letters line at i 
 
 abbrev μ-loop : tie.MeasureT-loop
 μ-loop p rows₀ k count letters₀ line₀ at₀ i₀ rows letters line at i = count - i
+
+-- what a line holds decides what is left of the definition
+turn : (c : tie.After-letter-line Inv-loop μ-loop) →
+    let v = c .before .before .before .loop in
+    let a = c .before .before .before .before .before .before .before .args in
+    (w : LetterLine) → c .letter-line .result ≡ w → (names : List (List ℕ)) → length names ≡ a .k → Holds names (a .rows .now) →
+    Holds names (c .letter-line .last .1 .1 .0)
+    × (withLetter w (λ l e. lettersAt names (a .p .now) (v .line + 1) (e + 1) (take (v .i) (v .letters) ++ (l ∷ [])) (a .count - (v .i + 1))) (refused 14 (v .line)) (refused 12 (v .line))
+    ≡ lettersAt names (a .p .now) 2 11 [] (a .count))
+turn c w e names n h =
+    let v = c .before .before .before .loop in
+    let a = c .before .before .before .before .before .before .before .args in
+    let z = v .inv .6 names n h in
+    let f = c .letter-line .ensures .1 names n (z .0) in
+    (f .1, sym (letters-step names (a .p .now) (v .line) (v .at) (v .i) (a .count) (take (v .i) (v .letters)) (omega arith) (sym (f .0) ∙ e)) ∙ z .1)
 
 -- the letter of a line is one of the sheet's, and its LF stands within the file
 fits :
@@ -66,14 +85,7 @@ loop-again c =
       c .before .before .before .before .before .letter-line .kept .1 .1 .0 ∙ v .inv .3,
       length-set (v .letters) (v .i) l ∙ v .inv .4,
       behind (v .letters) (v .i) l room (now (a .letters)) (v .inv .5),
-      λ names n h.
-          (let z = v .inv .6 names n h in
-          let f = c .before .before .before .before .before .letter-line .ensures .1 names n (z .0) in (
-            f .1,
-            rw stored
-                (sym (letters-good names (now (a .p)) (v .line) (v .at) (v .i) (a .count) (take (v .i) (v .letters)) (omega arith) (sym (f .0) ∙ c .before .l .given .1))
-                ∙ z .1),
-          )),
+      λ names n h. (let (held, left) = turn (c .before .before .before .before .before) _ (c .before .l .given .1) names n h in (held, rw stored left)),
     )
 
 enum-told : tie.Need-enum-told Inv-loop μ-loop
@@ -86,18 +98,7 @@ same-length-2 : tie.Need-same-length-2 Inv-loop μ-loop
 same-length-2 c = c .before .before .before .before .before .before .before .loop .inv .4
 
 returns : tie.Need-returns Inv-loop μ-loop
-returns c =
-    let a = c .before .before .before .before .before .before .before .before .before .before .before .args in
-    let v = c .before .before .before .before .before .before .before .loop in (
-      tt,
-      λ names n h.
-          (let z = v .inv .6 names n h in
-          let f = c .before .before .before .before .letter-line .ensures .1 names n (z .0) in
-          let e =
-          sym (letters-unknown names (now (a .p)) (v .line) (v .at) (v .i) (a .count) (take (v .i) (v .letters)) (omega arith) (sym (f .0) ∙ c .enum-told .given .1))
-          ∙ z .1 in
-          rw (← e) refl),
-    )
+returns c = (tt, λ names n h. rw (← turn (c .before .before .before .before) _ (c .enum-told .given .1) names n h .1) refl)
 
 enum-told-2 : tie.Need-enum-told-2 Inv-loop μ-loop
 enum-told-2 c = search needs
@@ -109,18 +110,7 @@ same-length-4 : tie.Need-same-length-4 Inv-loop μ-loop
 same-length-4 c = c .before .before .before .before .before .before .before .loop .inv .4
 
 returns-2 : tie.Need-returns-2 Inv-loop μ-loop
-returns-2 c =
-    let a = c .before .before .before .before .before .before .before .before .before .before .before .args in
-    let v = c .before .before .before .before .before .before .before .loop in (
-      tt,
-      λ names n h.
-          (let z = v .inv .6 names n h in
-          let f = c .before .before .before .before .letter-line .ensures .1 names n (z .0) in
-          let e =
-          sym (letters-bad names (now (a .p)) (v .line) (v .at) (v .i) (a .count) (take (v .i) (v .letters)) (omega arith) (sym (f .0) ∙ c .enum-told2 .given .1))
-          ∙ z .1 in
-          rw (← e) refl),
-    )
+returns-2 c = (tt, λ names n h. rw (← turn (c .before .before .before .before) _ (c .enum-told2 .given .1) names n h .1) refl)
 
 same-length-5 : tie.Need-same-length-5 Inv-loop μ-loop
 same-length-5 c = c .before .loop .inv .3

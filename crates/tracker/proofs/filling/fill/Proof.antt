@@ -1,5 +1,5 @@
 -- The tables hold what is found before each step, and behind the last step it is all. Assumes nothing.
-use Prim.Native.Nat.{_+_, _-_, _*_}
+use Prim.Native.Nat.{_+_, _-_, _*_, _≤_, _<_}
 use mathlib.Core.Path.{_≡_, refl, sym, _∙_}
 use native.Mathlib.Omega.{arith}
 use lib.ListN.{length}
@@ -17,6 +17,27 @@ Inv-loop a table room tuples₀ nexts₀ head₀ link₀ m₀ c₀ tuples nexts 
 abbrev μ-loop : tie.MeasureT-loop
 μ-loop a table room tuples₀ nexts₀ head₀ link₀ m₀ c₀ tuples nexts head link m c = 8 * room - c
 
+-- the states that the later ones go back to
+abbrev start : tie.After-begin Inv-loop μ-loop → tie.Start Inv-loop μ-loop
+start c = c .before .before .before .before .before .before .before
+
+abbrev begun : tie.At-loop Inv-loop μ-loop → tie.After-begin Inv-loop μ-loop
+begun c = c .before .before .before .before .before
+
+abbrev inside : tie.After-expand Inv-loop μ-loop → tie.In-loop Inv-loop μ-loop
+inside c = c .before .before .before .before .before
+
+abbrev expanded : tie.Else1 Inv-loop μ-loop → tie.After-expand Inv-loop μ-loop
+expanded c = c .before .before .before .before .before .before .before
+
+-- the tuples fit in the room, so the steps are few
+few : (c : tie.In-loop Inv-loop μ-loop) →
+    let room = start (begun (c .before)) .args .room in
+    (c .before .loop .c < 8 * room) × (room ≤ 1024)
+few c =
+    let f = c .before .loop .inv .0 in
+    (omega (arith, f .room-is, c .loop-test .taken), f .most)
+
 slice-aggregate-begin : tie.Need-slice-aggregate-begin Inv-loop μ-loop
 slice-aggregate-begin c = search needs
 
@@ -33,13 +54,8 @@ begin-requires c κs =
 
 loop-holds : tie.Need-loop-holds Inv-loop μ-loop
 loop-holds c =
-    let begun = c .before .before .before .before in
-    let start = begun .before .before .before .before .before .before .before in
-    let a = start .args in
-    let b = begun .begin in
-    let A = automaton (a .a) (a .table .now) in
-    let v = store (a .tuples .now) (a .nexts .now) in
-    (filled-begins A (a .room) v (start .pre) (b .last .1 .0) (b .last .1 .1 .0) (b .last .1 .1 .1 .0) (b .ensures), refl, refl)
+    let b = c .before .before .before .before in
+    (filled-begins (start b .pre) (b .begin .ensures), refl, refl)
 
 mul-loop : tie.Need-mul-loop Inv-loop μ-loop
 mul-loop c =
@@ -68,36 +84,19 @@ same-length-2 c = search needs
 
 returns : tie.Need-returns Inv-loop μ-loop
 returns c =
-    let expanded = c .before .before .before .before .before .before .before in
-    let looped = expanded .before .before .before .before .before .before in
-    let start = looped .before .before .before .before .before .before .before .before .before .before .before .before in
-    let a = start .args in
-    let e = expanded .expand in
-    let A = automaton (a .a) (a .table .now) in
-    let v = store (a .tuples .now) (a .nexts .now) in
-    let w = store (e .last .1 .1 .1 .1 .1 .0) (e .last .1 .1 .1 .1 .1 .1 .0) in
-    fills-over A (a .room) (looped .loop .c + 1) (e .result) v w (c .if1 .taken) (e .ensures .over (c .if1 .taken))
+    let e = c .before .before .before .before .before .before .before in
+    fills-over (inside e .before .loop .c + 1) (c .if1 .taken) (e .expand .ensures .over (c .if1 .taken))
 
 add-c : tie.Need-add-c Inv-loop μ-loop
-add-c c =
-    let f = c .before .before .before .before .before .before .before .before .before .before .before .before .before .loop .inv .0 in
-    let q = f .room-is in
-    let r = f .most in
-    let h = c .before .before .before .before .before .before .before .before .before .before .before .before .loop-test .taken in
-    omega arith
+add-c c = let h = few (inside (expanded c)) in omega arith
 
 loop-less : tie.Need-loop-less Inv-loop μ-loop
-loop-less c =
-    let f = c .before .before .before .before .before .before .before .before .before .before .before .before .before .loop .inv .0 in
-    let q = f .room-is in
-    let r = f .most in
-    let h = c .before .before .before .before .before .before .before .before .before .before .before .before .loop-test .taken in
-    omega arith
+loop-less c = let h = few (inside (expanded c)) in omega arith
 
 loop-again : tie.Need-loop-again Inv-loop μ-loop
 loop-again c =
-    let l = c .before .before .before .before .before .before .before .before .before .before .before .before .before .loop in
-    let e = c .before .before .before .before .before .before .before .expand in
+    let l = inside (expanded c) .before .loop in
+    let e = expanded c .expand in
     (e .ensures .fitting (c .if1 .left), e .kept .1 .1 .1 .1 .1 .0 ∙ l .inv .1, e .kept .1 .1 .1 .1 .1 .1 .0 ∙ l .inv .2)
 
 same-length-3 : tie.Need-same-length-3 Inv-loop μ-loop
@@ -108,11 +107,11 @@ same-length-4 c = search needs
 
 returns-2 : tie.Need-returns-2 Inv-loop μ-loop
 returns-2 c =
-    let a = c .before .before .before .before .before .before .before .before .before .before .before .before .before .args in
+    let b = begun (c .before) in
+    let a = start b .args in
     let l = c .before .loop in
     let h = c .loop-test .left in
-    fills-all (automaton (a .a) (a .table .now)) (a .room) (l .c) (l .m) (l .tuples) (l .nexts) (l .head) (l .link) (l .inv .0) (store (a .tuples .now) (a .nexts .now))
-    (sym (l .inv .1 ∙ c .before .before .before .before .before .before .begin .kept .1 .0)) (sym (l .inv .2)) (omega arith)
+    fills-all (l .inv .0) (store (a .tuples .now) (a .nexts .now)) (sym (l .inv .1 ∙ b .begin .kept .1 .0)) (sym (l .inv .2)) (omega arith)
 
 pub fill-spec : {M : Type 1} → statement M
 fill-spec =
