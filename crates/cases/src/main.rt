@@ -27,7 +27,7 @@ fn say_line(line: [u8; 12]) {
 
 fn say_verdict(v: Verdict) {
     let answer = v.answer;
-    say_line(report::verdict_line(judge::passed(answer), v.least as usize, v.passes));
+    say_line(report::verdict_line(judge::is_yes(answer), v.least as usize, v.passes));
 }
 
 // One more byte of a sum that tells a text from its neighbours.

@@ -89,8 +89,8 @@ pigeon-rel n P h = let (a, b, l, m, e) = pigeon n f below in end a b l m e (spec
     end a b l m e x y = (a, b, f b, l, m, (rw e at (x .1)), y .1)
 
 -- At b the sequence takes again its value at a, and no value comes twice before b.
-abbrev pub FirstRepeat : (ℕ → ℕ) → ℕ → ℕ → Type 0
-FirstRepeat g a b = (a < b) × (g a ≡ g b) × ((x y : ℕ) → x < y → y < b → g x ≡ g y → ⊥)
+abbrev pub FirstEqual : (ℕ → ℕ) → ℕ → ℕ → Type 0
+FirstEqual g a b = (a < b) × (g a ≡ g b) × ((x y : ℕ) → x < y → y < b → g x ≡ g y → ⊥)
 
 -- The sequence that is f before t, and g from t on.
 pub glue : (ℕ → ℕ) → (ℕ → ℕ) → ℕ → ℕ → ℕ

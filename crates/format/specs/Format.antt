@@ -191,12 +191,13 @@ flagSet flag q [] = 0
 flagSet flag q (z ∷ zs) = flag z * 2 ^ q + flagSet flag (suc q) zs
 
 -- a table of successor sets with one transition more
-unfoldable pub entered : List ℕ → Transition → List ℕ
-entered table t = set table (8 * t .from + t .letter) (unionOf (getD table (8 * t .from + t .letter) 0) (2 ^ t .to))
+unfoldable pub inserted : List ℕ → Transition → List ℕ
+inserted table t = set table (8 * t .from + t .letter) (unionOf (getD table (8 * t .from + t .letter) 0) (2 ^ t .to))
 
+-- the table with some transitions more
 unfoldable pub tableOf : List ℕ → List Transition → List ℕ
 tableOf table [] = table
-tableOf table (t ∷ ts) = tableOf (entered table t) ts
+tableOf table (t ∷ ts) = tableOf (inserted table t) ts
 
 unfoldable pub numbers : Sheet → Automaton
 numbers σ = record {
@@ -218,14 +219,15 @@ statesOf initial recurring q (suc n) = record { initial = bit initial q; recurri
 abbrev pub placed : ℕ → Transition
 placed i = record { from = i / 128; letter = i / 16 % 8; to = i % 16 }
 
-abbrev pub unless : ℕ → Transition → List Transition → List Transition
-unless zero t ts = ts
-unless (suc b) t ts = t ∷ ts
+-- a transition in front of others where its bit is 1
+abbrev pub whereMember : ℕ → Transition → List Transition → List Transition
+whereMember zero t ts = ts
+whereMember (suc b) t ts = t ∷ ts
 
 -- the transitions of a table at the places from i on, of which there are `left`
 unfoldable pub transitionsOf : List ℕ → ℕ → ℕ → List Transition
 transitionsOf table i zero = []
-transitionsOf table i (suc left) = unless (bit (getD table (i / 16) 0) (i % 16)) (placed i) (transitionsOf table (suc i) left)
+transitionsOf table i (suc left) = whereMember (bit (getD table (i / 16) 0) (i % 16)) (placed i) (transitionsOf table (suc i) left)
 
 -- the sheet that is written: an automaton's numbers, and names as they are given, composed
 unfoldable pub writtenSheet : Automaton → List (List ℕ) → Sheet
@@ -237,5 +239,6 @@ writtenSheet A names = record {
   transitions = transitionsOf (A .table) 0 2048;
 }
 
+-- the text that is written
 unfoldable pub written : Automaton → List (List ℕ) → List ℕ
 written A names = lines (writtenSheet A names) ++ endLine

@@ -15,7 +15,7 @@ use Rattle.sets.specs.SetLaws.{no-member, some-member, member-lt, union-right, 
 use Rattle.automaton.specs.declared.Numbers.{Numbers}
 use Rattle.automaton.specs.Automaton.{automaton, AreNumbers, Edge, InRange, Fits}
 use Rattle.automaton.specs.Lent.{lentTable}
-use Rattle.format.specs.Format.{State, Transition, Sheet, FlagsRight, StatesRight, TransitionRight, TransitionsRight, place, Right, FileIs, flagSet, entered, tableOf, numbers}
+use Rattle.format.specs.Format.{State, Transition, Sheet, FlagsRight, StatesRight, TransitionRight, TransitionsRight, place, Right, FileIs, flagSet, inserted, tableOf, numbers}
 
 -- Flags
 
@@ -46,18 +46,18 @@ abbrev pub cell : Transition → ℕ
 cell t = 8 * t .from + t .letter
 
 module _ (table : List ℕ) (t : Transition) where
-  pub entered-length : length (entered table t) ≡ length table
-  unfolding entered
-  entered-length = simp length-set
+  pub inserted-length : length (inserted table t) ≡ length table
+  unfolding inserted
+  inserted-length = simp length-set
 
   -- a transition is a member of its cell, and all other members stay as they are
-  pub entered-new : cell t < length table → Member (getD (entered table t) (cell t) 0) (t .to)
-  unfolding entered
-  entered-new fits = rw getD-set-same (union-right _ _ _ (bit-single (t .to)))
+  pub inserted-new : cell t < length table → Member (getD (inserted table t) (cell t) 0) (t .to)
+  unfolding inserted
+  inserted-new fits = rw getD-set-same (union-right _ _ _ (bit-single (t .to)))
 
-  pub entered-other : (c r : ℕ) → (c ≡ cell t → r ≡ t .to → ⊥) → bit (getD (entered table t) c 0) r ≡ bit (getD table c 0) r
-  unfolding entered
-  entered-other c r h = by (ℕ-discrete c (cell t)) (decLt (cell t) (length table))
+  pub inserted-other : (c r : ℕ) → (c ≡ cell t → r ≡ t .to → ⊥) → bit (getD (inserted table t) c 0) r ≡ bit (getD table c 0) r
+  unfolding inserted
+  inserted-other c r h = by (ℕ-discrete c (cell t)) (decLt (cell t) (length table))
     where
       by : Dec (c ≡ cell t) → Dec (cell t < length table)
           → bit (getD (set table (cell t) (unionOf (getD table (cell t) 0) (2 ^ t .to))) c 0) r ≡ bit (getD table c 0) r
@@ -69,25 +69,25 @@ module _ (table : List ℕ) (t : Transition) where
       by (yes e) (no l) = rw (set-out table (cell t) _ (omega arith))
 
   module _ (c r : ℕ) where
-    entered-old : cell t < length table → Member (getD table c 0) r → Member (getD (entered table t) c 0) r
-    entered-old fits m = by (Dec·and (ℕ-discrete c (cell t)) (ℕ-discrete r (t .to)))
+    inserted-old : cell t < length table → Member (getD table c 0) r → Member (getD (inserted table t) c 0) r
+    inserted-old fits m = by (Dec·and (ℕ-discrete c (cell t)) (ℕ-discrete r (t .to)))
       where
-        by : Dec ((c ≡ cell t) × (r ≡ t .to)) → Member (getD (entered table t) c 0) r
-        by (yes (e, f)) = rw (e, f) (entered-new fits)
-        by (no d) = entered-other c r (λ e f. d (e, f)) ∙ m
+        by : Dec ((c ≡ cell t) × (r ≡ t .to)) → Member (getD (inserted table t) c 0) r
+        by (yes (e, f)) = rw (e, f) (inserted-new fits)
+        by (no d) = inserted-other c r (λ e f. d (e, f)) ∙ m
 
-    entered-from : Member (getD (entered table t) c 0) r → Member (getD table c 0) r ⊎ ((c ≡ cell t) × (r ≡ t .to))
-    entered-from m = by (Dec·and (ℕ-discrete c (cell t)) (ℕ-discrete r (t .to)))
+    inserted-from : Member (getD (inserted table t) c 0) r → Member (getD table c 0) r ⊎ ((c ≡ cell t) × (r ≡ t .to))
+    inserted-from m = by (Dec·and (ℕ-discrete c (cell t)) (ℕ-discrete r (t .to)))
       where
         by : Dec ((c ≡ cell t) × (r ≡ t .to)) → Member (getD table c 0) r ⊎ ((c ≡ cell t) × (r ≡ t .to))
         by (yes e) = inr e
-        by (no d) = inl (sym (entered-other c r (λ e f. d (e, f))) ∙ m)
+        by (no d) = inl (sym (inserted-other c r (λ e f. d (e, f))) ∙ m)
 
--- the table of all transitions is as long as the one that they are entered in
+-- the table of all transitions is as long as the one that they are inserted in
 pub table-length : (ts : List Transition) (table : List ℕ) → length (tableOf table ts) ≡ length table
 unfolding tableOf
 table-length [] table = refl
-table-length (t ∷ ts) table = table-length ts (entered table t) ∙ entered-length table t
+table-length (t ∷ ts) table = table-length ts (inserted table t) ∙ inserted-length table t
 
 -- a transition that is right behind others is right
 pub loosened : {n k least : ℕ} {t : Transition} → TransitionRight n k least t → TransitionRight n k 0 t
@@ -109,22 +109,22 @@ module _ (n k : ℕ) (range : InRange n k) where
     table-old table size least [] h m = m
     table-old table size least (t ∷ ts) h m =
         let fits : cell t < length table = omega (arith, cell-small t (h .0 .from) (h .0 .letter)) in
-        table-old (entered table t) (entered-length table t ∙ size) (place t + 1) ts (h .1) (entered-old table t c r fits m)
+        table-old (inserted table t) (inserted-length table t ∙ size) (place t + 1) ts (h .1) (inserted-old table t c r fits m)
 
     -- a member was one, or is a transition's
     table-from : (table : List ℕ) → length table ≡ 128 → (least : ℕ) (ts : List Transition) → TransitionsRight n k least ts →
         Member (getD (tableOf table ts) c 0) r → Member (getD table c 0) r ⊎ ((t : Transition) × OneOf ts t × TransitionRight n k 0 t × (c ≡ cell t) × (r ≡ t .to))
     unfolding tableOf
     table-from table size least [] h m = inl m
-    table-from table size least (t ∷ ts) h m = by (table-from (entered table t) (entered-length table t ∙ size) (place t + 1) ts (h .1) m)
+    table-from table size least (t ∷ ts) h m = by (table-from (inserted table t) (inserted-length table t ∙ size) (place t + 1) ts (h .1) m)
       where
         first : Member (getD table c 0) r ⊎ ((c ≡ cell t) × (r ≡ t .to)) → Member (getD table c 0) r ⊎ ((u : Transition) × OneOf (t ∷ ts) u × TransitionRight n k 0 u × (c ≡ cell u) × (r ≡ u .to))
         first (inl a) = inl a
         first (inr a) = inr (t, (0, omega arith, refl), loosened (h .0), a .0, a .1)
 
-        by : Member (getD (entered table t) c 0) r ⊎ ((u : Transition) × OneOf ts u × TransitionRight n k 0 u × (c ≡ cell u) × (r ≡ u .to)) →
+        by : Member (getD (inserted table t) c 0) r ⊎ ((u : Transition) × OneOf ts u × TransitionRight n k 0 u × (c ≡ cell u) × (r ≡ u .to)) →
             Member (getD table c 0) r ⊎ ((u : Transition) × OneOf (t ∷ ts) u × TransitionRight n k 0 u × (c ≡ cell u) × (r ≡ u .to))
-        by (inl a) = first (entered-from table t c r a)
+        by (inl a) = first (inserted-from table t c r a)
         by (inr a) = inr (a .0, (suc (a .1 .0), omega (arith, a .1 .1), a .1 .2), a .2, a .3, a .4)
 
   -- each transition is in its cell
@@ -134,11 +134,11 @@ module _ (n k : ℕ) (range : InRange n k) where
   table-new t table size least [] h i l e = absurd (omega arith)
   table-new t table size least (u ∷ us) h zero l e =
       let fits : cell u < length table = omega (arith, cell-small u (h .0 .from) (h .0 .letter)) in
-      table-old (cell t) (t .to) (entered table u) (entered-length table u ∙ size) (place u + 1) us (h .1)
-      (subst (λ (v : Transition). Member (getD (entered table u) (cell v) 0) (v .to)) e (entered-new table u fits))
+      table-old (cell t) (t .to) (inserted table u) (inserted-length table u ∙ size) (place u + 1) us (h .1)
+      (subst (λ (v : Transition). Member (getD (inserted table u) (cell v) 0) (v .to)) e (inserted-new table u fits))
   table-new t table size least (u ∷ us) h (suc i) l e =
       let fits : cell u < length table = omega (arith, cell-small u (h .0 .from) (h .0 .letter)) in
-      table-new t (entered table u) (entered-length table u ∙ size) (place u + 1) us (h .1) i (omega arith) e
+      table-new t (inserted table u) (inserted-length table u ∙ size) (place u + 1) us (h .1) i (omega arith) e
 
   -- each transition of a list is right
   one-right : (t : Transition) (least : ℕ) (ts : List Transition) → TransitionsRight n k least ts → OneOf ts t → TransitionRight n k 0 t

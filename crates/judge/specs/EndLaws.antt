@@ -8,8 +8,8 @@ use native.Mathlib.Decide.{ℕ-discrete, decLt}
 use Rattle.gate.specs.GateLaws.{zeros}
 use lib.ListN.{length, getD, set, replicate}
 use lib.Seq.{getD-set-same, getD-set-other}
-use Rattle.finite.specs.Finite.{FirstRepeat, pigeon}
-use Rattle.judge.specs.TableRun.{Least}
+use Rattle.finite.specs.Finite.{FirstEqual, pigeon}
+use Rattle.judge.specs.TableRun.{LeastOf}
 
 -- the ends of some passes are told apart: the cell of each number at an end has the count of passes up to it, itself included
 pub record Seen (end : ℕ → ℕ) (passes : ℕ) (seen : List ℕ) : Type 0 where
@@ -65,23 +65,23 @@ module _ (end : ℕ → ℕ) (passes : ℕ) (seen : List ℕ) (h : Seen end pass
             ])
 
   -- the first end that was seen before
-  pub seen-again : (getD seen (end passes) 0 ≡ 0 → ⊥) → (j : ℕ) × FirstRepeat end j passes × (getD seen (end passes) 0 ≡ suc j)
+  pub seen-again : (getD seen (end passes) 0 ≡ 0 → ⊥) → (j : ℕ) × FirstEqual end j passes × (getD seen (end passes) 0 ≡ suc j)
   seen-again old = by (h .only (end passes))
     where
       by : (getD seen (end passes) 0 ≡ 0) ⊎ ((j : ℕ) × (j < passes) × (end j ≡ end passes))
-          → (j : ℕ) × FirstRepeat end j passes × (getD seen (end passes) 0 ≡ suc j)
+          → (j : ℕ) × FirstEqual end j passes × (getD seen (end passes) 0 ≡ suc j)
       by (inl e) = absurd (old e)
       by (inr (j, l, e)) = (j, (l, e, apart), ap (λ (n : ℕ). getD seen n 0) (sym e) ∙ h .told j l)
 
 -- the least colour of each pass stands at its number, from 1
 abbrev pub Leasts : (ℕ → ℕ) → ℕ → ℕ → ℕ → List ℕ → Type 0
-Leasts f m c passes leasts = (j : ℕ) → j < passes → Least f (m + j * c) (m + suc j * c) (getD leasts (suc j) 0)
+Leasts f m c passes leasts = (j : ℕ) → j < passes → LeastOf f (m + j * c) (m + suc j * c) (getD leasts (suc j) 0)
 
 pub leasts-more : (f : ℕ → ℕ) (m c passes v : ℕ) (leasts : List ℕ) → Leasts f m c passes leasts → passes + 1 < length leasts
-    → Least f (m + passes * c) (m + suc passes * c) v → Leasts f m c (passes + 1) (set leasts (passes + 1) v)
+    → LeastOf f (m + passes * c) (m + suc passes * c) v → Leasts f m c (passes + 1) (set leasts (passes + 1) v)
 leasts-more f m c passes v leasts h room new j l = by (ℕ-discrete j passes)
   where
-    by : Dec (j ≡ passes) → Least f (m + j * c) (m + suc j * c) (getD (set leasts (passes + 1) v) (suc j) 0)
+    by : Dec (j ≡ passes) → LeastOf f (m + j * c) (m + suc j * c) (getD (set leasts (passes + 1) v) (suc j) 0)
     by (yes e) =
         let z : suc passes ≡ passes + 1 = omega arith in
         let g : getD (set leasts (passes + 1) v) (suc passes) 0 ≡ v =

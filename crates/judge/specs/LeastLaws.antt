@@ -5,9 +5,9 @@ use native.Mathlib.Omega.{arith}
 use native.Mathlib.Nat.{mul-le-mul-right, div-add-mod', mod-lt, suc-mul}
 use native.Mathlib.Decide.{ℕ-discrete, decLe, decLt}
 use Rattle.finite.specs.Finite.{lowest, lowest-le, lowest-at}
-use Rattle.judge.specs.TableRun.{Least}
+use Rattle.judge.specs.TableRun.{LeastOf}
 
-pub least-one : (f : ℕ → ℕ) (a : ℕ) → Least f a (a + 1) (f a)
+pub least-one : (f : ℕ → ℕ) (a : ℕ) → LeastOf f a (a + 1) (f a)
 least-one f a = record {
   at = a;
   from = omega arith;
@@ -16,7 +16,7 @@ least-one f a = record {
   lowest = λ s l m. (let e : s ≡ a = omega arith in rw e (omega arith));
 }
 
-pub least-more : (f : ℕ → ℕ) (a b v : ℕ) → Least f a b v → Least f a (b + 1) (min v (f b))
+pub least-more : (f : ℕ → ℕ) (a b v : ℕ) → LeastOf f a b v → LeastOf f a (b + 1) (min v (f b))
 least-more f a b v h = by (decLt (f b) v)
   where
     low : (s : ℕ) → a ≤ s → s < b + 1 → min v (f b) ≤ f s
@@ -25,13 +25,13 @@ least-more f a b v h = by (decLt (f b) v)
       | no e ↦ let x = h .lowest s l (omega arith) in omega arith
     ]
 
-    by : Dec (f b < v) → Least f a (b + 1) (min v (f b))
+    by : Dec (f b < v) → LeastOf f a (b + 1) (min v (f b))
     by (yes x) = record { at = b; from = omega (arith, h .from, h .before); before = omega arith; is = omega arith; lowest = low }
     by (no x) = record { at = h .at; from = h .from; before = omega (arith, h .before); is = omega (arith, h .is); lowest = low }
 
 -- the least of f over stretches of c places is the least of their least values
-pub least-joined : (f g : ℕ → ℕ) (m c a b v : ℕ) → Least g a b v → ((j : ℕ) → a ≤ j → j < b → Least f (m + j * c) (m + suc j * c) (g j))
-    → 0 < c → Least f (m + a * c) (m + b * c) v
+pub least-joined : (f g : ℕ → ℕ) (m c a b v : ℕ) → LeastOf g a b v → ((j : ℕ) → a ≤ j → j < b → LeastOf f (m + j * c) (m + suc j * c) (g j))
+    → 0 < c → LeastOf f (m + a * c) (m + b * c) v
 least-joined f g m c a b v h parts pos =
     let z = parts (h .at) (h .from) (h .before) in
     let x = mul-le-mul-right c (h .from) in
@@ -63,7 +63,7 @@ least-joined f g m c a b v h parts pos =
         omega arith
 
 -- of another sequence that is f from place t on
-pub least-from : (f g : ℕ → ℕ) (t size v : ℕ) → ((i : ℕ) → i < size → g i ≡ f (t + i)) → Least g 0 size v → Least f t (t + size) v
+pub least-from : (f g : ℕ → ℕ) (t size v : ℕ) → ((i : ℕ) → i < size → g i ≡ f (t + i)) → LeastOf g 0 size v → LeastOf f t (t + size) v
 least-from f g t size v same h = record {
   at = t + h .at;
   from = omega arith;
@@ -78,7 +78,7 @@ least-from f g t size v same h = record {
 }
 
 -- counted from the place before
-pub least-down : (f : ℕ → ℕ) (a b v : ℕ) → Least f (suc a) (b + 1) v → Least (λ i. f (suc i)) a b v
+pub least-down : (f : ℕ → ℕ) (a b v : ℕ) → LeastOf f (suc a) (b + 1) v → LeastOf (λ i. f (suc i)) a b v
 least-down f a b v h =
     let l = h .from in
     let e : suc (h .at - 1) ≡ h .at = omega arith in
@@ -91,7 +91,7 @@ least-down f a b v h =
     }
 
 -- it is the value that the theory calls lowest
-pub least-lowest : (f : ℕ → ℕ) (a d v : ℕ) → Least f a (a + suc d) v → lowest f a d ≡ v
+pub least-lowest : (f : ℕ → ℕ) (a d v : ℕ) → LeastOf f a (a + suc d) v → lowest f a d ≡ v
 least-lowest f a d v h =
     let (s, l, m, e) = lowest-at f a d in
     let x = h .lowest s l (omega arith) in
@@ -101,12 +101,12 @@ least-lowest f a d v h =
 -- the least of the first i values of f, as a loop keeps it that starts from the most a cell can hold
 pub record LeastSoFar (f : ℕ → ℕ) (i v : ℕ) : Type 0 where
   pub none : i ≡ 0 → v ≡ 65535
-  pub some : 0 < i → Least f 0 i v
+  pub some : 0 < i → LeastOf f 0 i v
 
 pub so-far-more : (f : ℕ → ℕ) (i v : ℕ) → LeastSoFar f i v → f i < 65536 → LeastSoFar f (i + 1) (min v (f i))
 so-far-more f i v h l = record { none = λ e. omega arith; some = λ z. by (ℕ-discrete i 0) }
   where
-    by : Dec (i ≡ 0) → Least f 0 (i + 1) (min v (f i))
+    by : Dec (i ≡ 0) → LeastOf f 0 (i + 1) (min v (f i))
     by (yes e) =
         let x = h .none e in
         let y : min v (f i) ≡ f i = omega arith in

@@ -4,11 +4,11 @@ use mathlib.Core.Path.{_≡_, sym, _∙_, ap}
 use mathlib.Core.List.{List}
 use native.Mathlib.Omega.{arith}
 use lib.ListN.{length, getD, set, replicate, length-set, length-replicate}
-use Rattle.finite.specs.Finite.{FirstRepeat}
+use Rattle.finite.specs.Finite.{FirstEqual}
 use Rattle.judge.specs.declared.Pass.{Pass}
 use Rattle.judge.specs.declared.Verdict.{Verdict}
 use Rattle.judge.specs.Passes.{AnswerIs}
-use Rattle.judge.specs.TableRun.{TablesFit, LettersFit, wordOf, enteredIn, endNumber, Least, Passing, TableJudges}
+use Rattle.judge.specs.TableRun.{TablesFit, LettersFit, wordOf, enteredIn, endNumber, LeastOf, Passing, TableJudges}
 use Rattle.judge.specs.LeastLaws.{least-joined, least-down}
 use Rattle.judge.specs.TableRunLaws.{reached-below, pass-end, pass-least, lead-end}
 use Rattle.judge.specs.EndLaws.{Seen, seen-none, seen-more, seen-few, seen-again, Leasts, leasts-more}
@@ -73,7 +73,7 @@ module _ {tuples nexts : List ℕ} {count : ℕ} {letters : List ℕ} {lead cycl
 
     -- the repeat: the cell of the number at the end tells which pass comes after the earlier end
     module _ (old : getD seen at 0 ≡ 0 → ⊥) where
-      repeat : (j : ℕ) × FirstRepeat end j passes × (getD seen at 0 ≡ suc j)
+      repeat : (j : ℕ) × FirstEqual end j passes × (getD seen at 0 ≡ suc j)
       repeat =
           let (j, r, e) = seen-again end passes seen (h .ends) (rw (h .here) at old) in
           (j, r, ap (λ (x : ℕ). getD seen x 0) (h .here) ∙ e)
@@ -85,11 +85,11 @@ module _ {tuples nexts : List ℕ} {count : ℕ} {letters : List ℕ} {lead cycl
           let m = tables .numbers .most in
           (omega arith, omega (arith, h .few))
 
-      pub repeat-judged : (z : Verdict) → z .passes ≡ passes → Least (λ i. getD leasts i 0) (getD seen at 0) (passes + 1) (z .least)
+      pub repeat-judged : (z : Verdict) → z .passes ≡ passes → LeastOf (λ i. getD leasts i 0) (getD seen at 0) (passes + 1) (z .least)
           → AnswerIs (z .least) (z .answer) → TableJudges tuples nexts count word lead cycle z
       repeat-judged z same least answer =
           let (j, r, e) = repeat in
-          let l : Least (λ i. getD leasts (suc i) 0) j passes (z .least) = least-down (λ i. getD leasts i 0) j passes (z .least) (rw e at least) in
+          let l : LeastOf (λ i. getD leasts (suc i) 0) j passes (z .least) = least-down (λ i. getD leasts i 0) j passes (z .least) (rw e at least) in
           let m = least-joined (enteredIn tuples nexts 0 word) (λ i. getD leasts (suc i) 0) lead cycle j passes (z .least) l (λ i a b. h .colours i b) (fit .cycle-some) in
           record {
             earlier = j;

@@ -9,7 +9,7 @@ use lib.ListN.{length}
 use Rattle.automaton.specs.Automaton.{Automaton, Fits}
 use Rattle.automaton.specs.Meeting.{Free, Everywhere}
 use Rattle.automaton.specs.Reading.{Passes}
-use Rattle.tuple.specs.Step.{run, entered}
+use Rattle.tuple.specs.Step.{run, colourEntered}
 use Rattle.tuple.specs.Demand.{demand}
 use Rattle.finite.specs.Finite.{lowest}
 use Rattle.plan.specs.Letter.{letterAt}
@@ -19,11 +19,11 @@ use Rattle.judge.specs.declared.Answer.the-variants.{Yes, No}
 use Rattle.judge.specs.declared.Verdict.{Verdict}
 use Rattle.judge.specs.Passes.{AnswerIs, LeastColour, Judges}
 use Rattle.judge.specs.Verdict.{Sound}
-use Rattle.judge.specs.TableRun.{Least}
+use Rattle.judge.specs.TableRun.{LeastOf}
 use Rattle.judge.specs.LeastLaws.{least-lowest}
 
--- the colours entered after t and up to u, by the letter that enters them
-entered-least : (A : Automaton) (w : ℕ → ℕ) (t u v : ℕ) → LeastColour A w t u v → Least (entered A w) t u v
+-- the colours colourEntered after t and up to u, by the letter that enters them
+entered-least : (A : Automaton) (w : ℕ → ℕ) (t u v : ℕ) → LeastColour A w t u v → LeastOf (colourEntered A w) t u v
 entered-least A w t u v h =
     let l = h .after in
     let e : suc (h .at - 1) ≡ h .at = omega arith in
@@ -78,7 +78,7 @@ sound {A} fits free lead cycle some letters z h = by-parity A w (z .least) parit
 
     parity : (z .least % 2 ≡ 0) ↔ Passes A w
     parity =
-        rw (least-lowest (entered A w) T d (z .least) (rw later (entered-least A w T (m + z .passes * c) (z .least) (h .least)))) at
+        rw (least-lowest (colourEntered A w) T d (z .least) (rw later (entered-least A w T (m + z .passes * c) (z .least) (h .least)))) at
         (demand fits free w letters T d
         (λ t l. ap (λ (x : ℕ). w (t + x)) letters-of ∙ letter-repeats lead cycle k t (omega arith))
         (ap (run A w) later ∙ sym (h .repeat .equal)))

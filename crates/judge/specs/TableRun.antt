@@ -4,7 +4,7 @@ use Prim.Native.Nat.{ℕ, zero, suc, _+_, _*_, _≤_, _<_}
 use mathlib.Core.Path.{_≡_}
 use mathlib.Core.List.{List}
 use lib.ListN.{length, getD, take, drop}
-use Rattle.finite.specs.Finite.{FirstRepeat}
+use Rattle.finite.specs.Finite.{FirstEqual}
 use Rattle.plan.specs.Letter.{letterAt}
 use Rattle.judge.specs.declared.Pass.{Pass}
 use Rattle.judge.specs.declared.Verdict.{Verdict}
@@ -48,7 +48,7 @@ abbrev pub enteredIn : List ℕ → List ℕ → ℕ → (ℕ → ℕ) → ℕ �
 enteredIn tuples nexts at w t = colourIn tuples (reached nexts at w (suc t))
 
 -- the least value of f from a on, before b
-pub record Least (f : ℕ → ℕ) (a b least : ℕ) : Type 0 where
+pub record LeastOf (f : ℕ → ℕ) (a b least : ℕ) : Type 0 where
   pub at : ℕ
   pub from : a ≤ at
   pub before : at < b
@@ -59,7 +59,7 @@ pub record Least (f : ℕ → ℕ) (a b least : ℕ) : Type 0 where
 pub record Passing (tuples nexts : List ℕ) (count at : ℕ) (w : ℕ → ℕ) (size : ℕ) (z : Pass) : Type 0 where
   pub end : z .at ≡ reached nexts at w size
   pub below : z .at < count
-  pub least : 0 < size → Least (enteredIn tuples nexts at w) 0 size (z .least)
+  pub least : 0 < size → LeastOf (enteredIn tuples nexts at w) 0 size (z .least)
 
 -- the number at the end of pass i, from tuple 0; the lead-in has m letters, the cycle c
 abbrev pub endNumber : List ℕ → (ℕ → ℕ) → ℕ → ℕ → ℕ → ℕ
@@ -68,7 +68,7 @@ endNumber nexts w m c i = reached nexts 0 w (m + i * c)
 -- THE VERDICT by numbers
 pub record TableJudges (tuples nexts : List ℕ) (count : ℕ) (w : ℕ → ℕ) (m c : ℕ) (z : Verdict) : Type 0 where
   pub earlier : ℕ
-  pub repeat : FirstRepeat (endNumber nexts w m c) earlier (z .passes)
-  pub least : Least (enteredIn tuples nexts 0 w) (m + earlier * c) (m + z .passes * c) (z .least)
+  pub repeat : FirstEqual (endNumber nexts w m c) earlier (z .passes)
+  pub least : LeastOf (enteredIn tuples nexts 0 w) (m + earlier * c) (m + z .passes * c) (z .least)
   pub answer : AnswerIs (z .least) (z .answer)
   pub passes : z .passes ≤ count

@@ -9,7 +9,7 @@ use lib.Seq.{getD-take}
 use Rattle.text.specs.CellsLaws.{part-at}
 use Rattle.plan.specs.LetterLaws.{letter-lead, letter-cycle}
 use Rattle.judge.specs.declared.Pass.{Pass}
-use Rattle.judge.specs.TableRun.{NextsFit, wordOf, reached, colourIn, enteredIn, endNumber, Least, Passing}
+use Rattle.judge.specs.TableRun.{NextsFit, wordOf, reached, colourIn, enteredIn, endNumber, LeastOf, Passing}
 use Rattle.judge.specs.LeastLaws.{least-from}
 
 module _ (nexts : List ℕ) (at : ℕ) where
@@ -75,7 +75,7 @@ module _ (letters : List ℕ) (lead cycle : ℕ) (all : lead + cycle ≤ length 
     pub pass-end : z .at ≡ endNumber nexts word lead cycle (suc p)
     pass-end = h .end ∙ (along cycle (omega arith) ∙ ap (reached nexts 0 word) next-end)
 
-    pub pass-least : 0 < cycle → Least (enteredIn tuples nexts 0 word) (lead + p * cycle) (lead + suc p * cycle) (z .least)
+    pub pass-least : 0 < cycle → LeastOf (enteredIn tuples nexts 0 word) (lead + p * cycle) (lead + suc p * cycle) (z .least)
     pass-least pos =
         rw next-end at
         (least-from (enteredIn tuples nexts 0 word) (enteredIn tuples nexts (endNumber nexts word lead cycle p) (λ i. getD letters (lead + i) 0))

@@ -14,7 +14,7 @@ use gate::Refusal;
 use parser::File;
 use plan::Planned;
 use plan::whole_file::read_plan;
-use sheet::letters::read_letters;
+use sheet::letters::read_rows;
 use tracker::Built;
 
 // Questions 12 to 14, and the verdict.
@@ -23,7 +23,7 @@ pub fn judge_plan(s: &[u8], p: &[u8], tuples: &[u16], nexts: &[u16], count: usiz
     ensures { λ r. ⌜ ((σ : Sheet) → FileIs (now (s .entry)) σ → PlanJudged σ (now (p .entry)) (now (tuples .entry)) (now (nexts .entry)) count r) ⌝ }
 {
     let mut rows = [0u8; 216];
-    match read_letters(s, &mut rows) {
+    match read_rows(s, &mut rows) {
         File::Refused(r) => Outcome::Refused(r),
         File::Is(a) => {
             let mut letters = [0u8; 400];

@@ -13,7 +13,7 @@ pub enum Answer {
 }
 
 // Whether the answer is yes.
-pub fn passed(answer: Answer) -> bool
+pub fn is_yes(answer: Answer) -> bool
     ensures { λ r. ⌜ r ≡ isYes answer ⌝ }
 {
     match answer {

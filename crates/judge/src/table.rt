@@ -3,7 +3,7 @@ ghost use mathlib.Core.Path.{_≡_};
 ghost use Prim.Native.Nat.{ℕ, _+_, _*_, _<_, _≤_, min};
 ghost use lib.ListN.{length, getD};
 ghost use Rattle.judge.specs.Passes.{AnswerIs};
-ghost use Rattle.judge.specs.TableRun.{NextsFit, TablesFit, LettersFit, wordOf, colourIn, Least, Passing, TableJudges};
+ghost use Rattle.judge.specs.TableRun.{NextsFit, TablesFit, LettersFit, wordOf, LeastOf, Passing, TableJudges};
 use super::Answer;
 use super::Pass;
 use super::Verdict;
@@ -58,7 +58,7 @@ fn pass(
 // The least of the cells from `first` up to and with `last`.
 fn least_of(cells: &[u16], first: usize, last: usize) -> u16
     requires { ⌜ (first ≤ last) × (last < length (now cells)) ⌝ }
-    ensures { λ r. ⌜ Least (λ i. getD (now (cells .entry)) i 0) first (last + 1) r ⌝ }
+    ensures { λ r. ⌜ LeastOf (λ i. getD (now (cells .entry)) i 0) first (last + 1) r ⌝ }
 {
     let mut least = cells[first];
     let mut i = first;

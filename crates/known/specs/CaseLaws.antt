@@ -12,7 +12,7 @@ use Rattle.gate.specs.Gate.{refusal}
 use Rattle.automaton.specs.Automaton.{Automaton}
 use Rattle.format.specs.Format.{Sheet, FileIs, numbers, most}
 use Rattle.parser.specs.Parse.{Phase, refused, passed, Contents}
-use Rattle.parser.specs.LetterLaws.{same-is}
+use Rattle.text.specs.SearchLaws.{same-is}
 use Rattle.parser.specs.ParseLaws.{AreContents}
 use Rattle.tuple.specs.Step.{Tuple}
 use Rattle.tracker.specs.declared.Built.{Built}

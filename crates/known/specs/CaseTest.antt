@@ -4,10 +4,11 @@ use mathlib.Core.Bool.{Bool, true, false, not, _&&_}
 use mathlib.Core.List.{List, [], _∷_, map}
 use lib.Dec.{eqb, ltb}
 use lib.ListN.{length, take, drop}
+use Rattle.text.specs.Search.{same}
 use Rattle.text.specs.Choice.{choose}
 use Rattle.automaton.specs.Automaton.{Automaton}
 use Rattle.format.specs.Format.{most}
-use Rattle.parser.specs.Parse.{Phase, refused, passed, same, parse}
+use Rattle.parser.specs.Parse.{Phase, refused, passed, parse}
 use Rattle.parser.specs.Parse as S
 use Rattle.tuple.specs.Step.{Tuple}
 use Rattle.tracker.specs.Explore.{found}

@@ -7,14 +7,15 @@ use Rattle.sets.specs.Sets.{bit, unionOf, interOf, minusOf, isWithin}
 use Rattle.automaton.specs.Successors.{given, successorsBelow, successorsOf}
 use Rattle.text.specs.Number as N
 use Rattle.text.specs.Number.{digitOf, valueOf, numberAt, isNumbered}
+use Rattle.text.specs.Search.{same, firstThat}
 use Rattle.text.specs.Word.{startsAt}
 use Rattle.text.specs.Column.{digitByte, column}
 use Rattle.names.specs.Name.{oneOf, isUmlaut, isVowel, umlautOf, compose}
 use Rattle.names.specs.Scan.{widthOf, widthAt, partsEnd, nameEndAt}
-use Rattle.format.specs.Format.{entered}
+use Rattle.format.specs.Format.{inserted}
 use Rattle.parser.specs.Parse as S
 use Rattle.tuple.specs.Step.{places, unionAll, isMarked, removed, turns, pass, colourAt, least, deadOr, colourOf, unlessEmpty, closed, closeUp, first, next, run}
-use Rattle.tracker.specs.Explore.{sameSets, sameTuple, numberOf, addNew, step, found}
+use Rattle.tracker.specs.Explore.{sameTuple, addNew, step, found}
 use Rattle.plan.specs.Letter.{letterAt}
 use Rattle.plan.specs.Parse as P
 use Rattle.finite.specs.Finite.{lowest}
@@ -28,7 +29,7 @@ use Rattle.known.specs.CaseLaws.{right-forced}
 
 -- every case is computed right
 computed : allRight cases ≡ true
-unfolding bit unionOf interOf minusOf isWithin given successorsBelow successorsOf digitOf valueOf N.numberOf numberAt isNumbered startsAt digitByte column oneOf isUmlaut isVowel umlautOf compose widthOf widthAt partsEnd nameEndAt entered S.headOf S.nameLineAt S.same S.letterOf S.namesAt S.stateLineAt S.statesAt S.transitionOf S.transitionLineAt S.endAt S.transitionsAt S.parse places unionAll isMarked removed turns pass colourAt least deadOr colourOf unlessEmpty closed closeUp first next run sameSets sameTuple numberOf addNew step found letterAt P.headOf P.letterLineAt P.lettersAt P.endAt P.planOf lowest all any isEdge reached together joinAt noneUpTo isFree isWalk doMeet isShortest ends earlierOf isRepeat leastEntered isAnswer isLeast isVerdict isRefused rightPlan rightColours rightRoom rightWalks rightFile right allRight
+unfolding bit unionOf interOf minusOf isWithin given successorsBelow successorsOf digitOf valueOf N.numberOf numberAt isNumbered startsAt same firstThat digitByte column oneOf isUmlaut isVowel umlautOf compose widthOf widthAt partsEnd nameEndAt inserted S.headOf S.nameLineAt S.namesAt S.stateLineAt S.statesAt S.transitionOf S.transitionLineAt S.endAt S.transitionsAt S.parse places unionAll isMarked removed turns pass colourAt least deadOr colourOf unlessEmpty closed closeUp first next run sameTuple addNew step found letterAt P.headOf P.letterLineAt P.lettersAt P.endOf P.planOf lowest all any isEdge reached together joinAt noneUpTo isFree isWalk doMeet isShortest ends earlierOf isRepeat leastEntered isAnswer isLeast isVerdict isRefused rightPlan rightColours rightRoom rightWalks rightFile right allRight
 computed = refl
 
 all-forced : (cs : List Case) → allRight cs ≡ true → (c : Case) → List·Memᴰ c cs → Forced c

@@ -11,8 +11,8 @@ columns w f i zero = []
 columns w f i (suc left) = column w (f i) ++ columns w f (suc i) left
 
 -- "First line: TRACK, n (3), k (3), tuples (5)."
-unfoldable pub firstLine : ℕ → ℕ → ℕ → List ℕ
-firstLine n k count = (84 ∷ 82 ∷ 65 ∷ 67 ∷ 75 ∷ []) ++ (column 3 n ++ (column 3 k ++ (column 5 count ++ (lf ∷ []))))
+unfoldable pub trackLine : ℕ → ℕ → ℕ → List ℕ
+trackLine n k count = (84 ∷ 82 ∷ 65 ∷ 67 ∷ 75 ∷ []) ++ (column 3 n ++ (column 3 k ++ (column 5 count ++ (lf ∷ []))))
 
 -- "Then for each tuple Q, number (5), colour (3), n sets (6 each), k next tuples (5 each)."
 unfoldable pub tupleLine : ℕ → ℕ → List ℕ → List ℕ → ℕ → List ℕ
@@ -28,4 +28,4 @@ tupleLines n k tuples nexts t (suc left) = tupleLine n k tuples nexts t ++ tuple
 
 -- "The last line is END."
 unfoldable pub listing : ℕ → ℕ → ℕ → List ℕ → List ℕ → List ℕ
-listing n k count tuples nexts = firstLine n k count ++ (tupleLines n k tuples nexts 0 count ++ (endWord ++ (lf ∷ [])))
+listing n k count tuples nexts = trackLine n k count ++ (tupleLines n k tuples nexts 0 count ++ (endWord ++ (lf ∷ [])))

@@ -14,7 +14,7 @@ use Rattle.text.specs.Bytes.{lf, endWord}
 use Rattle.text.specs.BytesLaws.{append-same}
 use Rattle.text.specs.Column.{column}
 use Rattle.text.specs.ColumnLaws.{column-length, column-injective}
-use Rattle.listing.specs.Listing.{columns, firstLine, tupleLine, tupleLines, listing}
+use Rattle.listing.specs.Listing.{columns, trackLine, tupleLine, tupleLines, listing}
 use Rattle.listing.specs.Put.{cellsFrom}
 use Rattle.listing.specs.PutLaws.{columns-length, line-length, lines-length, first-length}
 
@@ -67,8 +67,8 @@ lines-same n k t₁ n₁ t₂ n₂ t (suc left) e j h l =
     by (x, y) (no m) ih = let z : j ≡ t = omega arith in ap (tupleLine n k t₁ n₁) z ∙ x ∙ ap (tupleLine n k t₂ n₂) (sym z)
 
 first-same : (n k count n' k' count' : ℕ) → n ≤ 16 → k ≤ 8 → count ≤ 1024 → n' ≤ 16 → k' ≤ 8 → count' ≤ 1024
-    → firstLine n k count ≡ firstLine n' k' count' → (n ≡ n') × (k ≡ k') × (count ≡ count')
-unfolding firstLine
+    → trackLine n k count ≡ trackLine n' k' count' → (n ≡ n') × (k ≡ k') × (count ≡ count')
+unfolding trackLine
 first-same n k count n' k' count' a b c a' b' c' e =
     let rest : List ℕ = column 3 k ++ (column 5 count ++ (lf ∷ [])) in
     let rest' : List ℕ = column 3 k' ++ (column 5 count' ++ (lf ∷ [])) in
@@ -147,9 +147,9 @@ listing-determines n₁ k₁ c₁ t₁ e₁ n₂ k₂ c₂ t₂ e₂ s₁ s₂ e
     end : List ℕ
     end = endWord ++ (lf ∷ [])
 
-    parts : (firstLine n₁ k₁ c₁ ≡ firstLine n₂ k₂ c₂) × (tupleLines n₁ k₁ t₁ e₁ 0 c₁ ++ end ≡ tupleLines n₂ k₂ t₂ e₂ 0 c₂ ++ end)
+    parts : (trackLine n₁ k₁ c₁ ≡ trackLine n₂ k₂ c₂) × (tupleLines n₁ k₁ t₁ e₁ 0 c₁ ++ end ≡ tupleLines n₂ k₂ t₂ e₂ 0 c₂ ++ end)
     parts =
-        append-same (firstLine n₁ k₁ c₁) (firstLine n₂ k₂ c₂) (tupleLines n₁ k₁ t₁ e₁ 0 c₁ ++ end) (tupleLines n₂ k₂ t₂ e₂ 0 c₂ ++ end)
+        append-same (trackLine n₁ k₁ c₁) (trackLine n₂ k₂ c₂) (tupleLines n₁ k₁ t₁ e₁ 0 c₁ ++ end) (tupleLines n₂ k₂ t₂ e₂ 0 c₂ ++ end)
         (first-length n₁ k₁ c₁ ∙ sym (first-length n₂ k₂ c₂)) e
 
     by : (n₁ ≡ n₂) × (k₁ ≡ k₂) × (c₁ ≡ c₂) → Same n₁ k₁ c₁ t₁ e₁ n₂ k₂ c₂ t₂ e₂

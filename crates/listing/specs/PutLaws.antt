@@ -11,7 +11,7 @@ use Rattle.text.specs.Bytes.{lf, endWord}
 use Rattle.text.specs.Column.{column}
 use Rattle.text.specs.ColumnLaws.{column-length}
 use Rattle.text.specs.SetsLaws.{sets-append}
-use Rattle.listing.specs.Listing.{columns, firstLine, tupleLine, tupleLines, listing}
+use Rattle.listing.specs.Listing.{columns, trackLine, tupleLine, tupleLines, listing}
 use Rattle.listing.specs.Put.{cellsFrom, lineBytes, listingBytes}
 
 -- LENGTHS
@@ -32,8 +32,8 @@ lines-length n k tuples nexts t (suc left) =
     length-append (tupleLine n k tuples nexts t) (tupleLines n k tuples nexts (suc t) left)
     ∙ omega (arith, line-length n k tuples nexts t, lines-length n k tuples nexts (suc t) left, suc-mul left (lineBytes n k))
 
-pub first-length : (n k count : ℕ) → length (firstLine n k count) ≡ 17
-unfolding firstLine
+pub first-length : (n k count : ℕ) → length (trackLine n k count) ≡ 17
+unfolding trackLine
 first-length n k count = simp (length-append, column-length)
 
 pub listing-length : (n k count : ℕ) (tuples nexts : List ℕ) → length (listing n k count tuples nexts) ≡ listingBytes n k count
@@ -73,9 +73,9 @@ columns-none w f i count h =
     rw k
 
 pub first-put : (out : List ℕ) (n k count : ℕ)
-    → sets out 0 (firstLine n k count)
+    → sets out 0 (trackLine n k count)
     ≡ sets (sets (sets (sets (sets out 0 (84 ∷ 82 ∷ 65 ∷ 67 ∷ 75 ∷ [])) 5 (column 3 n)) 8 (column 3 k)) 11 (column 5 count)) 16 (10 ∷ [])
-unfolding firstLine
+unfolding trackLine
 first-put out n k count =
     let a = sets out 0 (84 ∷ 82 ∷ 65 ∷ 67 ∷ 75 ∷ []) in
     let b = sets a 5 (column 3 n) in
@@ -135,9 +135,9 @@ lines-none n k tuples nexts t count h =
 
 pub listing-put : (out : List ℕ) (n k count : ℕ) (tuples nexts : List ℕ)
     → sets out 0 (listing n k count tuples nexts)
-    ≡ sets (sets (sets out 0 (firstLine n k count)) 17 (tupleLines n k tuples nexts 0 count)) (17 + count * lineBytes n k) (69 ∷ 78 ∷ 68 ∷ 10 ∷ [])
+    ≡ sets (sets (sets out 0 (trackLine n k count)) 17 (tupleLines n k tuples nexts 0 count)) (17 + count * lineBytes n k) (69 ∷ 78 ∷ 68 ∷ 10 ∷ [])
 unfolding listing
 listing-put out n k count tuples nexts =
     let ls = tupleLines n k tuples nexts 0 count in
-    sets-part (firstLine n k count) (ls ++ (endWord ++ (lf ∷ []))) out 0 17 (omega (arith, first-length n k count))
-    ∙ sets-part ls (endWord ++ (lf ∷ [])) (sets out 0 (firstLine n k count)) 17 (17 + count * lineBytes n k) (omega (arith, lines-length n k tuples nexts 0 count))
+    sets-part (trackLine n k count) (ls ++ (endWord ++ (lf ∷ []))) out 0 17 (omega (arith, first-length n k count))
+    ∙ sets-part ls (endWord ++ (lf ∷ [])) (sets out 0 (trackLine n k count)) 17 (17 + count * lineBytes n k) (omega (arith, lines-length n k tuples nexts 0 count))

@@ -3,7 +3,7 @@ ghost use mathlib.Core.Path.{_≡_};
 ghost use Prim.Native.Nat.{_+_, _*_, _≤_};
 ghost use lib.ListN.{length};
 ghost use lib.Seq.{sets};
-ghost use Rattle.listing.specs.Listing.{columns, firstLine, tupleLine, tupleLines, listing};
+ghost use Rattle.listing.specs.Listing.{columns, trackLine, tupleLine, tupleLines, listing};
 ghost use Rattle.gate.specs.Gate.{lentText};
 ghost use Rattle.listing.specs.Put.{cellsFrom, CellsFit, lineBytes, listingBytes, Sized};
 
@@ -69,7 +69,7 @@ fn put_tuples(
 // The first line.
 fn put_first(out: &mut [u8], n: usize, k: usize, count: usize)
     requires { ⌜ 17 ≤ length (now out) ⌝ }
-    ensures { λ _. ⌜ now (out .exit) ≡ sets (now (out .entry)) 0 (firstLine n k count) ⌝ }
+    ensures { λ _. ⌜ now (out .exit) ≡ sets (now (out .entry)) 0 (trackLine n k count) ⌝ }
 {
     text::put_bytes(out, 0, b"TRACK");
     text::put_column(out, 5, 3, n);

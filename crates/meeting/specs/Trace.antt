@@ -36,7 +36,7 @@ pub record Traced (A : Automaton) (counts : ℕ) (T : List ℕ) (head d t i : �
 abbrev pub Linked : List ℕ → ℕ → Type 0
 Linked T head = (i : ℕ) → i ≤ head → 0 < depth (pair T i) → (origin T i / 8 < i) × (depth (pair T i) ≡ suc (depth (pair T (origin T i / 8))))
 
--- the walks that end pair head, d letters deep, can be traced into tables v
+-- the walks that end in pair head, d letters deep, can be traced into tables v
 pub record Traceable (T : List ℕ) (head d : ℕ) (v : Tables) : Type 0 where
   pub size : length T ≡ 528
   pub some : head < 256

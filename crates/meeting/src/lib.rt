@@ -147,7 +147,7 @@ fn trace(queue: &[u16], head: usize, d: usize, word: &mut [u16], one: &mut [u16]
     }
 }
 
-// The shortest meeting that ends pair head.
+// A shortest meeting by way of pair `head`, which joins: its word and walks, in the tables. The answer is its length.
 fn witness(
     a: Numbers,
     table: &[u16],

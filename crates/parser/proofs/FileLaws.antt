@@ -10,8 +10,8 @@ use Rattle.gate.specs.declared.Refusal.{Refusal}
 use Rattle.parser.specs.Parse.{Phase, refused, passed, andThen, Named, Contents, contents, headOf, afterHead, parse}
 use Rattle.format.specs.Format.{most}
 use borrow.Author.Tests.{lt-ltb, le-ltb}
-use Rattle.parser.specs.PhaseAnswers.{statesAnswer, Fills, NamesRead, NumbersRead, FileRead}
-use Rattle.parser.specs.Rows.{Holds}
+use Rattle.parser.specs.PhaseAnswers.{statesAnswer, FillsTable, NamesRead, NumbersRead, FileRead}
+use Rattle.parser.specs.Rows.{HoldNames}
 use Rattle.automaton.specs.Automaton.{InRange}
 use Rattle.parser.specs.declared.Place.{Place}
 use Rattle.parser.specs.declared.File.{File}
@@ -54,13 +54,13 @@ states-pass (passed q′) next q e = let g : q′ ≡ q = cc in ap next g
 module _ (z : Sizes) (y : Named) (q : Sets) where
   pub transitions-refuse :
       (p : Phase (List ℕ)) (t u rest v : List ℕ) (r : Refusal) →
-      Fills p rest v (E.Refused r) → u ≡ cleared t → NumbersRead (andThen p (λ table. passed (contents z y q table))) t u (F.Refused r)
+      FillsTable p rest v (E.Refused r) → u ≡ cleared t → NumbersRead (andThen p (λ table. passed (contents z y q table))) t u (F.Refused r)
   transitions-refuse (refused number line) t u rest v r e h = (cc, h)
   transitions-refuse (passed table) t u rest v r e h = absurd (let d = e .0 in let z : _≡_ {A = ℕ} 0 1 = cc in omega arith)
 
   pub transitions-pass :
       (p : Phase (List ℕ)) (t u rest : List ℕ) →
-      Fills p rest u E.Reached → rest ≡ replicate (length t - 128) 0 →
+      FillsTable p rest u E.Reached → rest ≡ replicate (length t - 128) 0 →
       NumbersRead (andThen p (λ table. passed (contents z y q table))) t u
       (F.Is (record { n = z .n; k = z .k; initial = q .initial; recurring = q .recurring }))
   transitions-pass (refused number line) t u rest e h = absurd (let z : _≡_ {A = ℕ} 0 1 = cc in omega arith)
@@ -82,7 +82,7 @@ pub record Passes (k : ℕ) (p : Phase Named) (rows : List ℕ) (place : Place) 
   pub small-line : place .line ≤ 10
   pub small-at : place .at ≤ 252
   pub all : length (named .names) ≡ k
-  pub holds : Holds (named .names) rows
+  pub holds : HoldNames (named .names) rows
 
 pub names-pass : (k : ℕ) (p : Phase Named) (rows : List ℕ) (place : Place) → NamesRead k p rows (N.Are place) → Passes k p rows place
 names-pass k (refused number line) rows place e = absurd (let z : _≡_ {A = ℕ} 0 1 = cc in omega arith)
@@ -101,7 +101,7 @@ names-pass k (passed y) rows place e =
     }
 
 -- the names of the file are those of the name lines
-module _ (z : Sizes) (y : Named) (rows : List ℕ) (range : InRange (z .n) (z .k)) (all : length (y .names) ≡ z .k) (h : Holds (y .names) rows) where
+module _ (z : Sizes) (y : Named) (rows : List ℕ) (range : InRange (z .n) (z .k)) (all : length (y .names) ≡ z .k) (h : HoldNames (y .names) rows) where
   pub file-read :
       (p : Phase Sets) (next : Sets → Phase (List ℕ)) (t u : List ℕ) (r : File) →
       NumbersRead (andThen p (λ q. andThen (next q) (λ table. passed (contents z y q table)))) t u r →

@@ -8,18 +8,19 @@ use lib.Pow.{pow-add}
 use native.Mathlib.Nat.{one-mul, mul-le-mul-right}
 use native.Mathlib.Omega.{arith}
 use borrow.Author.Tests.{eq-eqb, ne-eqb}
-use Rattle.format.specs.Format.{place, entered}
+use Rattle.format.specs.Format.{place, inserted}
 use Rattle.parser.specs.Parse.{refused, passed, withFlags, stateLineAt, statesAt, withTransition, transitionLineAt, transitionsAt, endAt, nameLineAt, letterOf, namesAt}
 use Rattle.text.specs.Bytes.{stretch}
 use Rattle.names.specs.Name.{compose}
 use Rattle.names.specs.Row.{padded}
 use Rattle.names.specs.NameLaws.{composed-name}
-use Rattle.parser.specs.Rows.{Holds, FirstLike}
-use Rattle.parser.specs.RowsLaws.{letter-is, holds-more, name-found}
+use Rattle.parser.specs.Rows.{HoldNames, FirstLike}
+use Rattle.parser.specs.LetterLaws.{letter-is}
+use Rattle.parser.specs.RowsLaws.{holds-more, name-found}
 use Rattle.parser.specs.NameLaws.{name-line-is}
 use Rattle.names.specs.declared.Ending.the-variants as E
 use Rattle.parser.specs.declared.StateLine.{StateLine}
-use Rattle.parser.specs.PhaseAnswers.{endAnswer, Fills}
+use Rattle.parser.specs.PhaseAnswers.{endAnswer, FillsTable}
 use Rattle.parser.specs.EndLaws.{end-same}
 use Rattle.parser.specs.declared.TransitionLine.{TransitionLine}
 use Rattle.parser.specs.declared.End.{End}
@@ -55,7 +56,7 @@ module _ (s : List ℕ) (n k line at least : ℕ) (table : List ℕ) (f g : ℕ)
   pub transitions-step :
       {w : TransitionLine} → getD s at 0 ≡ 84 → transitionLineAt s at n k least ≡ w →
       transitionsAt s n k line at least table g ≡
-      withTransition w (λ t. transitionsAt s n k (line + 1) (at + 11) (place t + 1) (entered table t) f) (refused 8 line)
+      withTransition w (λ t. transitionsAt s n k (line + 1) (at + 11) (place t + 1) (inserted table t) f) (refused 8 line)
   unfolding transitionsAt
   transitions-step t e = rw h (simp (eq-eqb _ _ t, e))
 
@@ -65,16 +66,16 @@ module _ (s : List ℕ) (n k line at least : ℕ) (table : List ℕ) (f g : ℕ)
 
 pub end-fills :
     (s : List ℕ) (line at : ℕ) (t rest table : List ℕ) (r : End) →
-    r ≡ endAnswer (endAt 9 s line at []) → table ≡ t ++ rest → Fills (endAt 9 s line at t) rest table r
+    r ≡ endAnswer (endAt 9 s line at []) → table ≡ t ++ rest → FillsTable (endAt 9 s line at t) rest table r
 end-fills s line at t rest table r e same =
-    end-same 9 s line at [] t (λ p q. r ≡ endAnswer p → Fills q rest table r) (λ n l e. e) (λ e. (e, same)) e
+    end-same 9 s line at [] t (λ p q. r ≡ endAnswer p → FillsTable q rest table r) (λ n l e. e) (λ e. (e, same)) e
 
 -- the name lines as far as they are read: the next one is line `line`, stands at `at` and is of letter l
 pub record NamesSoFar (s : List ℕ) (k : ℕ) (rows : List ℕ) (line at l : ℕ) : Type 0 where
   pub names : List (List ℕ)
   pub count : length names ≡ l
   pub goes : namesAt s line at names (k - l) ≡ namesAt s 2 12 [] k
-  pub holds : Holds names rows
+  pub holds : HoldNames names rows
 
 -- THE NAME LINES: l of k are read
 module _ {s : List ℕ} {k : ℕ} {rows : List ℕ} {line at l : ℕ} (z : NamesSoFar s k rows line at l) where
@@ -113,6 +114,6 @@ name-read {s} {k} {rows} {v} {line} {at} {l} {e} {r} z h b fits stored like =
         names = z .names ++ (x ∷ []);
         count = simp length-append (omega (arith, z .count));
         goes = sym (rw m (simp (z .count, b, eq-eqb _ _ (letter ∙ d)))) ∙ z .goes;
-        holds = subst (λ (v : List ℕ). Holds (z .names ++ (x ∷ [])) v) (sym stored) (holds-more (z .names) rows l x (z .count) fits (z .holds) name);
+        holds = subst (λ (v : List ℕ). HoldNames (z .names ++ (x ∷ [])) v) (sym stored) (holds-more (z .names) rows l x (z .count) fits (z .holds) name);
       };
     }

@@ -1,19 +1,15 @@
 -- A line of a letter and three numbers, and its parts as a reader finds them. Assumes nothing.
 use Prim.Native.Nat.{ℕ, _+_, _<_}
 use mathlib.Core.Path.{_≡_}
-use mathlib.Core.List.{List, _∷_, _++_}
+use mathlib.Core.List.{List}
 use mathlib.Core.Bool.{true}
 use lib.ListN.{drop}
 use native.Mathlib.Omega.{arith}
-use Rattle.text.specs.Column.{column}
 use Rattle.text.specs.Number.{isNumbered}
 use Rattle.text.specs.NumberLaws.{numbered-of, numbered-is}
-use Rattle.text.specs.Pair.{pairAt}
-use Rattle.text.specs.PairLaws.{twoNumbers, pair-of, pair-is}
+use Rattle.text.specs.Pair.{pairAt, twoNumbers, threeNumbers}
+use Rattle.text.specs.PairLaws.{pair-of, pair-is}
 use Rattle.text.specs.declared.Pair.the-variants as P
-
-abbrev pub threeNumbers : ℕ → ℕ → ℕ → ℕ → List ℕ → List ℕ
-threeNumbers c a b d rest = c ∷ (column 3 a ++ twoNumbers b d rest)
 
 pub record Fields (s : List ℕ) (at c a b d : ℕ) : Type 0 where
   pub opening : isNumbered s at c a ≡ true

@@ -9,8 +9,8 @@ use Rattle.gate.specs.Gate.{refusal}
 use Rattle.gate.specs.declared.Refusal.{Refusal}
 use Rattle.text.specs.Choice.{choose}
 use Rattle.text.specs.NumberLaws.{between-is, between-of}
-use Rattle.text.specs.Pair.{firstLine}
-use Rattle.text.specs.PairLaws.{twoNumbers, first-of, first-outcome}
+use Rattle.text.specs.Pair.{wordAndPair, twoNumbers}
+use Rattle.text.specs.PairLaws.{first-of, first-outcome}
 use Rattle.text.specs.Word.{noZero}
 use Rattle.text.specs.declared.Pair.{Pair}
 use Rattle.text.specs.declared.Pair.the-variants as P
@@ -18,7 +18,7 @@ use Rattle.parser.specs.declared.Bounds.{Bounds}
 use Rattle.parser.specs.declared.First.{First}
 use Rattle.parser.specs.declared.First.the-variants as R
 use Rattle.parser.specs.Parse.{Phase, refused, passed, inBounds, firstPhase}
-use Rattle.parser.specs.PhaseAnswers.{firstAnswer, Within}
+use Rattle.parser.specs.PhaseAnswers.{firstAnswer, WithinBounds}
 
 -- THE CODE'S ANSWER tells the phase, whatever is made of the two numbers
 module _ (β : Bounds) {A : Type 0} (make : ℕ → ℕ → A) (form range : ℕ) where
@@ -53,15 +53,15 @@ pub record Kind : Type 1 where
   pub Right : ℕ → ℕ → Type 0
   pub whole : noZero word ≡ true
   pub written : (a b : ℕ) (rest : List ℕ) → line a b ++ rest ≡ word ++ twoNumbers a b rest
-  pub within : (a b : ℕ) → Right a b → Within bounds a b
-  pub right : (a b : ℕ) → Within bounds a b → Right a b
+  pub within : (a b : ℕ) → Right a b → WithinBounds bounds a b
+  pub right : (a b : ℕ) → WithinBounds bounds a b → Right a b
 
 module _ (K : Kind) (s : List ℕ) {A : Type 0} (make : ℕ → ℕ → A) (form range : ℕ) where
   abbrev NoLine : Type 0
   NoLine = (a b : ℕ) (rest : List ℕ) → a < 1000 → b < 1000 → s ≡ K .line a b ++ rest → ⊥
 
   abbrev phase : Phase A
-  phase = firstPhase (firstLine s (K .word)) (K .bounds) make form range
+  phase = firstPhase (wordAndPair s (K .word)) (K .bounds) make form range
 
   -- what is so of a line of another form, of numbers out of bounds and of numbers within them is so of the phase
   pub line-outcome :

@@ -4,7 +4,7 @@ use mathlib.Core.Path.{_≡_, refl}
 use mathlib.Core.List.{List, _++_, append-assoc}
 use lib.ListN.{length, drop}
 use native.Mathlib.Omega.{arith}
-use Rattle.text.specs.PairLaws.{twoNumbers}
+use Rattle.text.specs.Pair.{twoNumbers}
 use Rattle.automaton.specs.Automaton.{InRange}
 use Rattle.format.specs.Format.{sheetWord, headLine, most, Faulty, head, range}
 use Rattle.parser.specs.declared.Sizes.{Sizes}

@@ -1,53 +1,47 @@
--- A name is distinct from earlier ones exactly if the search among their composed names comes to their end. Assumes nothing.
-use Prim.Native.Nat.{ℕ, suc}
-use mathlib.Core.Path.{_≡_, refl, sym, ap, _∙_}
-use mathlib.Core.Bool.{Bool, true, false, false≢true, true≢false, and-eq-true-iff}
+-- The letter of a name is the first whose composed name it has; a name is distinct from earlier ones exactly if there is none. Assumes nothing.
+use Prim.Native.Nat.{ℕ, zero, suc, _<_}
+use mathlib.Core.Path.{_≡_, refl, sym, _∙_}
 use mathlib.Core.List.{List, [], _∷_, map}
-use lib.ListN.{length}
-use lib.Dec.{eqb}
-use borrow.Author.Tests.{eq-eqb, eqb-true}
+use lib.ListN.{length, getD, length-map, List·getD-map}
 use native.Mathlib.Omega.{arith}
-use Rattle.text.specs.Choice.{choose}
+use Rattle.text.specs.Search.{same}
+use Rattle.text.specs.SearchLaws.{tells-same, first-found, first-one}
 use Rattle.names.specs.Name.{compose}
 use Rattle.format.specs.Format.{Distinct}
-use Rattle.parser.specs.Parse.{same, letterOf}
+use Rattle.parser.specs.Parse.{letterOf}
+use Rattle.parser.specs.Rows.{FirstName}
 
-pub same-is : (x y : List ℕ) → same x y ≡ true → x ≡ y
-unfolding same
-same-is [] [] e = refl
-same-is [] (b ∷ y) e = absurd (false≢true e)
-same-is (a ∷ x) [] e = absurd (false≢true e)
-same-is (a ∷ x) (b ∷ y) e =
-    let (t, u) = and-eq-true-iff (eqb a b) (same x y) .0 e in
-    let h : a ≡ b = eqb-true a b t in
-    let r = same-is x y u in
-    cc
+pub letter-first : (names : List (List ℕ)) (x : List ℕ) → FirstName names x (letterOf names x)
+letter-first names x = first-found [] x (λ y. same y x) (tells-same x) names
 
-pub same-self : (x : List ℕ) → same x x ≡ true
-unfolding same
-same-self [] = refl
-same-self (a ∷ x) = simp (eq-eqb a a refl) (same-self x)
+pub letter-is : (names : List (List ℕ)) (x : List ℕ) (l : ℕ) → FirstName names x l → letterOf names x ≡ l
+letter-is names x l f = first-one [] x names (letterOf names x) l (letter-first names x) f
 
+-- a composed name is the composed one of its letter
+pub composed-at : (names : List (List ℕ)) (l : ℕ) → getD (map compose names) l [] ≡ compose (getD names l [])
+unfolding compose
+composed-at names l = List·getD-map compose names l []
+
+-- a name is distinct from others by their numbers
 module _ (x : List ℕ) where
+  pub distinct-at : (ys : List (List ℕ)) → Distinct ys x → (i : ℕ) → i < length ys → compose (getD ys i []) ≡ compose x → ⊥
+  distinct-at [] d i h e = omega arith
+  distinct-at (y ∷ ys) d zero h e = d .0 e
+  distinct-at (y ∷ ys) d (suc i) h e = distinct-at ys (d .1) i (omega arith) e
+
+  distinct-all : (ys : List (List ℕ)) → ((i : ℕ) → i < length ys → compose (getD ys i []) ≡ compose x → ⊥) → Distinct ys x
+  distinct-all [] f = tt
+  distinct-all (y ∷ ys) f = (f 0 (omega arith), distinct-all ys (λ i h. f (suc i) (omega arith)))
+
   pub distinct-letter : (ys : List (List ℕ)) → Distinct ys x → letterOf (map compose ys) (compose x) ≡ length (map compose ys)
-  unfolding letterOf
-  distinct-letter [] h = refl
-  distinct-letter (y ∷ ys) h = by (same (compose y) (compose x)) refl (distinct-letter ys (h .1))
-    where
-      by : (t : Bool) → same (compose y) (compose x) ≡ t → letterOf (map compose ys) (compose x) ≡ length (map compose ys) →
-          choose t 0 (suc (letterOf (map compose ys) (compose x))) ≡ suc (length (map compose ys))
-      by true e r = absurd (h .0 (same-is (compose y) (compose x) e))
-      by false e r = ap suc r
+  distinct-letter ys d =
+      letter-is (map compose ys) (compose x) (length (map compose ys))
+      (record {
+        most = omega arith;
+        is = λ h. absurd (omega arith);
+        first = λ i h e. distinct-at ys d i (omega (arith, length-map ys compose)) (sym (composed-at ys i) ∙ e);
+      })
 
   pub letter-distinct : (ys : List (List ℕ)) → letterOf (map compose ys) (compose x) ≡ length (map compose ys) → Distinct ys x
-  unfolding letterOf
-  letter-distinct [] e = tt
-  letter-distinct (y ∷ ys) e = by (same (compose y) (compose x)) refl e (letter-distinct ys)
-    where
-      by : (t : Bool) → same (compose y) (compose x) ≡ t → choose t 0 (suc (letterOf (map compose ys) (compose x))) ≡ suc (length (map compose ys)) →
-          (letterOf (map compose ys) (compose x) ≡ length (map compose ys) → Distinct ys x) → Distinct (y ∷ ys) x
-      by true t e r = absurd (let z : _≡_ {A = ℕ} 0 (suc (length (map compose ys))) = e in omega arith)
-      by false t e r = (
-        λ f. true≢false (sym (same-self (compose x)) ∙ (ap (λ (c : List ℕ). same c (compose x)) (sym f) ∙ t)),
-        r (omega arith),
-      )
+  letter-distinct ys e =
+      distinct-all ys (λ i h f. letter-first (map compose ys) (compose x) .first i (omega (arith, e, length-map ys compose)) (composed-at ys i ∙ f))

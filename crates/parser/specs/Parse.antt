@@ -2,20 +2,21 @@
 -- That this is what Format describes is a theorem. A byte past the end is 0, and 0 stands in no line.
 use Prim.Native.Nat.{ℕ, zero, suc, _+_, _*_, _^_}
 use mathlib.Core.List.{List, [], _∷_, _++_}
-use mathlib.Core.Bool.{Bool, true, false, _&&_}
+use mathlib.Core.Bool.{Bool, _&&_}
 use lib.ListN.{length, getD, replicate}
 use lib.Dec.{ltb, leb, eqb}
 use Rattle.text.specs.Choice.{choose}
 use Rattle.text.specs.Bytes.{space, stretch}
 use Rattle.text.specs.Number.{numberAt, withNumber, isNumbered, isBetween}
-use Rattle.text.specs.Pair.{pairAt, withPair, firstLine}
+use Rattle.text.specs.Pair.{pairAt, withPair, wordAndPair}
 use Rattle.text.specs.Word.{startsAt}
+use Rattle.text.specs.Search.{same, firstThat}
 use Rattle.text.specs.declared.Pair.{Pair}
 use Rattle.names.specs.Name.{compose}
 use Rattle.names.specs.Scan.{nameEndAt}
 use Rattle.names.specs.declared.Ending.{Ending}
 use Rattle.names.specs.declared.Ending.the-variants as E
-use Rattle.format.specs.Format.{Transition, sheetWord, endLine, most, place, entered}
+use Rattle.format.specs.Format.{Transition, sheetWord, endLine, most, place, inserted}
 use Rattle.parser.specs.declared.Bounds.{Bounds}
 use Rattle.parser.specs.declared.Sizes.{Sizes}
 use Rattle.parser.specs.declared.Sets.{Sets}
@@ -51,7 +52,7 @@ sheetBounds = record { least = 1; most = 16; low = 1; high = 8 }
 
 -- "Is the first sheet line of its form? No: 3.": SHEET, n, k, LF. "Are n and k in range? No: 4."
 unfoldable pub headOf : List ℕ → Phase Sizes
-headOf s = firstPhase (firstLine s sheetWord) sheetBounds sizes 3 4
+headOf s = firstPhase (wordAndPair s sheetWord) sheetBounds sizes 3 4
 
 -- THE NAME LINES
 
@@ -69,17 +70,9 @@ abbrev pub withEnding : {A : Type 0} → Ending → (ℕ → A) → A → A
 withEnding (E.At e) go bad = go e
 withEnding E.Bad go bad = bad
 
--- are two lists of bytes the same
-unfoldable pub same : List ℕ → List ℕ → Bool
-same [] [] = true
-same [] (b ∷ y) = false
-same (a ∷ x) [] = false
-same (a ∷ x) (b ∷ y) = eqb a b && same x y
-
 -- the number of the first of some composed names that is x, and their count where none is
-unfoldable pub letterOf : List (List ℕ) → List ℕ → ℕ
-letterOf [] x = 0
-letterOf (y ∷ ys) x = choose (same y x) 0 (suc (letterOf ys x))
+abbrev pub letterOf : List (List ℕ) → List ℕ → ℕ
+letterOf names x = firstThat (λ y. same y x) names
 
 -- the line after `names`; `go` says what comes after it, from the position of its LF
 -- "Is each name line of its form? No: 5. Are all names distinct after composing? No: 6, on the later line."
@@ -150,7 +143,7 @@ transitionStep s n k line at least table go =
 unfoldable pub transitionsAt : List ℕ → ℕ → ℕ → ℕ → ℕ → ℕ → List ℕ → ℕ → Phase (List ℕ)
 transitionsAt s n k line at least table zero = refused 9 line
 transitionsAt s n k line at least table (suc fuel) =
-    transitionStep s n k line at least table (λ t. transitionsAt s n k (line + 1) (at + 11) (place t + 1) (entered table t) fuel)
+    transitionStep s n k line at least table (λ t. transitionsAt s n k (line + 1) (at + 11) (place t + 1) (inserted table t) fuel)
 
 -- THE WHOLE FILE
 

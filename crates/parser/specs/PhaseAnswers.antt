@@ -23,7 +23,7 @@ use Rattle.parser.specs.declared.TransitionLine.the-variants as T
 use Rattle.parser.specs.declared.End.{End}
 use Rattle.parser.specs.declared.End.the-variants as E
 use Rattle.parser.specs.Parse.{Phase, refused, passed, Named, Contents}
-use Rattle.parser.specs.Rows.{Holds}
+use Rattle.parser.specs.Rows.{HoldNames}
 use Rattle.format.specs.Format.{numbers}
 use Rattle.automaton.specs.Lent.{lentTable}
 
@@ -31,19 +31,20 @@ abbrev pub firstAnswer : Phase (ℕ × ℕ) → First
 firstAnswer (refused number line) = R.Refused (refusal number line)
 firstAnswer (passed (a, b)) = R.Are a b
 
--- the numbers of a first line that is read are within its bounds
-abbrev pub Within : Bounds → ℕ → ℕ → Type 0
-Within β a b = (β .least ≤ a) × (a ≤ β .most) × (β .low ≤ b) × (b ≤ β .high)
+-- two numbers are within bounds
+abbrev pub WithinBounds : Bounds → ℕ → ℕ → Type 0
+WithinBounds β a b = (β .least ≤ a) × (a ≤ β .most) × (β .low ≤ b) × (b ≤ β .high)
 
+-- the numbers of a first line that is read are within its bounds
 abbrev pub FirstFits : Bounds → First → Type 0
 FirstFits β (R.Refused r) = Unit
-FirstFits β (R.Are a b) = Within β a b
+FirstFits β (R.Are a b) = WithinBounds β a b
 
 -- the answer of k name lines; where they are read, the rows hold the names
 abbrev pub NamesRead : ℕ → Phase Named → List ℕ → Names → Type 0
 NamesRead k (refused number line) rows r = r ≡ N.Refused (refusal number line)
 NamesRead k (passed y) rows r =
-    (r ≡ N.Are (record { at = y .at; line = y .line })) × (y .line ≤ 10) × (y .at ≤ 252) × (length (y .names) ≡ k) × Holds (y .names) rows
+    (r ≡ N.Are (record { at = y .at; line = y .line })) × (y .line ≤ 10) × (y .at ≤ 252) × (length (y .names) ≡ k) × HoldNames (y .names) rows
 
 -- the flags of a state line that is read are 0 or 1
 abbrev pub FlagsFit : StateLine → Type 0
@@ -69,9 +70,9 @@ endAnswer (refused number line) = E.Refused (refusal number line)
 endAnswer (passed done) = E.Reached
 
 -- the answer of the transition lines, and where they are read the table that they leave: their sets, and the rest as it was
-abbrev pub Fills : Phase (List ℕ) → List ℕ → List ℕ → End → Type 0
-Fills (refused number line) rest table r = r ≡ E.Refused (refusal number line)
-Fills (passed t) rest table r = (r ≡ E.Reached) × (table ≡ t ++ rest)
+abbrev pub FillsTable : Phase (List ℕ) → List ℕ → List ℕ → End → Type 0
+FillsTable (refused number line) rest table r = r ≡ E.Refused (refusal number line)
+FillsTable (passed t) rest table r = (r ≡ E.Reached) × (table ≡ t ++ rest)
 
 -- the numbers of a file's contents
 abbrev pub numbersOf : Contents → Numbers
@@ -86,4 +87,4 @@ NumbersRead (passed c) t u r = (r ≡ F.Is (numbersOf c)) × (u ≡ lentTable (c
 abbrev pub FileRead : Phase Contents → List ℕ → List ℕ → List ℕ → File → Type 0
 FileRead (refused number line) t u rows r = (r ≡ F.Refused (refusal number line)) × (u ≡ cleared t)
 FileRead (passed c) t u rows r =
-    (r ≡ F.Is (numbersOf c)) × (u ≡ lentTable (c .table) t) × InRange (c .n) (c .k) × (length (c .names) ≡ c .k) × Holds (c .names) rows
+    (r ≡ F.Is (numbersOf c)) × (u ≡ lentTable (c .table) t) × InRange (c .n) (c .k) × (length (c .names) ≡ c .k) × HoldNames (c .names) rows

@@ -3,6 +3,7 @@ use Prim.Native.Nat.{ℕ, _*_, _≤_, _<_}
 use mathlib.Core.Path.{_≡_}
 use mathlib.Core.List.{List, []}
 use lib.ListN.{length, getD}
+use Rattle.text.specs.Search.{First}
 use Rattle.names.specs.Name.{IsName}
 use Rattle.names.specs.Row.{row, padded}
 
@@ -12,8 +13,8 @@ pub record RowIs (rows : List ℕ) (l : ℕ) (x : List ℕ) : Type 0 where
   pub is : row rows (24 * l) ≡ padded x
 
 -- the rows hold composed names, those of the letters from 0 on
-abbrev pub Holds : List (List ℕ) → List ℕ → Type 0
-Holds names rows = (l : ℕ) → l < length names → RowIs rows l (getD names l [])
+abbrev pub HoldNames : List (List ℕ) → List ℕ → Type 0
+HoldNames names rows = (l : ℕ) → l < length names → RowIs rows l (getD names l [])
 
 -- the first row that is like row `count`
 pub record FirstLike (rows : List ℕ) (count l : ℕ) : Type 0 where
@@ -22,7 +23,5 @@ pub record FirstLike (rows : List ℕ) (count l : ℕ) : Type 0 where
   pub first : (i : ℕ) → i < l → row rows (24 * i) ≡ row rows (24 * count) → ⊥
 
 -- the first of some composed names that is x; their count where none is
-pub record FirstName (names : List (List ℕ)) (x : List ℕ) (l : ℕ) : Type 0 where
-  pub most : l ≤ length names
-  pub is : l < length names → getD names l [] ≡ x
-  pub first : (i : ℕ) → i < l → getD names i [] ≡ x → ⊥
+abbrev pub FirstName : List (List ℕ) → List ℕ → ℕ → Type 0
+FirstName = First []

@@ -1,4 +1,4 @@
-// The lines of a sheet file, read from the top: questions 2 to 9.
+// The lines of a sheet file, read from the top: questions 2 to 9; the first and the last line also of a plan.
 pub mod first_line;
 pub mod last_line;
 pub mod name_lines;
@@ -67,7 +67,7 @@ pub enum TransitionLine {
     Bad,
 }
 
-// The answer of a file's last lines.
+// The answer of a sheet's transition lines and END, and of a plan's END.
 pub enum End {
     Refused(Refusal),
     Reached,

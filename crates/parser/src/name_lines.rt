@@ -1,9 +1,8 @@
 // The name lines of a sheet: questions 5 and 6.
 ghost use mathlib.Core.Path.{_≡_};
-ghost use Prim.Native.Nat.{ℕ, _+_, _*_, _<_, _≤_, _^_};
+ghost use Prim.Native.Nat.{_+_, _*_, _<_, _≤_, _^_};
 ghost use mathlib.Core.List.{[]};
 ghost use lib.ListN.{length};
-ghost use Rattle.format.specs.Format.{most};
 ghost use Rattle.names.specs.Scan.{nameFits};
 ghost use Rattle.parser.specs.Parse.{nameLineAt, namesAt};
 ghost use Rattle.parser.specs.Rows.{FirstLike};

@@ -4,7 +4,7 @@ ghost use Prim.Native.Nat.{_+_, _<_, _≤_, _^_};
 ghost use lib.ListN.{length, take, drop};
 ghost use Rattle.format.specs.Format.{most};
 ghost use Rattle.parser.specs.Parse.{transitionOf, transitionLineAt, transitionsAt};
-ghost use Rattle.parser.specs.PhaseAnswers.{TransitionFits, Fills};
+ghost use Rattle.parser.specs.PhaseAnswers.{TransitionFits, FillsTable};
 use super::End;
 use super::TransitionLine;
 use super::last_line::end_line;
@@ -63,7 +63,7 @@ pub fn read_transitions(
     table: &mut [u16],
 ) -> End
     requires { ⌜ (length (now s) ≤ most) × (first ≤ 26) × (start ≤ 500) × (n ≤ 16) × (k ≤ 8) × (128 ≤ length (now table)) ⌝ }
-    ensures { λ r. ⌜ Fills (transitionsAt (now (s .entry)) n k first start 0 (take 128 (now (table .entry))) (length (now (s .entry)) + 1))
+    ensures { λ r. ⌜ FillsTable (transitionsAt (now (s .entry)) n k first start 0 (take 128 (now (table .entry))) (length (now (s .entry)) + 1))
         (drop 128 (now (table .entry))) (now (table .exit)) r ⌝ }
 {
     let mut line = first;

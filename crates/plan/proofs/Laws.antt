@@ -13,7 +13,7 @@ use Rattle.gate.specs.Gate.{refusal}
 use Rattle.gate.specs.declared.Refusal.{Refusal}
 use Rattle.parser.specs.declared.Place.{Place}
 use Rattle.parser.specs.Parse.{Phase, refused, passed, andThen}
-use Rattle.parser.specs.Rows.{Holds}
+use Rattle.parser.specs.Rows.{HoldNames}
 use Rattle.plan.specs.declared.LetterLine.{LetterLine}
 use Rattle.plan.specs.declared.LetterLine.the-variants as L
 use Rattle.plan.specs.declared.Lengths.{Lengths}
@@ -21,7 +21,7 @@ use Rattle.plan.specs.declared.Letters.the-variants as A
 use Rattle.plan.specs.declared.Planned.{Planned}
 use Rattle.plan.specs.declared.Planned.the-variants as P
 use Rattle.plan.specs.Plan.{LengthsRight}
-use Rattle.plan.specs.Parse.{Lettered, lettered, letterFrom, letterLineAt, withLetter, lettersAt, endAt, Contents, contents}
+use Rattle.plan.specs.Parse.{Lettered, lettered, letterFrom, letterLineAt, withLetter, lettersAt, endOf, Contents, contents}
 use Rattle.plan.specs.Answers.{LengthsFit, LettersRead, planned, PlanRead}
 use Rattle.parser.specs.PhaseAnswers.{endAnswer}
 use Rattle.parser.specs.EndLaws.{end-same}
@@ -60,8 +60,8 @@ module _ (names : List (List ℕ)) (p : List ℕ) (line at i count : ℕ) (lette
 -- where the reader of `count` lines stands: i letters are in the buffer, and what is left to do is left of the whole
 abbrev pub SoFar : List ℕ → List ℕ → ℕ → ℕ → List ℕ → List ℕ → ℕ → ℕ → ℕ → Type 0
 SoFar p first k count rows letters line at i =
-    (names : List (List ℕ)) → length names ≡ k → Holds names first
-    → Holds names rows × (lettersAt names p line at (take i letters) (count - i) ≡ lettersAt names p 2 11 [] count)
+    (names : List (List ℕ)) → length names ≡ k → HoldNames names first
+    → HoldNames names rows × (lettersAt names p line at (take i letters) (count - i) ≡ lettersAt names p 2 11 [] count)
 
 -- a letter more in the buffer
 module _ (letters : List ℕ) (i l : ℕ) (h : i < length letters) where
@@ -80,23 +80,23 @@ ends-fit z h (passed letters) = h
 module _ (names : List (List ℕ)) (p t u : List ℕ) where
   module _ (z : Lengths) where
     abbrev afterLetters : Phase Lettered → Phase Contents
-    afterLetters w = andThen w (λ y. andThen (endAt p y) (λ letters. passed (contents z letters)))
+    afterLetters w = andThen w (λ y. andThen (endOf p y) (λ letters. passed (contents z letters)))
 
     pub letters-refused : (w : Phase Lettered) (r : Refusal) → LettersRead w (z .lead + z .cycle) t u (A.Refused r) → PlanRead (afterLetters w) t u (P.Refused r)
     letters-refused (refused number line) r e = let f : r ≡ refusal number line = cc in ap P.Refused f
     letters-refused (passed y) r e = absurd (let g = e .0 in let o : _≡_ {A = ℕ} 0 1 = cc in omega arith)
 
-    end-read : (y : Lettered) (r : Planned) → u ≡ y .letters ++ drop (z .lead + z .cycle) t → r ≡ planned z (endAnswer (endAt p (lettered [] (y .at) (y .line))))
-        → PlanRead (andThen (endAt p y) (λ letters. passed (contents z letters))) t u r
-    unfolding endAt
+    end-read : (y : Lettered) (r : Planned) → u ≡ y .letters ++ drop (z .lead + z .cycle) t → r ≡ planned z (endAnswer (endOf p (lettered [] (y .at) (y .line))))
+        → PlanRead (andThen (endOf p y) (λ letters. passed (contents z letters))) t u r
+    unfolding endOf
     end-read y r buffer e =
         end-same 12 p (y .line) (y .at) [] (y .letters)
         (λ v w. r ≡ planned z (endAnswer v) → PlanRead (andThen w (λ letters. passed (contents z letters))) t u r) (λ n l e. e) (λ e. (e, buffer)) e
 
     pub letters-read : (w : Phase Lettered) (place : Place) (r : Planned) → LettersRead w (z .lead + z .cycle) t u (A.Are place)
-        → r ≡ planned z (endAnswer (endAt p (lettered [] (place .at) (place .line)))) → PlanRead (afterLetters w) t u r
+        → r ≡ planned z (endAnswer (endOf p (lettered [] (place .at) (place .line)))) → PlanRead (afterLetters w) t u r
     letters-read (refused number line) place r h e = absurd (let o : _≡_ {A = ℕ} 0 1 = cc in omega arith)
     letters-read (passed y) place r h e =
         let g = h .0 in
         let f : place ≡ record { at = y .at; line = y .line } = cc in
-        end-read y r (h .1) (e ∙ ap (λ (q : Place). planned z (endAnswer (endAt p (lettered [] (q .at) (q .line))))) f)
+        end-read y r (h .1) (e ∙ ap (λ (q : Place). planned z (endAnswer (endOf p (lettered [] (q .at) (q .line))))) f)

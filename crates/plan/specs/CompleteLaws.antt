@@ -13,7 +13,7 @@ use Rattle.format.specs.Format.{Sheet, NamesRight, endLine}
 use Rattle.parser.specs.Parse.{refused, passed, andThen}
 use Rattle.parser.specs.EndLaws.{end-missing, end-behind, end-read}
 use Rattle.plan.specs.Plan.{planHead, nameLines, PlanIs, Above, Faulty}
-use Rattle.plan.specs.Parse.{lengths, lettered, lettersAt, endAt, contents, afterHead, planOf}
+use Rattle.plan.specs.Parse.{lengths, lettered, lettersAt, endOf, contents, afterHead, planOf}
 use Rattle.plan.specs.HeadLaws.{head-right, head-range, head-form}
 use Rattle.plan.specs.LineLaws.{LetterFault, no-name, unknown-name, letters-fault, letters-along}
 use Rattle.plan.specs.ParseLaws.{known-length}
@@ -52,7 +52,7 @@ module _ (σ : Sheet) (all : length (σ .names) ≡ σ .k) (right : NamesRight [
 
     -- END is due
     end-due : length names ≡ lead + cycle → (behind : ℕ) × (drop behind p ≡ rest)
-        × (planOf composed p ≡ andThen (endAt p (lettered (above .letters) behind (2 + length names))) (λ letters. passed (contents (lengths lead cycle) letters)))
+        × (planOf composed p ≡ andThen (endOf p (lettered (above .letters) behind (2 + length names))) (λ letters. passed (contents (lengths lead cycle) letters)))
     end-due due =
         let (behind, text, goes) = letters-along σ all right p rest 0 2 11 [] (above .known) after-head in
         let e : length names + 0 ≡ lead + cycle = omega arith in
@@ -61,20 +61,20 @@ module _ (σ : Sheet) (all : length (σ .names) ≡ σ .k) (right : NamesRight [
         (behind, text, plan-head ∙ simp w)
 
     no-end : length names ≡ lead + cycle → ((after : List ℕ) → rest ≡ endLine ++ after → ⊥) → planOf composed p ≡ refused 12 (2 + length names)
-    unfolding endAt
+    unfolding endOf
     no-end due f =
         let (behind, text, goes) = end-due due in
         goes ∙ simp (end-missing p behind 12 (2 + length names) (above .letters) (λ after e. f after (sym text ∙ e)))
 
     not-last : (after : List ℕ) → rest ≡ endLine ++ after → length names ≡ lead + cycle → (after ≡ [] → ⊥) → planOf composed p ≡ refused 12 (3 + length names)
-    unfolding endAt
+    unfolding endOf
     not-last after ends due some =
         let (behind, text, goes) = end-due due in
         let n : 2 + length names + 1 ≡ 3 + length names = omega arith in
         goes ∙ simp (end-behind p behind 12 (2 + length names) (above .letters) after (text ∙ ends) some, n)
 
     is-last : rest ≡ endLine → length names ≡ lead + cycle → planOf composed p ≡ passed (contents (lengths lead cycle) (above .letters))
-    unfolding endAt
+    unfolding endOf
     is-last ends due =
         let (behind, text, goes) = end-due due in
         goes ∙ simp (end-read p behind 12 (2 + length names) (above .letters) (text ∙ ends))

@@ -4,7 +4,7 @@ use mathlib.Core.Path.{_≡_, refl}
 use mathlib.Core.List.{List, _++_, append-assoc}
 use lib.ListN.{drop}
 use native.Mathlib.Omega.{arith}
-use Rattle.text.specs.PairLaws.{twoNumbers}
+use Rattle.text.specs.Pair.{twoNumbers}
 use Rattle.format.specs.Format.{Sheet}
 use Rattle.parser.specs.Parse.{Phase, refused, passed}
 use Rattle.parser.specs.FirstLaws.{Kind, line-outcome, line-form, line-right, line-range}

@@ -9,45 +9,15 @@ use Rattle.text.specs.Choice.{choose}
 use Rattle.names.specs.Name.{IsName, compose}
 use Rattle.format.specs.Format.{Sheet, Distinct, NamesRight}
 use Rattle.sheet.specs.Letters.{StandsFor}
-use Rattle.parser.specs.Parse.{same, letterOf}
-use Rattle.parser.specs.Rows.{FirstName}
-use Rattle.parser.specs.LetterLaws.{same-self, same-is}
-use Rattle.parser.specs.RowsLaws.{letter-is}
-
--- the search finds the first of some names that is x, or none
-pub letter-first : (names : List (List ℕ)) (x : List ℕ) → FirstName names x (letterOf names x)
-unfolding letterOf
-letter-first [] x = record { most = omega arith; is = λ h. absurd (omega arith); first = λ i h. absurd (omega arith) }
-letter-first (y ∷ ys) x = by (same y x) refl (letter-first ys x)
-  where
-    by : (t : Bool) → same y x ≡ t → FirstName ys x (letterOf ys x) → FirstName (y ∷ ys) x (choose t 0 (suc (letterOf ys x)))
-    by true e f = record { most = omega arith; is = λ h. same-is y x e; first = λ i h. absurd (omega arith) }
-    by false e f = record {
-      most = omega (arith, f .most);
-      is = λ h. f .is (omega arith);
-      first = λ i h. at i h;
-    }
-      where
-        at : (i : ℕ) → i < suc (letterOf ys x) → getD (y ∷ ys) i [] ≡ x → ⊥
-        at zero h g = true≢false (sym (same-self x) ∙ (ap (λ (z : List ℕ). same z x) (sym g) ∙ e))
-        at (suc i) h g = f .first i (omega arith) g
-
--- a composed name is the composed one of its letter
-composed-at : (names : List (List ℕ)) (l : ℕ) → getD (map compose names) l [] ≡ compose (getD names l [])
-unfolding compose
-composed-at names l = List·getD-map compose names l []
+use Rattle.parser.specs.Parse.{letterOf}
+use Rattle.parser.specs.LetterLaws.{letter-first, letter-is, composed-at, distinct-at}
 
 -- names that are right are distinct after composing, by their letters
-distinct-at : (names : List (List ℕ)) (x : List ℕ) → Distinct names x → (i : ℕ) → i < length names → compose (getD names i []) ≡ compose x → ⊥
-distinct-at [] x d i h e = omega arith
-distinct-at (y ∷ ys) x d zero h e = d .0 e
-distinct-at (y ∷ ys) x d (suc i) h e = distinct-at ys x (d .1) i (omega arith) e
-
 pub names-apart : (earlier names : List (List ℕ)) → NamesRight earlier names
     → (i j : ℕ) → i < length earlier + j → j < length names → compose (getD (earlier ++ names) i []) ≡ compose (getD names j []) → ⊥
 names-apart earlier [] r i j h k e = omega arith
 names-apart earlier (x ∷ xs) r i zero h k e =
-    distinct-at earlier x (r .1) i (omega arith) (ap compose (sym (List·getD-append earlier (x ∷ xs) [] i (omega arith))) ∙ e)
+    distinct-at x earlier (r .1) i (omega arith) (ap compose (sym (List·getD-append earlier (x ∷ xs) [] i (omega arith))) ∙ e)
 names-apart earlier (x ∷ xs) r i (suc j) h k e =
     names-apart (earlier ++ (x ∷ [])) xs (r .2) i j (omega (arith, length-append earlier (x ∷ []))) (omega arith) (rw (append-assoc earlier (x ∷ []) xs) e)
 

@@ -8,7 +8,7 @@ use Rattle.text.specs.Choice.{choose}
 use Rattle.text.specs.Bytes.{stretch}
 use Rattle.names.specs.Name.{compose}
 use Rattle.names.specs.Scan.{nameEndAt}
-use Rattle.text.specs.Pair.{firstLine}
+use Rattle.text.specs.Pair.{wordAndPair}
 use Rattle.parser.specs.declared.Bounds.{Bounds}
 use Rattle.parser.specs.Parse as S
 use Rattle.parser.specs.Parse.{Phase, refused, passed, andThen, firstPhase, withEnding, letterOf}
@@ -27,7 +27,7 @@ planBounds = record { least = 0; most = 200; low = 1; high = 200 }
 
 -- "Is each plan line of its form? No: 12.": PLAN, lead-in length, cycle length, LF. "Are both lengths in range? No: 13."
 unfoldable pub headOf : List ℕ → Phase Lengths
-headOf p = firstPhase (firstLine p planWord) planBounds lengths 12 13
+headOf p = firstPhase (wordAndPair p planWord) planBounds lengths 12 13
 
 -- THE NAME LINES
 
@@ -64,8 +64,8 @@ lettersAt names p line at letters (suc todo) =
 -- THE END
 
 -- "`END`", "What follows `END` is a fault of the line after it: .. 12 in a plan."
-unfoldable pub endAt : List ℕ → Lettered → Phase (List ℕ)
-endAt p y = S.endAt 12 p (y .line) (y .at) (y .letters)
+unfoldable pub endOf : List ℕ → Lettered → Phase (List ℕ)
+endOf p y = S.endAt 12 p (y .line) (y .at) (y .letters)
 
 -- THE WHOLE FILE
 
@@ -80,7 +80,7 @@ contents z letters = record { lead = z .lead; cycle = z .cycle; letters = letter
 
 abbrev pub afterHead : List (List ℕ) → List ℕ → Lengths → Phase Contents
 afterHead names p z =
-    andThen (lettersAt names p 2 11 [] (z .lead + z .cycle)) (λ y. andThen (endAt p y) (λ letters. passed (contents z letters)))
+    andThen (lettersAt names p 2 11 [] (z .lead + z .cycle)) (λ y. andThen (endOf p y) (λ letters. passed (contents z letters)))
 
 unfoldable pub planOf : List (List ℕ) → List ℕ → Phase Contents
 planOf names p = andThen (headOf p) (afterHead names p)

@@ -10,7 +10,7 @@ use Rattle.parser.specs.Parse.{Phase, refused, passed, andThen}
 use Rattle.parser.specs.EndLaws.{end-outcome}
 use Rattle.plan.specs.declared.Lengths.{Lengths}
 use Rattle.plan.specs.Plan.{planHead, nameLines, mostPlan, LengthsRight, Known, none, more, PlanIs, Above, Faulty}
-use Rattle.plan.specs.Parse.{Lettered, lettersAt, endAt, Contents, contents, headOf, afterHead, planOf}
+use Rattle.plan.specs.Parse.{Lettered, lettersAt, endOf, Contents, contents, headOf, afterHead, planOf}
 use Rattle.plan.specs.HeadLaws.{HeadOutcome, head-outcome}
 use Rattle.plan.specs.LineLaws.{LetterFault, no-name, unknown-name, LettersOutcome, LettersRefused, LettersPassed, letters-outcome}
 
@@ -64,8 +64,8 @@ module _ (σ : Sheet) (p : List ℕ) (size : length p ≤ mostPlan) (z : Lengths
           },
         )
 
-    end-means : Means σ p (andThen (endAt p y) (λ letters. passed (contents z letters)))
-    unfolding endAt
+    end-means : Means σ p (andThen (endOf p y) (λ letters. passed (contents z letters)))
+    unfolding endOf
     end-means =
         end-outcome p (y .at) 12 (y .line) (y .letters) (λ w. Means σ p (andThen w (λ letters. passed (contents z letters))))
         (λ none. subst (Faulty σ p 12) (sym (h .next)) (Faulty.end (z .lead) (z .cycle) (h .names) (drop (y .at) p) above-end (h .count) none))
@@ -75,7 +75,7 @@ module _ (σ : Sheet) (p : List ℕ) (size : length p ≤ mostPlan) (z : Lengths
         (Faulty.behind (z .lead) (z .cycle) (h .names) after (subst (Above σ p (z .lead) (z .cycle) (h .names)) e above-end) (h .count) some)))
         is-plan
 
-  letters-mean : (w : Phase Lettered) → LettersOutcome σ p 2 11 [] todo w → Means σ p (andThen w (λ y. andThen (endAt p y) (λ letters. passed (contents z letters))))
+  letters-mean : (w : Phase Lettered) → LettersOutcome σ p 2 11 [] todo w → Means σ p (andThen w (λ y. andThen (endOf p y) (λ letters. passed (contents z letters))))
   letters-mean (refused number line) h = letters-refuse number line h
   letters-mean (passed y) h = end-means y h
 

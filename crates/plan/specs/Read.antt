@@ -6,7 +6,7 @@ use lib.ListN.{length, drop}
 use Rattle.gate.specs.Gate.{refusal}
 use Rattle.names.specs.Name.{compose}
 use Rattle.format.specs.Format.{Sheet}
-use Rattle.parser.specs.Rows.{Holds}
+use Rattle.parser.specs.Rows.{HoldNames}
 use Rattle.plan.specs.declared.Planned.{Planned}
 use Rattle.plan.specs.declared.Planned.the-variants.{Refused, Is}
 use Rattle.plan.specs.Plan.{PlanIs, Faulty}
@@ -15,7 +15,7 @@ use Rattle.plan.specs.Plan.{PlanIs, Faulty}
 pub record NamesIn (σ : Sheet) (k : ℕ) (rows : List ℕ) : Type 0 where
   pub letters : σ .k ≡ k
   pub all-names : length (σ .names) ≡ k
-  pub holds : Holds (map compose (σ .names)) rows
+  pub holds : HoldNames (map compose (σ .names)) rows
 
 -- QUESTIONS 12 TO 14 on a plan file over the sheet σ. The buffer was t and is u then: the lead-in's letters, the cycle's, and what was behind.
 abbrev pub Reads : Sheet → List ℕ → List ℕ → List ℕ → Planned → Type 0

@@ -3,7 +3,7 @@ ghost use mathlib.Core.Path.{_≡_};
 ghost use mathlib.Core.List.{List, []};
 ghost use Prim.Native.Nat.{ℕ, _<_, _≤_, _^_};
 ghost use lib.ListN.{length};
-ghost use Rattle.parser.specs.Rows.{Holds};
+ghost use Rattle.parser.specs.Rows.{HoldNames};
 ghost use Rattle.plan.specs.Plan.{mostPlan};
 ghost use Rattle.plan.specs.Parse.{letterLineAt, lettersAt};
 ghost use Rattle.plan.specs.Answers.{LineFits, LettersRead, PlaceFits};
@@ -17,8 +17,8 @@ use sheet::letters::letter_of;
 // The line at `at`. The rows hold the composed names of k letters; the line's own name goes into the row behind them.
 fn letter_line(p: &[u8], at: usize, rows: &mut [u8], k: usize) -> LetterLine
     requires { ⌜ (at < 2 ^ 30) × (k ≤ 8) × (216 ≤ length (now rows)) ⌝ }
-    ensures { λ r. ⌜ LineFits (length (now (p .entry))) k r × ((names : List (List ℕ)) → length names ≡ k → Holds names (now (rows .entry))
-        → (r ≡ letterLineAt names (now (p .entry)) at) × Holds names (now (rows .exit))) ⌝ }
+    ensures { λ r. ⌜ LineFits (length (now (p .entry))) k r × ((names : List (List ℕ)) → length names ≡ k → HoldNames names (now (rows .entry))
+        → (r ≡ letterLineAt names (now (p .entry)) at) × HoldNames names (now (rows .exit))) ⌝ }
 {
     let Ending::At(e) = names::name_end(p, at) else {
         return LetterLine::Bad;
@@ -39,7 +39,7 @@ pub fn read_letters(
     letters: &mut [u8],
 ) -> Letters
     requires { ⌜ (length (now p) ≤ mostPlan) × (k ≤ 8) × (216 ≤ length (now rows)) × (count ≤ length (now letters)) × (count ≤ 400) ⌝ }
-    ensures { λ r. ⌜ PlaceFits r × ((names : List (List ℕ)) → length names ≡ k → Holds names (now (rows .entry))
+    ensures { λ r. ⌜ PlaceFits r × ((names : List (List ℕ)) → length names ≡ k → HoldNames names (now (rows .entry))
         → LettersRead (lettersAt names (now (p .entry)) 2 11 [] count) count (now (letters .entry)) (now (letters .exit)) r) ⌝ }
 {
     let mut line = 2;

@@ -6,7 +6,7 @@ ghost use lib.ListN.{length};
 ghost use Rattle.format.specs.Format.{Sheet};
 ghost use Rattle.parser.specs.PhaseAnswers.{endAnswer};
 ghost use Rattle.plan.specs.Plan.{mostPlan};
-ghost use Rattle.plan.specs.Parse.{lettered, endAt};
+ghost use Rattle.plan.specs.Parse.{lettered, endOf};
 ghost use Rattle.plan.specs.Answers.{planned, LengthsFit};
 ghost use Rattle.plan.specs.Read.{NamesIn, Reads};
 use super::Lengths;
@@ -22,7 +22,7 @@ use parser::first_line::first_line;
 // The last line of a plan of lengths z.
 fn end_line(p: &[u8], z: Lengths, place: Place) -> Planned
     requires { ⌜ (place .at < 2 ^ 30) × (place .line < 2 ^ 30) ⌝ }
-    ensures { λ r. ⌜ r ≡ planned z (endAnswer (endAt (now (p .entry)) (lettered [] (place .at) (place .line)))) ⌝ }
+    ensures { λ r. ⌜ r ≡ planned z (endAnswer (endOf (now (p .entry)) (lettered [] (place .at) (place .line)))) ⌝ }
 {
     match parser::last_line::end_line(p, 12, place.line, place.at) {
         End::Refused(r) => Planned::Refused(r),

@@ -1,6 +1,6 @@
 // What the programs print, and where the sheet ends in the input of `verdict`.
 ghost use mathlib.Core.Path.{_≡_};
-ghost use Prim.Native.Nat.{_+_, _<_, _≤_};
+ghost use Prim.Native.Nat.{_<_, _≤_};
 ghost use lib.ListN.{length};
 ghost use Rattle.gate.specs.Gate.{Decides};
 ghost use Rattle.report.specs.Report.{reportLine, refusalLine, verdictLine};

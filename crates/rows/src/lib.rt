@@ -1,6 +1,5 @@
 // Rows of a lent table, looked up by a digest of their cells.
 ghost use mathlib.Core.Path.{_≡_};
-ghost use mathlib.Core.Bool.{true, false};
 ghost use Prim.Native.Nat.{_<_, _≤_, _*_, _+_};
 ghost use lib.ListN.{length, take, drop};
 ghost use lib.Seq.{sets};

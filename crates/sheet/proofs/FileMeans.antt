@@ -12,9 +12,9 @@ use Rattle.format.specs.Format.{Sheet, FileIs, Faulty, numbers}
 use Rattle.automaton.specs.Lent.{lentTable}
 use Rattle.parser.specs.Parse.{Phase, refused, passed, Contents, parse}
 use Rattle.parser.specs.ParseLaws.{Means, AreContents, parse-means}
-use Rattle.parser.specs.Rows.{Holds}
+use Rattle.parser.specs.Rows.{HoldNames}
 use Rattle.parser.specs.PhaseAnswers.{numbersOf, FileRead}
-use Rattle.sheet.specs.Answers.{LettersOf, LettersRead}
+use Rattle.sheet.specs.Answers.{LettersOf, RowsRead}
 use Rattle.parser.specs.declared.File.{File}
 use Rattle.parser.specs.declared.File.the-variants as F
 
@@ -36,7 +36,7 @@ pub record FileAccepted (s t u rows : List ℕ) (a : Numbers) : Type 0 where
   pub table : u ≡ lentTable (contents .table) t
   pub range : InRange (a .n) (a .k)
   pub all : length (contents .names) ≡ a .k
-  pub holds : Holds (contents .names) rows
+  pub holds : HoldNames (contents .names) rows
 
 module _ (s t u rows : List ℕ) where
   pub file-refused : (r : Refusal) → FileRead (parse s) t u rows (F.Refused r) → FileRefused s t u r
@@ -84,10 +84,10 @@ module _ (s t u rows : List ℕ) (a : Numbers) (h : FileAccepted s t u rows a) w
     are = are-numbers;
     range = h .range;
     all = ap (λ (names : List (List ℕ)). length names) (sym (h .are .names)) ∙ h .all;
-    holds = subst (λ (names : List (List ℕ)). Holds names rows) (h .are .names) (h .holds);
+    holds = subst (λ (names : List (List ℕ)). HoldNames names rows) (h .are .names) (h .holds);
   }
 
 -- the answer on the letters
-pub letters-read : (s t u rows : List ℕ) (r : File) → FileRead (parse s) t u rows r → LettersRead s rows r
+pub letters-read : (s t u rows : List ℕ) (r : File) → FileRead (parse s) t u rows r → RowsRead s rows r
 letters-read s t u rows (F.Refused r) e = let h = file-refused s t u rows r e in (h .number, h .line, h .faulty, h .is)
 letters-read s t u rows (F.Is a) e = letters-of s t u rows a (file-read s t u rows a e)

@@ -18,7 +18,7 @@ use Rattle.format.specs.Format.{numbers}
 use Rattle.format.specs.NumbersLaws.{sheet-fits, numbers-length, read-is}
 use Rattle.sheet.specs.Read as read
 use Rattle.parser.specs.PhaseAnswers.{FileRead}
-use Rattle.sheet.specs.Answers.{Answers}
+use Rattle.sheet.specs.Answers.{ReadsCleared}
 use Rattle.parser.specs.Parse.{parse}
 use Rattle.parser.specs.declared.File.the-variants as F
 use Rattle.sheet.specs.declared.Read.{Read}
@@ -48,7 +48,7 @@ module _ (s t u rows : List ℕ) (a : Numbers) (h : FileAccepted s t u rows a) w
       answered : Answered (numbers (h .sheet)) Everywhere v w r
       answered = subst (λ (A : Automaton). Answered A Everywhere v w r) sheet-automaton answer
 
-      pub free-accepts : r ≡ 0 → Answers s t u rows v w (R.Is a)
+      pub free-accepts : r ≡ 0 → ReadsCleared s t u rows v w (R.Is a)
       free-accepts e = record {
         letters = letters-of s t u rows a h;
         free = answered .free e;
@@ -56,7 +56,7 @@ module _ (s t u rows : List ℕ) (a : Numbers) (h : FileAccepted s t u rows a) w
         clear = answered .kept e ∙ zeros;
       }
 
-      pub meeting-refuses : (r ≡ 0 → ⊥) → (u′ : List ℕ) → u′ ≡ cleared t → Answers s t u′ rows v w (R.Refused (record { number = 10; line = 0; length = r }))
+      pub meeting-refuses : (r ≡ 0 → ⊥) → (u′ : List ℕ) → u′ ≡ cleared t → ReadsCleared s t u′ rows v w (R.Refused (record { number = 10; line = 0; length = r }))
       meeting-refuses e u′ z = (
         read.Refuses.meeting (h .sheet) (h .file)
             (record {
@@ -70,14 +70,14 @@ module _ (s t u rows : List ℕ) (a : Numbers) (h : FileAccepted s t u rows a) w
       )
 
 pub fault-refuses :
-    (s t u rows : List ℕ) (r : Refusal) (v : Tables) → FileRead (parse s) t u rows (F.Refused r) → v ≡ clearedTables v → Answers s t u rows v v (R.Refused r)
+    (s t u rows : List ℕ) (r : Refusal) (v : Tables) → FileRead (parse s) t u rows (F.Refused r) → v ≡ clearedTables v → ReadsCleared s t u rows v v (R.Refused r)
 fault-refuses s t u rows r v e zeros =
     let h = file-refused s t u rows r e in
     (read.Refuses.faulty (h .number) (h .line) (h .faulty) (h .is) zeros, h .clear)
 
 -- TABLES THAT ARE CLEARED FIRST
 pub answered-cleared :
-    (s t u rows : List ℕ) (v w : Tables) (r : Read) → Lengths t v → Answers s (cleared t) u rows (clearedTables v) w r → read.Reads s t u v w r
+    (s t u rows : List ℕ) (v w : Tables) (r : Read) → Lengths t v → ReadsCleared s (cleared t) u rows (clearedTables v) w r → read.Reads s t u v w r
 answered-cleared s t u rows v w (R.Refused r) long j = inr (long, refuses (j .0), j .1 ∙ cleared-twice t)
   where
     refuses : read.Refuses s (clearedTables v) w r → read.Refuses s v w r
@@ -102,5 +102,5 @@ module _ (t : List ℕ) (v : Tables) (t′ word one other : List ℕ) (et : t′
   ready =
       rw (et, ew, eo, er) (rw (length-cleared t) (long .cells), sym (cleared-twice t), long-cleared v (long .long), sym (tables-twice v))
 
-  pub reads : (s u rows : List ℕ) (w : Tables) (r : Read) → Answers s t′ u rows (tables word one other) w r → read.Reads s t u v w r
+  pub reads : (s u rows : List ℕ) (w : Tables) (r : Read) → ReadsCleared s t′ u rows (tables word one other) w r → read.Reads s t u v w r
   reads s u rows w r j = answered-cleared s t u rows v w r long (rw (et, ew, eo, er) at j)

@@ -10,7 +10,7 @@ use Rattle.automaton.specs.Lent.{Tables, clearedTables, lentTable}
 use Rattle.automaton.specs.Meeting.{Free, Everywhere}
 use Rattle.parser.specs.declared.File.{File}
 use Rattle.parser.specs.declared.File.the-variants as F
-use Rattle.parser.specs.Rows.{Holds}
+use Rattle.parser.specs.Rows.{HoldNames}
 use Rattle.names.specs.Name.{compose}
 use Rattle.format.specs.Format.{Sheet, FileIs, Faulty, numbers}
 use Rattle.sheet.specs.Read.{Refuses}
@@ -24,11 +24,11 @@ pub record LettersOf (s rows : List ℕ) (a : Numbers) : Type 0 where
   pub are : AreNumbers (numbers sheet) a
   pub range : InRange (a .n) (a .k)
   pub all : length (map compose (sheet .names)) ≡ a .k
-  pub holds : Holds (map compose (sheet .names)) rows
+  pub holds : HoldNames (map compose (sheet .names)) rows
 
-abbrev pub LettersRead : List ℕ → List ℕ → File → Type 0
-LettersRead s rows (F.Refused r) = (number : ℕ) × (line : ℕ) × Faulty s number line × (r ≡ refusal number line)
-LettersRead s rows (F.Is a) = LettersOf s rows a
+abbrev pub RowsRead : List ℕ → List ℕ → File → Type 0
+RowsRead s rows (F.Refused r) = (number : ℕ) × (line : ℕ) × Faulty s number line × (r ≡ refusal number line)
+RowsRead s rows (F.Is a) = LettersOf s rows a
 
 -- QUESTIONS 2 TO 10 answered yes, in tables that are long enough and cleared: the table of successor sets was t and is u then, the witness
 -- was v and is w
@@ -38,6 +38,6 @@ pub record Accepts (s t u rows : List ℕ) (v w : Tables) (a : Numbers) : Type 0
   pub table : u ≡ lentTable (numbers (letters .sheet) .table) t
   pub clear : w ≡ clearedTables v
 
-abbrev pub Answers : List ℕ → List ℕ → List ℕ → List ℕ → Tables → Tables → Read → Type 0
-Answers s t u rows v w (R.Refused r) = Refuses s v w r × (u ≡ cleared t)
-Answers s t u rows v w (R.Is a) = Accepts s t u rows v w a
+abbrev pub ReadsCleared : List ℕ → List ℕ → List ℕ → List ℕ → Tables → Tables → Read → Type 0
+ReadsCleared s t u rows v w (R.Refused r) = Refuses s v w r × (u ≡ cleared t)
+ReadsCleared s t u rows v w (R.Is a) = Accepts s t u rows v w a

@@ -6,8 +6,8 @@ ghost use lib.ListN.{length};
 ghost use Rattle.text.specs.Bytes.{stretch};
 ghost use Rattle.names.specs.Name.{IsName, compose};
 ghost use Rattle.names.specs.Row.{Stretches};
-ghost use Rattle.sheet.specs.Answers.{LettersRead};
-ghost use Rattle.parser.specs.Rows.{Holds, FirstName};
+ghost use Rattle.sheet.specs.Answers.{RowsRead};
+ghost use Rattle.parser.specs.Rows.{HoldNames, FirstName};
 ghost use Rattle.sheet.specs.Spelling.{lineBelow, spelling};
 use names::Ending;
 use parser::File;
@@ -15,9 +15,9 @@ use parser::name_lines::first_like;
 use parser::whole_file::read_file;
 
 // The questions 2 to 9 on a sheet file, and its composed names in rows.
-pub fn read_letters(s: &[u8], rows: &mut [u8]) -> File
+pub fn read_rows(s: &[u8], rows: &mut [u8]) -> File
     requires { ⌜ 192 ≤ length (now rows) ⌝ }
-    ensures { λ r. ⌜ LettersRead (now (s .entry)) (now (rows .exit)) r ⌝ }
+    ensures { λ r. ⌜ RowsRead (now (s .entry)) (now (rows .exit)) r ⌝ }
 {
     let mut table = [0u16; 128];
     read_file(s, &mut table, rows)
@@ -57,8 +57,8 @@ pub fn spelled(s: &[u8], letter: usize) -> &[u8]
 // The row behind is overwritten.
 pub fn letter_of(rows: &mut [u8], count: usize, s: &[u8], start: usize, end: usize) -> usize
     requires { ⌜ (count ≤ 8) × (24 * count + 24 ≤ length (now rows)) × Stretches (now s) start end × (end - start ≤ 24) ⌝ }
-    ensures { λ r. ⌜ ((names : List (List ℕ)) → length names ≡ count → Holds names (now (rows .entry)) → IsName (stretch (now (s .entry)) start end)
-        → FirstName names (compose (stretch (now (s .entry)) start end)) r × Holds names (now (rows .exit))) ⌝ }
+    ensures { λ r. ⌜ ((names : List (List ℕ)) → length names ≡ count → HoldNames names (now (rows .entry)) → IsName (stretch (now (s .entry)) start end)
+        → FirstName names (compose (stretch (now (s .entry)) start end)) r × HoldNames names (now (rows .exit))) ⌝ }
 {
     names::compose_into(s, start, end, rows, 24 * count);
     first_like(rows, count)

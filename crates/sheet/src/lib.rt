@@ -63,7 +63,7 @@ pub fn name(sheet: &[u8], letter: usize) -> &[u8]
     ensures { λ r. ⌜ NameIs (now (sheet .entry)) letter (now r) ⌝ }
 {
     let mut rows = [0u8; 192];
-    match letters::read_letters(sheet, &mut rows) {
+    match letters::read_rows(sheet, &mut rows) {
         File::Refused(_) => &sheet[..0],
         File::Is(a) => {
             if letter < a.k {
@@ -80,7 +80,7 @@ pub fn name_number(sheet: &[u8], letter: usize) -> Refusal
     ensures { λ r. ⌜ NumberIs (now (sheet .entry)) letter r ⌝ }
 {
     let mut rows = [0u8; 192];
-    match letters::read_letters(sheet, &mut rows) {
+    match letters::read_rows(sheet, &mut rows) {
         File::Refused(r) => r,
         File::Is(a) => {
             if letter < a.k {
@@ -105,7 +105,7 @@ pub fn find(sheet: &[u8], name: &[u8]) -> Found
     ensures { λ r. ⌜ Finds (now (sheet .entry)) (now (name .entry)) r ⌝ }
 {
     let mut rows = [0u8; 216];
-    match letters::read_letters(sheet, &mut rows) {
+    match letters::read_rows(sheet, &mut rows) {
         File::Refused(r) => Found::Refused(r),
         File::Is(a) => {
             let unknown = Refusal {

@@ -4,7 +4,7 @@ ghost use Prim.Native.Nat.{_≤_};
 ghost use lib.ListN.{length};
 ghost use Rattle.gate.specs.Gate.{cleared};
 ghost use Rattle.automaton.specs.Lent.{tables, Long, clearedTables};
-ghost use Rattle.sheet.specs.Answers.{Answers};
+ghost use Rattle.sheet.specs.Answers.{ReadsCleared};
 use super::Read;
 use gate::Refusal;
 use parser::File;
@@ -22,7 +22,7 @@ pub fn read_cleared(
 ) -> Read
     requires { ⌜ (128 ≤ length (now table)) × (now table ≡ cleared (now table)) × Long (tables (now word) (now one) (now other))
         × (tables (now word) (now one) (now other) ≡ clearedTables (tables (now word) (now one) (now other))) × (192 ≤ length (now rows)) ⌝ }
-    ensures { λ r. ⌜ Answers (now (sheet .entry)) (now (table .entry)) (now (table .exit)) (now (rows .exit))
+    ensures { λ r. ⌜ ReadsCleared (now (sheet .entry)) (now (table .entry)) (now (table .exit)) (now (rows .exit))
         (tables (now (word .entry)) (now (one .entry)) (now (other .entry))) (tables (now (word .exit)) (now (one .exit)) (now (other .exit))) r ⌝ }
 {
     match read_file(sheet, table, rows) {

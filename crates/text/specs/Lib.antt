@@ -4,6 +4,7 @@ pub mod Bytes
 pub mod Number
 pub mod Pair
 pub mod Word
+pub mod Search
 pub mod ChoiceLaws
 pub mod CellsLaws
 pub mod BytesLaws
@@ -11,4 +12,5 @@ pub mod ColumnLaws
 pub mod WordLaws
 pub mod NumberLaws
 pub mod PairLaws
+pub mod SearchLaws
 pub mod SetsLaws

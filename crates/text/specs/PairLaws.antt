@@ -15,7 +15,7 @@ use Rattle.text.specs.BytesLaws.{stretch-rest}
 use Rattle.text.specs.Column.{column}
 use Rattle.text.specs.Number.{numberAt}
 use Rattle.text.specs.NumberLaws.{some-number, column-of, number-is}
-use Rattle.text.specs.Pair.{pairAt, withPair, firstLine}
+use Rattle.text.specs.Pair.{twoNumbers, pairAt, withPair, wordAndPair}
 use Rattle.text.specs.Word.{startsAt, noZero}
 use Rattle.text.specs.WordLaws.{byte-is, goes-on, starts-word, starts-is, no-word}
 use Rattle.text.specs.declared.Number.the-variants as N
@@ -26,10 +26,6 @@ use Rattle.text.specs.declared.Pair.the-variants.{Are, Bad}
 pub some-pair : {A : Type 0} {bad y : A} → (bad ≡ y → ⊥) → (w : Pair) (go : ℕ → ℕ → A) → withPair w go bad ≡ y → (a : ℕ) × (b : ℕ) × (w ≡ Are a b) × (go a b ≡ y)
 some-pair other (Are a b) go e = (a, b, refl, e)
 some-pair other Bad go e = absurd (other e)
-
--- the end of a line of numbers, and what stands behind it
-abbrev pub twoNumbers : ℕ → ℕ → List ℕ → List ℕ
-twoNumbers a b rest = column 3 a ++ (column 3 b ++ (lf ∷ rest))
 
 module _ (s : List ℕ) (at a b : ℕ) where
   -- THE LAW, one way
@@ -69,12 +65,12 @@ module _ (s word : List ℕ) where
   pair-there : (a b : ℕ) (rest : List ℕ) → a < 1000 → b < 1000 → s ≡ word ++ twoNumbers a b rest → pairAt s (length word) ≡ Are a b
   pair-there a b rest ha hb e = rw zero-add at (pair-of s (0 + length word) a b rest ha hb (stretch-rest s 0 word (twoNumbers a b rest) e))
 
-  pub first-of : (a b : ℕ) (rest : List ℕ) → a < 1000 → b < 1000 → s ≡ word ++ twoNumbers a b rest → firstLine s word ≡ Are a b
+  pub first-of : (a b : ℕ) (rest : List ℕ) → a < 1000 → b < 1000 → s ≡ word ++ twoNumbers a b rest → wordAndPair s word ≡ Are a b
   first-of a b rest ha hb e = simp (starts-word s 0 word (twoNumbers a b rest) e, pair-there a b rest ha hb e)
 
   -- what is so where there is no such line, and where there is one, is so of what is read
   pub first-outcome : (P : Pair → Type 0) → noZero word ≡ true → (NoFirst → P Bad)
-      → ((a b : ℕ) → a < 1000 → b < 1000 → s ≡ word ++ twoNumbers a b (drop (length word + 7) s) → P (Are a b)) → P (firstLine s word)
+      → ((a b : ℕ) → a < 1000 → b < 1000 → s ≡ word ++ twoNumbers a b (drop (length word + 7) s) → P (Are a b)) → P (wordAndPair s word)
   first-outcome P z none some = by (startsAt s 0 word) (pairAt s (length word)) refl refl
     where
       by : (t : Bool) (w : Pair) → startsAt s 0 word ≡ t → pairAt s (length word) ≡ w → P (choose t w Bad)

@@ -6,24 +6,18 @@ use mathlib.Core.List.{List, [], _∷_, _++_}
 use lib.Dec.{eqb, ltb}
 use lib.ListN.{length}
 use Rattle.text.specs.Choice.{choose}
+use Rattle.text.specs.Search.{same, firstThat}
 use Rattle.automaton.specs.Automaton.{Automaton}
 use Rattle.tuple.specs.Step.{Tuple, first}
 use Rattle.tracker.specs.Numbering.{entered}
 
-unfoldable pub sameSets : List ℕ → List ℕ → Bool
-sameSets [] [] = true
-sameSets [] (y ∷ ys) = false
-sameSets (x ∷ xs) [] = false
-sameSets (x ∷ xs) (y ∷ ys) = eqb x y && sameSets xs ys
-
 -- "Tuples are equal when sets and colour are."
 unfoldable pub sameTuple : Tuple → Tuple → Bool
-sameTuple u v = sameSets (u .sets) (v .sets) && eqb (u .colour) (v .colour)
+sameTuple u v = same (u .sets) (v .sets) && eqb (u .colour) (v .colour)
 
 -- the number of a tuple in a list, and the list's length where it is not there
-unfoldable pub numberOf : Tuple → List Tuple → ℕ
-numberOf u [] = 0
-numberOf u (v ∷ ts) = choose (sameTuple u v) 0 (suc (numberOf u ts))
+abbrev pub numberOf : Tuple → List Tuple → ℕ
+numberOf u ts = firstThat (sameTuple u) ts
 
 -- a tuple behind those of a list, where it is new
 unfoldable pub addNew : List Tuple → Tuple → List Tuple

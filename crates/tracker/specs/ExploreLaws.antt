@@ -1,7 +1,7 @@
 -- What is found is the numbering: once every step of its tuples is taken, `found` lists each reachable tuple once, as found. Assumes nothing.
 use Prim.Native.Nat.{ℕ, zero, suc, _+_, _/_, _%_, _≤_, _<_}
 use mathlib.Core.Path.{_≡_, refl, sym, ap, subst, _∙_}
-use mathlib.Core.Bool.{Bool, true, false, _&&_}
+use mathlib.Core.Bool.{Bool, true, false, _&&_, and-eq-true-iff}
 use mathlib.Core.List.{List, [], _∷_, _++_}
 use mathlib.Core.Logic.{_⊎_, inl, inr}
 use native.Mathlib.Decide.{ℕ-discrete, decLt}
@@ -11,44 +11,26 @@ use lib.Dec.{eqb, ltb}
 use lib.ListN.{length, List·getD-append}
 use lib.Seq.{getD-append-seam}
 use Rattle.text.specs.BytesLaws.{length-more}
+use Rattle.text.specs.Search.{same, First}
+use Rattle.text.specs.SearchLaws.{same-is, same-self, Tells, first-found}
 use Rattle.text.specs.Choice.{choose}
 use Rattle.automaton.specs.Automaton.{Automaton}
 use Rattle.tuple.specs.Step.{Tuple, first, next}
 use Rattle.tracker.specs.Numbering.{tupleAt, Distinct, entered, FoundBy}
-use Rattle.tracker.specs.Explore.{sameSets, sameTuple, numberOf, addNew, step, found}
+use Rattle.tracker.specs.Explore.{sameTuple, numberOf, addNew, step, found}
 
 -- EQUAL TUPLES
 
-false-is-not-true : false ≡ true → ⊥
-false-is-not-true e = let z : _≡_ {A = ℕ} 0 1 = cc in omega arith
-
-sets-refl : (xs : List ℕ) → sameSets xs xs ≡ true
-unfolding sameSets
-sets-refl [] = refl
-sets-refl (x ∷ xs) = rw (eq-eqb x x refl) (sets-refl xs)
-
-sets-are : (xs ys : List ℕ) → sameSets xs ys ≡ true → xs ≡ ys
-unfolding sameSets
-sets-are [] [] h = refl
-sets-are [] (y ∷ ys) h = absurd (false-is-not-true h)
-sets-are (x ∷ xs) [] h = absurd (false-is-not-true h)
-sets-are (x ∷ xs) (y ∷ ys) h = by (eqb x y) refl h (sets-are xs ys)
-  where
-    by : (b : Bool) → eqb x y ≡ b → b && sameSets xs ys ≡ true → (sameSets xs ys ≡ true → xs ≡ ys) → x ∷ xs ≡ y ∷ ys
-    by true e h ih = let f = eqb-true x y e in let g = ih h in cc
-    by false e h ih = absurd (false-is-not-true h)
-
-tuple-refl : (u : Tuple) → sameTuple u u ≡ true
+tells-tuple : (u : Tuple) → Tells (sameTuple u) u
 unfolding sameTuple
-tuple-refl u = rw (sets-refl (u .sets)) (eq-eqb (u .colour) (u .colour) refl)
-
-tuple-is : (u v : Tuple) → sameTuple u v ≡ true → u ≡ v
-unfolding sameTuple
-tuple-is u v h = by (sameSets (u .sets) (v .sets)) refl h
-  where
-    by : (b : Bool) → sameSets (u .sets) (v .sets) ≡ b → b && eqb (u .colour) (v .colour) ≡ true → u ≡ v
-    by true e h = let f = sets-are (u .sets) (v .sets) e in let g = eqb-true (u .colour) (v .colour) h in λ i. record { sets = f i; colour = g i }
-    by false e h = absurd (false-is-not-true h)
+tells-tuple u = record {
+  of = simp (same-self (u .sets)) (eq-eqb (u .colour) (u .colour) refl);
+  only = λ v e.
+      (let (s, c) = and-eq-true-iff (same (u .sets) (v .sets)) (eqb (u .colour) (v .colour)) .0 e in
+      let sets = sym (same-is (u .sets) (v .sets) s) in
+      let colour = sym (eqb-true (u .colour) (v .colour) c) in
+      λ i. record { sets = sets i; colour = colour i });
+}
 
 -- u is tuple number i of a list
 abbrev pub Listed : Automaton → List Tuple → Tuple → Type 0
@@ -57,21 +39,12 @@ Listed A ts u = (i : ℕ) × (i < length ts) × (tupleAt A ts i ≡ u)
 -- the number of a tuple: it is listed there, or nowhere
 pub number-is : (A : Automaton) (u : Tuple) (ts : List Tuple)
     → ((numberOf u ts < length ts) × (tupleAt A ts (numberOf u ts) ≡ u)) ⊎ ((length ts ≤ numberOf u ts) × (Listed A ts u → ⊥))
-unfolding numberOf
-number-is A u [] = inr (omega arith, λ (i, h, e). omega arith)
-number-is A u (v ∷ ts) = by (sameTuple u v) refl (number-is A u ts)
+number-is A u ts = by (first-found (first A) u (sameTuple u) (tells-tuple u) ts) (decLt (numberOf u ts) (length ts))
   where
-    not-first : sameTuple u v ≡ false → (Listed A ts u → ⊥) → Listed A (v ∷ ts) u → ⊥
-    not-first s f (zero, h, e) = false-is-not-true (sym s ∙ ap (sameTuple u) e ∙ tuple-refl u)
-    not-first s f (suc i, h, e) = f (i, omega arith, e)
-
-    by : (b : Bool) → sameTuple u v ≡ b
+    by : First (first A) ts u (numberOf u ts) → Dec (numberOf u ts < length ts)
         → ((numberOf u ts < length ts) × (tupleAt A ts (numberOf u ts) ≡ u)) ⊎ ((length ts ≤ numberOf u ts) × (Listed A ts u → ⊥))
-        → ((choose b 0 (suc (numberOf u ts)) < length (v ∷ ts)) × (tupleAt A (v ∷ ts) (choose b 0 (suc (numberOf u ts))) ≡ u))
-        ⊎ ((length (v ∷ ts) ≤ choose b 0 (suc (numberOf u ts))) × (Listed A (v ∷ ts) u → ⊥))
-    by true s r = inl (omega arith, sym (tuple-is u v s))
-    by false s (inl (h, e)) = inl (omega arith, e)
-    by false s (inr (h, f)) = inr (omega arith, not-first s f)
+    by f (yes h) = inl (h, f .is h)
+    by f (no h) = inr (omega arith, λ (i, l, e). f .first i (omega arith) e)
 
 -- ONE STEP
 

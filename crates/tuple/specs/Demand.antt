@@ -1,4 +1,4 @@
--- The verdict is right: the least colour entered without end is even exactly if the sheet passes the word. Assumes nothing.
+-- The verdict is right: the least colour colourEntered without end is even exactly if the sheet passes the word. Assumes nothing.
 use Prim.Native.Nat.{ℕ, zero, suc, _+_, _%_, _≤_, _<_}
 use mathlib.Core.Path.{_≡_, sym, subst, ap, _∙_}
 use mathlib.Core.Logic.{_↔_}
@@ -14,7 +14,7 @@ use Rattle.finite.specs.Finite.{lowest, glue, glue-lt, glue-ge, extend}
 use Rattle.theory.specs.Run.{Path, Often, Alone, Least}
 use Rattle.theory.specs.Endless.{LPO, least}
 use Rattle.theory.specs.Theorem.{repeating, endless}
-use Rattle.tuple.specs.Step.{setAt, Recurrent, run, entered}
+use Rattle.tuple.specs.Step.{setAt, Recurrent, run, colourEntered}
 use Rattle.tuple.specs.PassLaws.{In}
 use Rattle.tuple.specs.TupleLaws.{first-in, first-of}
 use Rattle.tuple.specs.RunLaws.{run-repeats, is-run, set-zero}
@@ -82,15 +82,15 @@ module _ {A : Automaton} (fits : Fits A) (Counts : ℕ → Type 0) (count : (w x
           absurd (free w (suc t) ξ (glue x (λ s. ξ (suc t)) (suc t)) (meet f x walk end))
 
   colours-repeat : (T d : ℕ) → ((t : ℕ) → T ≤ t → w (t + suc d) ≡ w t) → run A w (T + suc d) ≡ run A w T → (t : ℕ) → T ≤ t
-      → entered A w (t + suc d) ≡ entered A w t
+      → colourEntered A w (t + suc d) ≡ colourEntered A w t
   colours-repeat T d word again t l =
       let e : suc (t + suc d) ≡ suc t + suc d = omega arith in
       ap (λ v. run A w v .colour) e ∙ ap (λ u. u .colour) (run-repeats A w T d word again (suc t) (omega arith))
 
-  -- The word and the tuples repeat from T on with period d + 1: the least colour entered after T, up to and with T + d + 1, is even
+  -- The word and the tuples repeat from T on with period d + 1: the least colour colourEntered after T, up to and with T + d + 1, is even
   -- exactly if the sheet passes the word.
   pub demand-counts : (T d : ℕ) → ((t : ℕ) → T ≤ t → w (t + suc d) ≡ w t) → run A w (T + suc d) ≡ run A w T
-      → (lowest (entered A w) T d % 2 ≡ 0) ↔ Passes A w
+      → (lowest (colourEntered A w) T d % 2 ≡ 0) ↔ Passes A w
   demand-counts T d word again =
       let edges : (s q r : ℕ) → T ≤ s → Edge A (w s) q r → Edge A (w (s + suc d)) q r =
       λ s q r l e. subst (λ (a : ℕ). Edge A a q r) (sym (word s l)) e in
@@ -98,11 +98,11 @@ module _ {A : Automaton} (fits : Fits A) (Counts : ℕ → Type 0) (count : (w x
       let p = passes-both A w in
       (λ e. p .0 (r .0 e), λ h. r .1 (p .1 h))
 
-  -- Any endless word, with the premise LPO: there is a least colour entered without end, and it is even exactly if the sheet passes the word.
-  pub least-colour : LPO → (c : ℕ) × Least (entered A w) c
+  -- Any endless word, with the premise LPO: there is a least colour colourEntered without end, and it is even exactly if the sheet passes the word.
+  pub least-colour : LPO → (c : ℕ) × Least (colourEntered A w) c
   least-colour lpo = least lpo (is-run fits w letters) (λ t. edge-dec A (w t)) (λ t j q. member-dec (setAt (run A w t .sets) j) q)
 
-  pub demand-endless : LPO → (c : ℕ) → Least (entered A w) c → (c % 2 ≡ 0) ↔ Passes A w
+  pub demand-endless : LPO → (c : ℕ) → Least (colourEntered A w) c → (c % 2 ≡ 0) ↔ Passes A w
   demand-endless lpo c low =
       let r = endless (is-run fits w letters) lpo (λ t. edge-dec A (w t)) (λ t j q. member-dec (setAt (run A w t .sets) j) q) alone c low in
       let p = passes-both A w in
@@ -111,5 +111,5 @@ module _ {A : Automaton} (fits : Fits A) (Counts : ℕ → Type 0) (count : (w x
 -- Demand 3: an accepted sheet has no meeting walks at all.
 pub demand : {A : Automaton} → Fits A → Free A Everywhere → (w : ℕ → ℕ) → ((t : ℕ) → w t < A .k)
     → (T d : ℕ) → ((t : ℕ) → T ≤ t → w (t + suc d) ≡ w t) → run A w (T + suc d) ≡ run A w T
-    → (lowest (entered A w) T d % 2 ≡ 0) ↔ Passes A w
+    → (lowest (colourEntered A w) T d % 2 ≡ 0) ↔ Passes A w
 demand fits free = demand-counts fits Everywhere (λ w x h t. tt) free

@@ -8,12 +8,9 @@ use Rattle.automaton.specs.Automaton.{Automaton, Fits}
 use Rattle.sets.specs.Sets.{isEmpty}
 use Rattle.tuple.specs.Step.{Tuple}
 
--- the cells of a row that hold sets, and all that make tuples equal: sets and colour
+-- the cells of a row that hold sets; one more holds the colour
 abbrev pub setCells : ℕ
 setCells = 16
-
-abbrev pub rowCells : ℕ
-rowCells = 17
 
 -- the numbers of a tuple: its sets, then empty sets, then the colour
 unfoldable pub row : Tuple → List ℕ

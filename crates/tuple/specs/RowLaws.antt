@@ -1,5 +1,5 @@
 -- A tuple has one row, and a row one tuple. Assumes nothing.
-use Prim.Native.Nat.{ℕ, zero, suc, _-_, _≤_, _<_}
+use Prim.Native.Nat.{ℕ, _+_, zero, suc, _-_, _≤_, _<_}
 use mathlib.Core.Path.{_≡_, refl, sym, ap, _∙_}
 use mathlib.Core.Bool.{Bool, true, false}
 use mathlib.Core.List.{List, [], _∷_, _++_, append-assoc}
@@ -10,7 +10,7 @@ use lib.Seq.{take-at, getD-at}
 use Rattle.automaton.specs.Automaton.{Automaton, Fits}
 use Rattle.sets.specs.Sets.{isEmpty}
 use Rattle.tuple.specs.Step.{Tuple, setAt, Formed}
-use Rattle.tuple.specs.Row.{setCells, rowCells, row, consUnless, leading, tupleOf, Steps}
+use Rattle.tuple.specs.Row.{setCells, row, consUnless, leading, tupleOf, Steps}
 
 -- The leading sets
 
@@ -62,7 +62,7 @@ module _ (u : Tuple) (few : length (u .sets) ≤ setCells) where
   front-length : length (u .sets ++ zeros) ≡ setCells
   front-length = simp (length-append, length-replicate) (omega arith)
 
-  pub row-length : length (row u) ≡ rowCells
+  pub row-length : length (row u) ≡ setCells + 1
   row-length = ap length row-split ∙ length-append (u .sets ++ zeros) (u .colour ∷ []) ∙ omega (arith, front-length)
 
   pub row-colour : getD (row u) setCells 0 ≡ u .colour
@@ -89,7 +89,7 @@ module _ {A : Automaton} (fits : Fits A) where
   formed-few : {u : Tuple} → Formed A u → length (u .sets) ≤ setCells
   formed-few f = let a = f .few in let b = fits .range .1 in omega arith
 
-  pub formed-length : {u : Tuple} → Formed A u → length (row u) ≡ rowCells
+  pub formed-length : {u : Tuple} → Formed A u → length (row u) ≡ setCells + 1
   formed-length {u} f = row-length u (formed-few f)
 
   pub formed-row : {u : Tuple} → Formed A u → tupleOf (row u) ≡ u

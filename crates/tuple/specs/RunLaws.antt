@@ -12,7 +12,7 @@ use Rattle.automaton.specs.Automaton.{Automaton, Edge, Fits}
 use Rattle.automaton.specs.Meeting.{Walk}
 use Rattle.theory.specs.Run.{Run}
 use Rattle.theory.specs.Basic.{reached, reaches}
-use Rattle.tuple.specs.Step.{entered, Recurrent, setAt, places, Place, pass, first, next, run}
+use Rattle.tuple.specs.Step.{colourEntered, Recurrent, setAt, places, Place, pass, first, next, run}
 use Rattle.tuple.specs.PassLaws.{In, After, Marked, kept, gone, mark-some, mark-in, mark-out, turns-length}
 use Rattle.tuple.specs.CloseLaws.{rank, rank-some, rank-none, move, move⁻, front, dec-place}
 use Rattle.tuple.specs.ColourLaws.{col-mark, col-gone, col-pos, col-top, col-even, col-odd}
@@ -43,7 +43,7 @@ module _ {A : Automaton} (fits : Fits A) (w : ℕ → ℕ) (letters : (t : ℕ) 
   one-more t i l = omega (arith, turns-length (length (before t)) (before t) (same-length t), places-length A (w t) (run A w t .sets))
 
   pub is-run : Run (A .n) (λ t. Edge A (w t)) (λ t. Recurrent A (w t)) (λ t. In (run A w t .sets)) (λ t. In (before t)) (λ t. After (after t))
-      (λ t. Marked (after t)) (λ t. length (run A w t .sets)) (entered A w) (λ t j. rank j (after t))
+      (λ t. Marked (after t)) (λ t. length (run A w t .sets)) (colourEntered A w) (λ t j. rank j (after t))
   unfolding run next pass rank
   is-run = record {
     sub = λ t q r e. e .edge;

@@ -15,7 +15,7 @@ use Rattle.tuple.specs.PassLaws.{turns-length}
 use Rattle.tuple.specs.CloseLaws.{closeUp-length}
 use Rattle.tuple.specs.PlaceLaws.{places-length}
 use Rattle.tuple.specs.TupleLaws.{next-formed}
-use Rattle.tuple.specs.Row.{setCells, rowCells, row, leading, tupleOf, Steps}
+use Rattle.tuple.specs.Row.{setCells, row, leading, tupleOf, Steps}
 use Rattle.tuple.specs.RowLaws.{leading-length, row-length, row-set}
 use Rattle.tuple.specs.Parts.{Advanced, Swept, Placed, settled}
 
@@ -53,7 +53,7 @@ module _ (A : Automaton) (l : ℕ) (cells : List ℕ) (steps : Steps A l cells) 
   few : length (leading (take setCells cells)) ≤ setCells
   few = let a = leading-length (take setCells cells) in let b = length-take setCells cells in omega arith
 
-  pub cells-length : length cells ≡ rowCells
+  pub cells-length : length cells ≡ setCells + 1
   unfolding tupleOf
   cells-length = ap length (steps .is-row) ∙ row-length (tupleOf cells) few
 

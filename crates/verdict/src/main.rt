@@ -5,7 +5,7 @@ use libc::STDIN_FILENO;
 
 fn print(v: Verdict) {
     let answer = v.answer;
-    let line = report::verdict_line(judge::passed(answer), v.least as usize, v.passes);
+    let line = report::verdict_line(judge::is_yes(answer), v.least as usize, v.passes);
     console::say(&line);
 }
 

@@ -17,6 +17,6 @@ Checks A v w (Refused r) = ((Lengths (A .table) v → ⊥) × (r ≡ refusal 1 0
 Checks A v w Free = Lengths (A .table) v × Fits A × meeting.Free A Everywhere × (w ≡ clearedTables v)
 
 -- the same once the tables are long enough and cleared: v are the cleared tables
-abbrev pub Judges : Automaton → Tables → Tables → Checked → Type 0
-Judges A v w (Refused r) = (((number : ℕ) × FirstNo A number × (r ≡ refusal number 0)) × (w ≡ v)) ⊎ (Fits A × Meets A v w r)
-Judges A v w Free = Fits A × meeting.Free A Everywhere × (w ≡ v)
+abbrev pub ChecksCleared : Automaton → Tables → Tables → Checked → Type 0
+ChecksCleared A v w (Refused r) = (((number : ℕ) × FirstNo A number × (r ≡ refusal number 0)) × (w ≡ v)) ⊎ (Fits A × Meets A v w r)
+ChecksCleared A v w Free = Fits A × meeting.Free A Everywhere × (w ≡ v)

@@ -1,4 +1,4 @@
--- Cleared tables are all zero, and as long as before. Assumes nothing.
+-- The walk check's contract, from cleared tables and the questions on the numbers. Assumes nothing.
 use Prim.Native.Nat.{ℕ}
 use mathlib.Core.Path.{_≡_, refl}
 use mathlib.Core.Logic.{inl, inr}
@@ -14,9 +14,9 @@ use Rattle.automaton.specs.Meeting.{Everywhere}
 use Rattle.meeting.specs.Answer.{Answered}
 use Rattle.walks.specs.declared.Checked.{Checked}
 use Rattle.walks.specs.declared.Checked.the-variants.{Refused, Free}
-use Rattle.walks.specs.Check.{Checks, Judges}
+use Rattle.walks.specs.Check.{Checks, ChecksCleared}
 
-judged : (A : Automaton) (v w : Tables) (c : Checked) → Lengths (A .table) v → Judges A (clearedTables v) w c → Checks A v w c
+judged : (A : Automaton) (v w : Tables) (c : Checked) → Lengths (A .table) v → ChecksCleared A (clearedTables v) w c → Checks A v w c
 judged A v w (Refused r) l (inl ((n, f, e), z)) = inr (l, NumbersRefuse.unfit n f e z)
 judged A v w (Refused r) l (inr (f, m)) = inr (l, NumbersRefuse.meeting f (meets-cleared v m))
 judged A v w Free l (f, x, z) = (l, f, x, z)
@@ -27,12 +27,12 @@ module _ (A : Automaton) (v : Tables) (l : Lengths (A .table) v) {word one other
   pub ready : Lengths (A .table) (tables word one other) × Zero word × Zero one × Zero other
   ready = rw (w, o, r) (lengths-cleared v l, zero-cleared (v .word), zero-cleared (v .one), zero-cleared (v .other))
 
-  pub checked : (after : Tables) (c : Checked) → Judges A (tables word one other) after c → Checks A v after c
+  pub checked : (after : Tables) (c : Checked) → ChecksCleared A (tables word one other) after c → Checks A v after c
   checked after c j = judged A v after c l (rw (w, o, r) at j)
 
 module _ {A : Automaton} {v w : Tables} {r : ℕ} (f : Fits A) (a : Answered A Everywhere v w r) where
-  pub judge-free : r ≡ 0 → Judges A v w Free
+  pub judge-free : r ≡ 0 → ChecksCleared A v w Free
   judge-free e = (f, a .free e, a .kept e)
 
-  pub judge-meets : (r ≡ 0 → ⊥) → Judges A v w (Refused (record { number = 10; line = 0; length = r }))
+  pub judge-meets : (r ≡ 0 → ⊥) → ChecksCleared A v w (Refused (record { number = 10; line = 0; length = r }))
   judge-meets e = inr (f, record { number = refl; line = refl; some = omega arith; witness = a .witness (omega arith); lengths = a .lengths })

@@ -4,7 +4,7 @@ ghost use Rattle.automaton.specs.Automaton.{automaton};
 ghost use Rattle.automaton.specs.Meeting.{Everywhere};
 ghost use Rattle.automaton.specs.Lent.{tables, Lengths};
 ghost use Rattle.meeting.specs.Answer.{Asked, Answered};
-ghost use Rattle.walks.specs.Check.{Checks, Judges};
+ghost use Rattle.walks.specs.Check.{Checks, ChecksCleared};
 use automaton::Numbers;
 use gate::Refusal;
 
@@ -24,9 +24,15 @@ pub fn ask(a: Numbers, table: &[u16], word: &mut [u16], one: &mut [u16], other: 
 }
 
 // Questions 4, 7, 8 and 10, in tables that are long enough and all zero.
-fn judge(a: Numbers, table: &[u16], word: &mut [u16], one: &mut [u16], other: &mut [u16]) -> Checked
+fn check_cleared(
+    a: Numbers,
+    table: &[u16],
+    word: &mut [u16],
+    one: &mut [u16],
+    other: &mut [u16],
+) -> Checked
     requires { ⌜ Lengths (now table) (tables (now word) (now one) (now other)) × Zero (now word) × Zero (now one) × Zero (now other) ⌝ }
-    ensures { λ r. ⌜ Judges (automaton a (now (table .entry))) (tables (now (word .entry)) (now (one .entry)) (now (other .entry))) (tables (now (word .exit)) (now (one .exit)) (now (other .exit))) r ⌝ }
+    ensures { λ r. ⌜ ChecksCleared (automaton a (now (table .entry))) (tables (now (word .entry)) (now (one .entry)) (now (other .entry))) (tables (now (word .exit)) (now (one .exit)) (now (other .exit))) r ⌝ }
 {
     let number = automaton::first_no(a, table);
     if number != 0 {
@@ -78,5 +84,5 @@ pub fn check(
     gate::clear(word);
     gate::clear(one);
     gate::clear(other);
-    judge(a, table, word, one, other)
+    check_cleared(a, table, word, one, other)
 }

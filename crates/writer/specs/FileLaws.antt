@@ -10,7 +10,7 @@ use Rattle.sets.specs.Sets.{bit, Member}
 use Rattle.sets.specs.SetLaws.{bit-lt}
 use Rattle.automaton.specs.Automaton.{Automaton, Fits}
 use Rattle.automaton.specs.EdgeLaws.{edge-of, edge-state}
-use Rattle.format.specs.Format.{Distinct, NamesRight, StatesRight, TransitionRight, TransitionsRight, Right, most, place, FileIs, nameLines, statesOf, placed, unless, transitionsOf, writtenSheet, written}
+use Rattle.format.specs.Format.{Distinct, NamesRight, StatesRight, TransitionRight, TransitionsRight, Right, most, place, FileIs, nameLines, statesOf, placed, whereMember, transitionsOf, writtenSheet, written}
 use Rattle.format.specs.FormatLaws.{name-length}
 use Rattle.writer.specs.LengthLaws.{statesOf-length, transitionsOf-most}
 use Rattle.writer.specs.TextLaws.{written-length}
@@ -65,7 +65,7 @@ module _ (A : Automaton) (fits : Fits A) where
       by : (b : ℕ) → bit (getD (A .table) (i / 16) 0) (i % 16) ≡ b
           → TransitionsRight (A .n) (A .k) least (transitionsOf (A .table) (suc i) left)
           → TransitionsRight (A .n) (A .k) (place (placed i) + 1) (transitionsOf (A .table) (suc i) left)
-          → TransitionsRight (A .n) (A .k) least (unless b (placed i) (transitionsOf (A .table) (suc i) left))
+          → TransitionsRight (A .n) (A .k) least (whereMember b (placed i) (transitionsOf (A .table) (suc i) left))
       by zero e same after = same
       by (suc b) e same after = (right i least h (omega (arith, bit-lt (getD (A .table) (i / 16) 0) (i % 16))), after)
 

@@ -5,7 +5,7 @@ use mathlib.Core.List.{List}
 use native.Mathlib.Omega.{arith}
 use lib.ListN.{length, getD}
 use Rattle.sets.specs.Sets.{bit}
-use Rattle.format.specs.Format.{statesOf, placed, unless, transitionsOf, written}
+use Rattle.format.specs.Format.{statesOf, placed, whereMember, transitionsOf, written}
 
 pub statesOf-length : (initial recurring n q : ℕ) → length (statesOf initial recurring q n) ≡ n
 unfolding statesOf
@@ -18,6 +18,6 @@ unfolding transitionsOf
 transitionsOf-most T zero i = omega arith
 transitionsOf-most T (suc left) i = by (bit (getD T (i / 16) 0) (i % 16)) (transitionsOf-most T left (suc i))
   where
-    by : (b : ℕ) → length (transitionsOf T (suc i) left) ≤ left → length (unless b (placed i) (transitionsOf T (suc i) left)) ≤ suc left
+    by : (b : ℕ) → length (transitionsOf T (suc i) left) ≤ left → length (whereMember b (placed i) (transitionsOf T (suc i) left)) ≤ suc left
     by zero h = omega arith
     by (suc b) h = omega arith

@@ -7,9 +7,9 @@ use lib.ListN.{length, set}
 use lib.Seq.{sets}
 use Rattle.text.specs.Bytes.{lf, space}
 use Rattle.text.specs.Column.{column}
+use Rattle.text.specs.Pair.{threeNumbers}
 use Rattle.text.specs.SetsLaws.{sets-append}
 use Rattle.format.specs.Format.{sheetWord, headLine, nameLine}
-use Rattle.writer.specs.Columns.{columnsLine}
 
 pub name-stored : (out : List ℕ) (at l : ℕ) (name : List ℕ) →
     set (sets (set (sets (set out at 78) (at + 1) (column 3 l)) (at + 4) space) (at + 5) name) (at + 5 + length name) lf ≡ sets out at (nameLine l name)
@@ -30,7 +30,7 @@ head-stored out at n k =
     rw (five, eight, eleven)
 
 pub columns-stored : (out : List ℕ) (at letter a b c : ℕ) →
-    set (sets (sets (sets (set out at letter) (at + 1) (column 3 a)) (at + 4) (column 3 b)) (at + 7) (column 3 c)) (at + 10) lf ≡ sets out at (columnsLine letter a b c)
+    set (sets (sets (sets (set out at letter) (at + 1) (column 3 a)) (at + 4) (column 3 b)) (at + 7) (column 3 c)) (at + 10) lf ≡ sets out at (threeNumbers letter a b c [])
 unfolding column
 columns-stored out at letter a b c =
     let one : at + 1 ≡ suc at = omega arith in

@@ -10,8 +10,8 @@ use lib.Seq.{ext-getD, getD-take, length-take-le}
 use Rattle.sets.specs.Sets.{bit, Member, setOf}
 use Rattle.sets.specs.SetLaws.{bit-lt, bit-out, bit-zero, ext, small-of-within, set-is-sum}
 use Rattle.automaton.specs.Automaton.{Automaton, Fits}
-use Rattle.format.specs.Format.{State, Transition, flagSet, entered, tableOf, numbers, statesOf, placed, unless, transitionsOf, writtenSheet}
-use Rattle.format.specs.NumbersLaws.{entered-length, entered-new, entered-other, table-length}
+use Rattle.format.specs.Format.{State, Transition, flagSet, inserted, tableOf, numbers, statesOf, placed, whereMember, transitionsOf, writtenSheet}
+use Rattle.format.specs.NumbersLaws.{inserted-length, inserted-new, inserted-other, table-length}
 use Rattle.writer.specs.Same.{trimmed}
 
 -- The states' flags
@@ -37,13 +37,13 @@ module _ (initial recurring : ℕ) (flag : State → ℕ) (x : ℕ) (reads : (q 
 -- a table with the transition of place i, where b says that there is one
 abbrev enteredAt : ℕ → List ℕ → ℕ → List ℕ
 enteredAt zero table i = table
-enteredAt (suc b) table i = entered table (placed i)
+enteredAt (suc b) table i = inserted table (placed i)
 
 enteredAt-length : (b : ℕ) (table : List ℕ) (i : ℕ) → length (enteredAt b table i) ≡ length table
 enteredAt-length zero table i = refl
-enteredAt-length (suc b) table i = entered-length table (placed i)
+enteredAt-length (suc b) table i = inserted-length table (placed i)
 
-table-next : (b : ℕ) (table : List ℕ) (i : ℕ) (ts : List Transition) → tableOf table (unless b (placed i) ts) ≡ tableOf (enteredAt b table i) ts
+table-next : (b : ℕ) (table : List ℕ) (i : ℕ) (ts : List Transition) → tableOf table (whereMember b (placed i) ts) ≡ tableOf (enteredAt b table i) ts
 unfolding tableOf
 table-next zero table i ts = refl
 table-next (suc b) table i ts = refl
@@ -63,7 +63,7 @@ module _ (T : List ℕ) where
     where
       by : (b : ℕ) → bit (getD (enteredAt b table i) c 0) q ≡ bit (getD table c 0) q
       by zero = refl
-      by (suc b) = entered-other table (placed i) c q (λ e. h i (omega arith) (omega arith))
+      by (suc b) = inserted-other table (placed i) c q (λ e. h i (omega arith) (omega arith))
 
   -- a bit that is 0 and at a place from i on becomes T's
   gains : (left i : ℕ) (table : List ℕ) (c q : ℕ) → c < length table → q < 16 → i ≤ 16 * c + q → 16 * c + q < i + left → bit (getD table c 0) q ≡ 0
@@ -90,12 +90,12 @@ module _ (T : List ℕ) where
               let o : bit (getD T c 0) q ≡ 1 = omega (arith, bit-lt (getD T c 0) q) in
               let p : c ≡ 8 * (i / 128) + i / 16 % 8 = omega arith in
               let r : q ≡ i % 16 = omega arith in
-              let one : bit (getD (entered table (placed i)) c 0) q ≡ 1 = rw (p, r) (entered-new table (placed i) (omega arith)) in
+              let one : bit (getD (inserted table (placed i)) c 0) q ≡ 1 = rw (p, r) (inserted-new table (placed i) (omega arith)) in
               one ∙ sym o
 
       before : (b : ℕ) → (i ≡ 16 * c + q → ⊥) → bit (getD (enteredAt b table i) c 0) q ≡ bit (getD table c 0) q
       before zero d = refl
-      before (suc b) d = entered-other table (placed i) c q (λ f g. d (omega arith))
+      before (suc b) d = inserted-other table (placed i) c q (λ f g. d (omega arith))
 
   -- the transitions of a table of 128 sets of states below 16 give it back
   pub table-back : 128 ≤ length T → ((c q : ℕ) → Member (getD T c 0) q → q < 16) → (empty : List ℕ) → length empty ≡ 128 → ((c : ℕ) → c < 128 → getD empty c 0 ≡ 0)

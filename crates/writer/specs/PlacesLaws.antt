@@ -9,12 +9,12 @@ use lib.Seq.{sets}
 use Rattle.text.specs.SetsLaws.{sets-append}
 use Rattle.sets.specs.Sets.{bit}
 use Rattle.sets.specs.SetLaws.{bit-zero}
-use Rattle.format.specs.Format.{placed, unless, transitionsOf, transitionLine, transitionLines}
+use Rattle.format.specs.Format.{placed, whereMember, transitionsOf, transitionLine, transitionLines}
 use Rattle.format.specs.FormatLaws.{transition-length}
 use Rattle.writer.specs.Places.{places, transitionsFrom, At, Stop, First}
 
 module _ (T : List ℕ) where
-  place-step : (i : ℕ) → i < places → transitionsFrom T i ≡ unless (bit (getD T (i / 16) 0) (i % 16)) (placed i) (transitionsFrom T (i + 1))
+  place-step : (i : ℕ) → i < places → transitionsFrom T i ≡ whereMember (bit (getD T (i / 16) 0) (i % 16)) (placed i) (transitionsFrom T (i + 1))
   unfolding transitionsOf
   place-step i h =
       let e : places - i ≡ suc (places - (i + 1)) = omega arith in

@@ -13,7 +13,7 @@ use Rattle.text.specs.Bytes.{stretch}
 use Rattle.text.specs.Word.{noZero}
 use Rattle.text.specs.SetsLaws.{sets-append}
 use Rattle.names.specs.NameLaws.{name-without}
-use Rattle.parser.specs.Rows.{Holds}
+use Rattle.parser.specs.Rows.{HoldNames}
 use Rattle.format.specs.Format.{nameLine, nameLines}
 use Rattle.format.specs.FormatLaws.{name-length}
 use Rattle.writer.specs.RowNames.{upToZero, rowName, rowNames}
@@ -112,7 +112,7 @@ rows-from rows (suc left) l (x ∷ xs) e h =
     (rows-from rows left (suc l) xs (omega arith) (λ i b. ap (rowName rows) (let f : suc l + i ≡ l + suc i = omega arith in f) ∙ h (suc i) (omega arith)))
 
 -- the names in rows that hold some are those
-pub rows-hold : (names : List (List ℕ)) (rows : List ℕ) (k : ℕ) → length names ≡ k → Holds names rows → rowNames rows 0 k ≡ names
+pub rows-hold : (names : List (List ℕ)) (rows : List ℕ) (k : ℕ) → length names ≡ k → HoldNames names rows → rowNames rows 0 k ≡ names
 rows-hold names rows k e holds = rows-from rows k 0 names e (λ i b. ap (rowName rows) (zero-add i) ∙ name i (omega arith))
   where
     name : (i : ℕ) → i < length names → rowName rows i ≡ getD names i []

@@ -9,7 +9,7 @@ use Rattle.names.specs.Name.{compose}
 use Rattle.sets.specs.Sets.{bit, Member}
 use Rattle.automaton.specs.Automaton.{Automaton, Edge, Fits}
 use Rattle.automaton.specs.Meeting.{Walk, Free, Everywhere}
-use Rattle.format.specs.Format.{Sheet, Transition, lines, endLine, numbers, statesOf, unless, placed, transitionsOf, writtenSheet, written}
+use Rattle.format.specs.Format.{Sheet, Transition, lines, endLine, numbers, statesOf, whereMember, placed, transitionsOf, writtenSheet, written}
 use Rattle.format.specs.NumbersLaws.{numbers-length}
 use Rattle.writer.specs.Same.{trimmed}
 
@@ -17,7 +17,7 @@ transitions-trimmed : (T : List ℕ) (left i : ℕ) → i + left ≤ 2048 → tr
 unfolding transitionsOf
 transitions-trimmed T zero i h = refl
 transitions-trimmed T (suc left) i h =
-    ap₂ (λ x ts. unless (bit x (i % 16)) (placed i) ts) (getD-take 128 T (i / 16) 0 (omega arith)) (transitions-trimmed T left (suc i) (omega arith))
+    ap₂ (λ x ts. whereMember (bit x (i % 16)) (placed i) ts) (getD-take 128 T (i / 16) 0 (omega arith)) (transitions-trimmed T left (suc i) (omega arith))
 
 edge-trimmed : (A : Automaton) → Fits A → (l q r : ℕ) → Edge (trimmed A) l q r → Edge A l q r
 edge-trimmed A fits l q r e = record {

@@ -22,10 +22,10 @@ use Rattle.walks.specs.declared.Checked.the-variants as K
 use Rattle.walks.specs.Check.{Checks}
 use Rattle.sheet.specs.declared.Read.the-variants as R
 use Rattle.sheet.specs.Read.{Reads}
-use Rattle.parser.specs.Rows.{Holds}
+use Rattle.parser.specs.Rows.{HoldNames}
 use Rattle.parser.specs.declared.File.{File}
 use Rattle.parser.specs.declared.File.the-variants as F
-use Rattle.sheet.specs.Answers.{LettersRead}
+use Rattle.sheet.specs.Answers.{RowsRead}
 use Rattle.parser.specs.UniqueLaws.{file-unique, file-or-fault}
 use Rattle.gate.specs.declared.Written.{Written}
 use Rattle.gate.specs.declared.Written.the-variants.{Refused}
@@ -45,11 +45,11 @@ named-number (NamedRefuse.by-numbers σ a e f) h = numbers-number f h
 -- THE LAST QUESTION
 
 -- the rows hold the names of the sheet, whichever way it is known
-letters-hold : (s rows : List ℕ) (letters : File) → LettersRead s rows letters → (σ : Sheet) → FileIs s σ → Holds (map compose (σ .names)) rows
+letters-hold : (s rows : List ℕ) (letters : File) → RowsRead s rows letters → (σ : Sheet) → FileIs s σ → HoldNames (map compose (σ .names)) rows
 letters-hold s rows (F.Refused x) (number, line, fault, e) σ file = absurd (file-or-fault s σ number line file fault)
-letters-hold s rows (F.Is a) letters σ file = subst (λ (υ : Sheet). Holds (map compose (υ .names)) rows) (file-unique s (letters .sheet) σ (letters .file) file) (letters .holds)
+letters-hold s rows (F.Is a) letters σ file = subst (λ (υ : Sheet). HoldNames (map compose (υ .names)) rows) (file-unique s (letters .sheet) σ (letters .file) file) (letters .holds)
 
-pub put-named : (A : Automaton) (s rows b c : List ℕ) (letters : File) (r : Written) → LettersRead s rows letters → Put (rowsText A rows) b c r → PutNamed A s b c r
+pub put-named : (A : Automaton) (s rows b c : List ℕ) (letters : File) (r : Written) → RowsRead s rows letters → Put (rowsText A rows) b c r → PutNamed A s b c r
 put-named A s rows b c letters r read put σ file same = subst (λ (text : List ℕ). Put text b c r) (ap (textOf A) names ∙ text-written A (σ .names)) put
   where
     names : rowNames rows 0 (A .k) ≡ map compose (σ .names)

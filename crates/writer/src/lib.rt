@@ -48,7 +48,7 @@ fn finish(a: Numbers, table: &[u16], names: &[u8], out: &mut [u8]) -> Written
     ensures { λ r. ⌜ PutNamed (automaton a (now (table .entry))) (now (names .entry)) (now (out .entry)) (now (out .exit)) r ⌝ }
 {
     let mut rows = [0u8; 192];
-    sheet::letters::read_letters(names, &mut rows);
+    sheet::letters::read_rows(names, &mut rows);
     let count = text_length(a, table, &rows);
     if out.len() < count {
         gate::clear_bytes(out);

@@ -3,8 +3,9 @@ ghost use mathlib.Core.Path.{_≡_};
 ghost use Prim.Native.Nat.{_+_, _≤_};
 ghost use lib.ListN.{length};
 ghost use lib.Seq.{sets};
+ghost use mathlib.Core.List.{[]};
+ghost use Rattle.text.specs.Pair.{threeNumbers};
 ghost use Rattle.format.specs.Format.{headLine, nameLine};
-ghost use Rattle.writer.specs.Columns.{columnsLine};
 
 // The first line.
 pub fn put_head(out: &mut [u8], at: usize, n: usize, k: usize)
@@ -35,7 +36,7 @@ pub fn put_name(out: &mut [u8], at: usize, letter: usize, name: &[u8]) -> usize
 // A letter and three numbers: the line of a state or of a transition.
 pub fn put_columns(out: &mut [u8], at: usize, letter: u8, a: usize, b: usize, c: usize)
     requires { ⌜ at + 11 ≤ length (now out) ⌝ }
-    ensures { λ _. ⌜ now (out .exit) ≡ sets (now (out .entry)) at (columnsLine letter a b c) ⌝ }
+    ensures { λ _. ⌜ now (out .exit) ≡ sets (now (out .entry)) at (threeNumbers letter a b c []) ⌝ }
 {
     out[at] = letter;
     text::put_column(out, at + 1, 3, a);

@@ -16,8 +16,8 @@ use Rattle.sheet.proofs.find.Statement.{statement}
 use Rattle.sheet.proofs.find.Tie as tie
 
 -- the letters are read
-letters : (c : tie.After-known-told2) → LettersOf (now (c .before .before .before .before .before .before .before .before .args .sheet)) (c .before .before .before .before .read-letters .last .1 .0) (c .before .a .given .0 .0)
-letters c = rw (c .before .a .given .1) at (c .before .before .before .before .read-letters .ensures)
+letters : (c : tie.After-known-told2) → LettersOf (now (c .before .before .before .before .before .before .before .before .args .sheet)) (c .before .before .before .before .read-rows .last .1 .0) (c .before .a .given .0 .0)
+letters c = rw (c .before .a .given .1) at (c .before .before .before .before .read-rows .ensures)
 
 -- what was given is a name
 is-one : (c : tie.Else1) → IsName (now (c .before .before .before .before .before .before .before .before .before .before .args .name))
@@ -33,11 +33,11 @@ first c =
     let whole = whole-stretch (now (c .before .before .before .before .before .before .before .before .before .before .before .before .args .name)) in
     rw whole at (c .letter-of .ensures (map compose (h .sheet .names)) (h .all) (h .holds) (rw whole (is-one (c .before .before))) .0)
 
-slice-aggregate-read-letters : tie.Need-slice-aggregate-read-letters
-slice-aggregate-read-letters c = search needs
+slice-aggregate-read-rows : tie.Need-slice-aggregate-read-rows
+slice-aggregate-read-rows c = search needs
 
-read-letters-requires : tie.Need-read-letters-requires
-read-letters-requires c κs = search needs
+read-rows-requires : tie.Need-read-rows-requires
+read-rows-requires c κs = search needs
 
 enum-known-r : tie.Need-enum-known-r
 enum-known-r c = search needs
@@ -66,12 +66,12 @@ letter-of-requires : tie.Need-letter-of-requires
 letter-of-requires c κs =
     let h = letters (c .before .before .before) in
     let m = is-one (c .before) .most in
-    let z : length (c .before .before .before .before .before .before .before .read-letters .last .1 .0) ≡ 216 = c .before .before .before .before .before .before .before .read-letters .kept .1 .0 in
+    let z : length (c .before .before .before .before .before .before .before .read-rows .last .1 .0) ≡ 216 = c .before .before .before .before .before .before .before .read-rows .kept .1 .0 in
     let k = h .range .3 in
     (omega arith, omega arith, record { order = omega arith; fits = omega arith }, omega arith)
 
 returns-2 : tie.Need-returns-2
-returns-2 c = inl (rw (c .before .r .given .1) at (c .before .before .before .before .read-letters .ensures))
+returns-2 c = inl (rw (c .before .r .given .1) at (c .before .before .before .before .read-rows .ensures))
 
 returns-3 : tie.Need-returns-3
 returns-3 c =
@@ -94,8 +94,8 @@ pub find-spec : {M : Type 1} → statement M
 find-spec =
     tie.close
     (tie.spec
-    slice-aggregate-read-letters
-    read-letters-requires
+    slice-aggregate-read-rows
+    read-rows-requires
     enum-known-r
     enum-known-a
     is-name-requires

@@ -12,14 +12,14 @@ use Rattle.sheet.proofs.name.Statement.{statement}
 use Rattle.sheet.proofs.name.Tie as tie
 
 -- the letters are read
-letters : (c : tie.After-known-told) → LettersOf (now (c .before .before .before .before .before .before .before .args .sheet)) (c .before .before .before .before .read-letters .last .1 .0) (c .before .a .given .0 .0)
-letters c = rw (c .before .a .given .1) at (c .before .before .before .before .read-letters .ensures)
+letters : (c : tie.After-known-told) → LettersOf (now (c .before .before .before .before .before .before .before .args .sheet)) (c .before .before .before .before .read-rows .last .1 .0) (c .before .a .given .0 .0)
+letters c = rw (c .before .a .given .1) at (c .before .before .before .before .read-rows .ensures)
 
-slice-aggregate-read-letters : tie.Need-slice-aggregate-read-letters
-slice-aggregate-read-letters c = search needs
+slice-aggregate-read-rows : tie.Need-slice-aggregate-read-rows
+slice-aggregate-read-rows c = search needs
 
-read-letters-requires : tie.Need-read-letters-requires
-read-letters-requires c κs = search needs
+read-rows-requires : tie.Need-read-rows-requires
+read-rows-requires c κs = search needs
 
 enum-told : tie.Need-enum-told
 enum-told c = search needs
@@ -38,7 +38,7 @@ slice-aggregate-result-2 c = search needs
 
 returns : tie.Need-returns
 returns c =
-    let e = rw (c .before .enum-told .given .1) at (c .before .before .before .before .read-letters .ensures) in
+    let e = rw (c .before .enum-told .given .1) at (c .before .before .before .before .read-rows .ensures) in
     NameIs.nothing (e .0) (e .1) (NoName.faulty (e .2)) refl
 
 returns-2 : tie.Need-returns-2
@@ -56,8 +56,8 @@ pub name-spec : {M : Type 1} → statement M
 name-spec =
     tie.close
     (tie.spec
-    slice-aggregate-read-letters
-    read-letters-requires
+    slice-aggregate-read-rows
+    read-rows-requires
     enum-told
     slice-aggregate-result
     enum-known-a

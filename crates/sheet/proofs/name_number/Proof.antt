@@ -10,14 +10,14 @@ use Rattle.sheet.proofs.name_number.Statement.{statement}
 use Rattle.sheet.proofs.name_number.Tie as tie
 
 -- the letters are read
-letters : (c : tie.After-known-told2) → LettersOf (now (c .before .before .before .before .before .before .before .args .sheet)) (c .before .before .before .before .read-letters .last .1 .0) (c .before .a .given .0 .0)
-letters c = rw (c .before .a .given .1) at (c .before .before .before .before .read-letters .ensures)
+letters : (c : tie.After-known-told2) → LettersOf (now (c .before .before .before .before .before .before .before .args .sheet)) (c .before .before .before .before .read-rows .last .1 .0) (c .before .a .given .0 .0)
+letters c = rw (c .before .a .given .1) at (c .before .before .before .before .read-rows .ensures)
 
-slice-aggregate-read-letters : tie.Need-slice-aggregate-read-letters
-slice-aggregate-read-letters c = search needs
+slice-aggregate-read-rows : tie.Need-slice-aggregate-read-rows
+slice-aggregate-read-rows c = search needs
 
-read-letters-requires : tie.Need-read-letters-requires
-read-letters-requires c κs = search needs
+read-rows-requires : tie.Need-read-rows-requires
+read-rows-requires c κs = search needs
 
 enum-known-r : tie.Need-enum-known-r
 enum-known-r c = search needs
@@ -27,7 +27,7 @@ enum-known-a c = search needs
 
 returns : tie.Need-returns
 returns c =
-    let e = rw (c .before .r .given .1) at (c .before .before .before .before .read-letters .ensures) in
+    let e = rw (c .before .r .given .1) at (c .before .before .before .before .read-rows .ensures) in
     NumberIs.refused (e .0) (e .1) (NoName.faulty (e .2)) (e .3)
 
 returns-2 : tie.Need-returns-2
@@ -45,8 +45,8 @@ pub name-number-spec : {M : Type 1} → statement M
 name-number-spec =
     tie.close
     (tie.spec
-    slice-aggregate-read-letters
-    read-letters-requires
+    slice-aggregate-read-rows
+    read-rows-requires
     enum-known-r
     enum-known-a
     returns

@@ -12,7 +12,7 @@ use Rattle.text.proofs.is_numbered.Tie as tie
 -- behind the letter, the number decides
 numbered : (c : tie.After-number-at) →
     let a = c .before .before .before .before .args in
-    (w : Number) → c .number-at .result ≡ w → withNumber w (λ n. eqb n (a .v)) false ≡ isNumbered (a .s .now) (a .at) (a .letter) (a .v)
+    (w : Number) → c .number-at .result ≡ w → withNumber w (λ n. eqb n (a .v)) false ≡ isNumbered (a .s .now) (a .at) (a .kind) (a .v)
 unfolding isNumbered
 numbered c w e = simp (sym (c .before .before .opening .ensures), eq-eqb _ _ (c .before .if1 .left), sym (c .number-at .ensures), e)
 

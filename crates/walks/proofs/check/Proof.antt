@@ -36,8 +36,8 @@ clear-requires-2 c κs = search needs
 clear-requires-3 : tie.Need-clear-requires-3
 clear-requires-3 c κs = search needs
 
-judge-requires : tie.Need-judge-requires
-judge-requires c κs =
+check-cleared-requires : tie.Need-check-cleared-requires
+check-cleared-requires c κs =
     let k = c .before .before .before .before .before in
     let e = k .before .before .before .before .before .before .before .before .before .before in
     let a = e .before .before .before .before .before .before .before .before .args in
@@ -55,7 +55,7 @@ same-length-3 c = search needs
 
 returns-5 : tie.Need-returns-5
 returns-5 c =
-    let g = c .before .before .before .before .before .before .judge in
+    let g = c .before .before .before .before .before .before .check-cleared in
     let k = c .before .before .before .before .before .before .before .before .before .before .before .before in
     let e = k .before .before .before .before .before .before .before .before .before .before in
     let a = e .before .before .before .before .before .before .before .before .args in
@@ -74,7 +74,7 @@ check-spec =
     clear-requires
     clear-requires-2
     clear-requires-3
-    judge-requires
+    check-cleared-requires
     same-length
     same-length-2
     same-length-3

@@ -12,11 +12,11 @@ use borrow.Author.Needs.{needs}
 use Rattle.writer.proofs.finish.Statement.{statement}
 use Rattle.writer.proofs.finish.Tie as tie
 
-slice-aggregate-read-letters : tie.Need-slice-aggregate-read-letters
-slice-aggregate-read-letters c = search needs
+slice-aggregate-read-rows : tie.Need-slice-aggregate-read-rows
+slice-aggregate-read-rows c = search needs
 
-read-letters-requires : tie.Need-read-letters-requires
-read-letters-requires c κs = search needs
+read-rows-requires : tie.Need-read-rows-requires
+read-rows-requires c κs = search needs
 
 slice-aggregate-text-length : tie.Need-slice-aggregate-text-length
 slice-aggregate-text-length c = search needs
@@ -33,7 +33,7 @@ same-length c = search needs
 returns : tie.Need-returns
 returns c =
     let clear = c .before .before .clear-bytes in
-    let letters = c .before .before .before .before .before .before .before .before .read-letters in
+    let letters = c .before .before .before .before .before .before .before .before .read-rows in
     let a = c .before .before .before .before .before .before .before .before .before .before .before .before .before .args in
     put-named (automaton (a .a) (now (a .table))) (now (a .names)) (letters .last .1 .0) (now (a .out)) (clear .last .0) (letters .result)
     (Refused (refusal 1 0)) (letters .ensures) (omega arith, refl, clear .ensures)
@@ -63,7 +63,7 @@ returns-2 : tie.Need-returns-2
 returns-2 c =
     let count = c .before .before .before .before .before .before .before .before .before .before .text-length in
     let at-letters = c .before .before .before .before .before .before .before .before .before .before .before .before .before in
-    let letters = at-letters .read-letters in
+    let letters = at-letters .read-rows in
     let a = at-letters .before .before .before .before .before .args in
     let text = rowsText (automaton (a .a) (now (a .table))) (letters .last .1 .0) in
     let lent = text-lent text (now (a .out)) (c .before .before .before .before .before .before .put-text .ensures) (count .ensures) (omega arith)
@@ -75,8 +75,8 @@ pub finish-spec : {M : Type 1} → statement M
 finish-spec =
     tie.close
     (tie.spec
-    slice-aggregate-read-letters
-    read-letters-requires
+    slice-aggregate-read-rows
+    read-rows-requires
     slice-aggregate-text-length
     text-length-requires
     clear-bytes-requires

@@ -16,8 +16,8 @@ use Rattle.judge.proofs.files.judge_plan.Statement.{statement}
 use Rattle.judge.proofs.files.judge_plan.Tie as tie
 
 -- the sheet whose letters are read
-letters-of : (c : tie.After-known-told2) → LettersOf (now (c .before .before .before .before .before .before .before .before .before .before .args .s)) (c .before .before .before .before .read-letters .last .1 .0) (c .before .a .given .0 .0)
-letters-of c = rw (c .before .a .given .1) at (c .before .before .before .before .read-letters .ensures)
+letters-of : (c : tie.After-known-told2) → LettersOf (now (c .before .before .before .before .before .before .before .before .before .before .args .s)) (c .before .before .before .before .read-rows .last .1 .0) (c .before .a .given .0 .0)
+letters-of c = rw (c .before .a .given .1) at (c .before .before .before .before .read-rows .ensures)
 
 -- the plan over it
 plan-of :
@@ -27,11 +27,11 @@ plan-of c =
     let l = letters-of (c .before .before .before .before .before .before .before .before) in
     rw (c .before .z .given .1) at (c .before .before .before .before .before .read-plan .ensures .1 (l .sheet) (names-in _ _ _ l))
 
-slice-aggregate-read-letters : tie.Need-slice-aggregate-read-letters
-slice-aggregate-read-letters c = search needs
+slice-aggregate-read-rows : tie.Need-slice-aggregate-read-rows
+slice-aggregate-read-rows c = search needs
 
-read-letters-requires : tie.Need-read-letters-requires
-read-letters-requires c κs = search needs
+read-rows-requires : tie.Need-read-rows-requires
+read-rows-requires c κs = search needs
 
 enum-known-r : tie.Need-enum-known-r
 enum-known-r c = search needs
@@ -48,7 +48,7 @@ slice-aggregate-read-plan-2 c = search needs
 read-plan-requires : tie.Need-read-plan-requires
 read-plan-requires c κs =
     let l = letters-of (c .before .before) in
-    (search needs, l .range .3, omega (arith, c .before .before .before .before .before .before .read-letters .kept .1 .0), omega arith)
+    (search needs, l .range .3, omega (arith, c .before .before .before .before .before .before .read-rows .kept .1 .0), omega arith)
 
 enum-known-r-2 : tie.Need-enum-known-r-2
 enum-known-r-2 c = search needs
@@ -69,7 +69,7 @@ returns : tie.Need-returns
 returns c =
     λ σ f.
     (let s = now (c .before .before .before .before .before .before .before .before .before .before .args .s) in
-    let (number, line, faulty, e) = rw (c .before .r .given .1) at (c .before .before .before .before .read-letters .ensures) in
+    let (number, line, faulty, e) = rw (c .before .r .given .1) at (c .before .before .before .before .read-rows .ensures) in
     absurd (file-or-fault s σ number line f faulty))
 
 returns-2 : tie.Need-returns-2
@@ -96,8 +96,8 @@ pub judge-plan-spec : {M : Type 1} → statement M
 judge-plan-spec =
     tie.close
     (tie.spec
-    slice-aggregate-read-letters
-    read-letters-requires
+    slice-aggregate-read-rows
+    read-rows-requires
     enum-known-r
     enum-known-a
     slice-aggregate-read-plan

@@ -3,14 +3,14 @@ use mathlib.Core.Path.{_≡_}
 use Prim.Native.Nat.{_+_, _-_, _≤_}
 use native.Mathlib.Omega.{arith}
 use lib.ListN.{getD}
-use Rattle.judge.specs.TableRun.{Least}
+use Rattle.judge.specs.TableRun.{LeastOf}
 use Rattle.judge.specs.LeastLaws.{least-one, least-more}
 use borrow.Author.Needs.{needs}
 use Rattle.judge.proofs.table.least_of.Statement.{statement}
 use Rattle.judge.proofs.table.least_of.Tie as tie
 
 abbrev Inv-loop : tie.InvT-loop
-Inv-loop cells first last least₀ i₀ least i = (first ≤ i) × (i ≤ last) × Least (λ j. getD cells j 0) first (i + 1) least
+Inv-loop cells first last least₀ i₀ least i = (first ≤ i) × (i ≤ last) × LeastOf (λ j. getD cells j 0) first (i + 1) least
 
 abbrev μ-loop : tie.MeasureT-loop
 μ-loop cells first last least₀ i₀ least i = last - i

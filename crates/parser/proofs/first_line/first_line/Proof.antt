@@ -3,7 +3,7 @@ use mathlib.Core.Path.{_≡_, sym, _∙_, ap}
 use mathlib.Core.Bool.{Bool, true, false}
 use Rattle.text.specs.Choice.{choose}
 use Rattle.text.specs.NumberLaws.{between-is}
-use Rattle.text.specs.Pair.{firstLine}
+use Rattle.text.specs.Pair.{wordAndPair}
 use Rattle.text.specs.declared.Pair.{Pair}
 use Rattle.parser.specs.Parse.{refused, passed, firstPhase}
 use Rattle.parser.specs.PhaseAnswers.{firstAnswer}
@@ -12,25 +12,25 @@ use Rattle.parser.proofs.first_line.first_line.Statement.{statement}
 use Rattle.parser.proofs.first_line.first_line.Tie as tie
 
 -- the numbers decide; behind them, their bounds
-numbers : (c : tie.After-first-line) → let a = c .before .before .before .args in
-    (w : Pair) → c .first-line .result ≡ w →
-    firstAnswer (firstPhase w (a .bounds) (λ x y. (x, y)) (a .form) (a .range)) ≡ firstAnswer (firstPhase (firstLine (a .s .now) (a .word .now)) (a .bounds) (λ x y. (x, y)) (a .form) (a .range))
+numbers : (c : tie.After-word-and-pair) → let a = c .before .before .before .args in
+    (w : Pair) → c .word-and-pair .result ≡ w →
+    firstAnswer (firstPhase w (a .bounds) (λ x y. (x, y)) (a .form) (a .range)) ≡ firstAnswer (firstPhase (wordAndPair (a .s .now) (a .word .now)) (a .bounds) (λ x y. (x, y)) (a .form) (a .range))
 numbers c w e =
     let a = c .before .before .before .args in
-    ap (λ (w : Pair). firstAnswer (firstPhase w (a .bounds) (λ x y. (x, y)) (a .form) (a .range))) (sym e ∙ c .first-line .ensures)
+    ap (λ (w : Pair). firstAnswer (firstPhase w (a .bounds) (λ x y. (x, y)) (a .form) (a .range))) (sym e ∙ c .word-and-pair .ensures)
 
 bounded : (c : tie.After-are-between) → let a = c .before .before .before .before .before .before .before .args in
     let (x, (y, _)) = c .before .before .a .given .0 in
     (t : Bool) → c .are-between .result ≡ t →
-    firstAnswer (choose t (passed (x, y)) (refused (a .range) 1)) ≡ firstAnswer (firstPhase (firstLine (a .s .now) (a .word .now)) (a .bounds) (λ x y. (x, y)) (a .form) (a .range))
+    firstAnswer (choose t (passed (x, y)) (refused (a .range) 1)) ≡ firstAnswer (firstPhase (wordAndPair (a .s .now) (a .word .now)) (a .bounds) (λ x y. (x, y)) (a .form) (a .range))
 bounded c t e =
     let a = c .before .before .before .before .before .before .before .args in
     let (x, (y, _)) = c .before .before .a .given .0 in
     ap (λ (t : Bool). firstAnswer (choose t (passed (x, y)) (refused (a .range) 1))) (sym e ∙ c .are-between .ensures)
     ∙ numbers (c .before .before .before .before) _ (c .before .before .a .given .1)
 
-first-line-requires : tie.Need-first-line-requires
-first-line-requires c κs = search needs
+word-and-pair-requires : tie.Need-word-and-pair-requires
+word-and-pair-requires c κs = search needs
 
 enum-known-a : tie.Need-enum-known-a
 enum-known-a c = search needs
@@ -56,7 +56,7 @@ pub first-line-spec : {M : Type 1} → statement M
 first-line-spec =
     tie.close
     (tie.spec
-    first-line-requires
+    word-and-pair-requires
     enum-known-a
     enum-told
     returns

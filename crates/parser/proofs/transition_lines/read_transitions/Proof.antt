@@ -5,7 +5,7 @@ use native.Mathlib.Omega.{arith}
 use denote.Ref.{now}
 use lib.ListN.{length, getD, take, drop, length-set, take-append-drop}
 use lib.Seq.{drop-set-lt, take-set-lt, getD-take}
-use Rattle.format.specs.Format.{place, entered}
+use Rattle.format.specs.Format.{place, inserted}
 use Rattle.parser.specs.declared.TransitionLine.{TransitionLine}
 use Rattle.parser.specs.Parse.{refused, withTransition, transitionsAt}
 use Rattle.parser.proofs.Steps.{transitions-step, transitions-end, end-fills}
@@ -36,7 +36,7 @@ turn : (c : tie.After-transition-line Inv-loop μ-loop) →
     let l = c .before .before .before .loop in
     let a = c .before .before .before .before .before .before .args in
     (w : TransitionLine) → c .transition-line .result ≡ w →
-    withTransition w (λ t. transitionsAt (a .s .now) (a .n) (a .k) (l .line + 1) (l .at + 11) (place t + 1) (entered (take 128 (l .table)) t) (length (a .s .now) + 1 + a .first - (l .line + 1)))
+    withTransition w (λ t. transitionsAt (a .s .now) (a .n) (a .k) (l .line + 1) (l .at + 11) (place t + 1) (inserted (take 128 (l .table)) t) (length (a .s .now) + 1 + a .first - (l .line + 1)))
     (refused 8 (l .line)) ≡
     transitionsAt (a .s .now) (a .n) (a .k) (a .first) (a .start) 0 (take 128 (a .table .now)) (length (a .s .now) + 1)
 turn c w e =
@@ -117,7 +117,7 @@ loop-less : tie.Need-loop-less Inv-loop μ-loop
 loop-less c = omega (arith, inside (c .before .before .before .before .before .before))
 
 loop-again : tie.Need-loop-again Inv-loop μ-loop
-unfolding entered
+unfolding inserted
 loop-again c =
     let l = c .before .before .before .before .before .before .before .before .loop in
     let z = c .before .before .before .from .given .0 in

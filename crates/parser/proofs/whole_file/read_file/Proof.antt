@@ -4,7 +4,7 @@ use mathlib.Core.Path.{_≡_, refl, sym, _∙_, ap, subst}
 use mathlib.Core.List.{List, []}
 use native.Mathlib.Omega.{arith}
 use lib.ListN.{length, replicate}
-use Rattle.text.specs.Pair.{firstLine}
+use Rattle.text.specs.Pair.{wordAndPair}
 use Rattle.automaton.specs.Automaton.{InRange}
 use Rattle.format.specs.Format.{sheetWord}
 use Rattle.parser.specs.Parse.{Phase, passed, sizes, sheetBounds, headOf, namesAt, statesAt, transitionsAt, afterNames}
@@ -39,7 +39,7 @@ in-range c = subst (FirstFits sheetBounds) (c .before .n .given .1) (lined c .fi
 read : (c : tie.After-known-told2) → headOf (start (lined c) .args .s .now) ≡ passed (sizes (n c) (k c))
 unfolding headOf
 read c =
-    first-passed sheetBounds sizes 3 4 (firstLine (start (lined c) .args .s .now) sheetWord) (n c) (k c)
+    first-passed sheetBounds sizes 3 4 (wordAndPair (start (lined c) .args .s .now) sheetWord) (n c) (k c)
     (sym (c .before .n .given .1) ∙ lined c .first-line .ensures .0)
 
 -- behind the name lines: the names are read
@@ -91,7 +91,7 @@ unfolding headOf
 returns-2 c =
     let l = c .before .before .before in
     let a = start l .args in
-    let (number, line, e, f) = first-refused sheetBounds sizes 3 4 (firstLine (a .s .now) sheetWord) (c .before .r .given .0 .0) (sym (c .before .r .given .1) ∙ l .first-line .ensures .0) in
+    let (number, line, e, f) = first-refused sheetBounds sizes 3 4 (wordAndPair (a .s .now) sheetWord) (c .before .r .given .0 .0) (sym (c .before .r .given .1) ∙ l .first-line .ensures .0) in
     rw (not-large (a .s .now) (l .before .before .if1 .left), f) (ap F.Refused e, start l .pre .1)
 
 same-length : tie.Need-same-length

@@ -5,7 +5,7 @@ use native.Mathlib.Omega.{arith}
 use denote.Ref.{now}
 use lib.ListN.{length, take, drop, replicate}
 use Rattle.parser.specs.Parse.{statesAt, transitionsAt, afterStates}
-use Rattle.parser.specs.PhaseAnswers.{Fills}
+use Rattle.parser.specs.PhaseAnswers.{FillsTable}
 use Rattle.parser.specs.declared.End.the-variants as E
 use Rattle.parser.proofs.FileLaws.{sets-zero, rest-zero, states-refuse, states-pass, transitions-refuse, transitions-pass}
 use borrow.Author.Needs.{needs}
@@ -60,7 +60,7 @@ returns-2 c y here there =
     let f = c .before .before .before .before .before .before .before .before .before .read-transitions .ensures in
     let v = c .before .before .before .before .before .before .before .before .before .read-transitions .last .1 .1 .1 .1 .1 .0 in
     let r = c .before .before .before .before .before .r2 .given .0 .0 in
-    let w : Fills (transitionsAt s (a .z .n) (a .z .k) (q .line) (q .at) 0 (take 128 t) (length s + 1)) (drop 128 t) v (E.Refused r) =
+    let w : FillsTable (transitionsAt s (a .z .n) (a .z .k) (q .line) (q .at) 0 (take 128 t) (length s + 1)) (drop 128 t) v (E.Refused r) =
     rw (c .before .before .before .before .before .r2 .given .1) at f in
     let same : length v ≡ length t = c .before .before .before .before .before .before .before .before .before .read-transitions .kept .1 .1 .1 .1 .1 .0 in
     rw (there, here, e)
@@ -81,7 +81,7 @@ returns-3 c y here there =
     let e = states-pass p (afterStates s (a .z) y) q (sym (c .before .before .before .before .before .before .before .q .given .1) ∙ c .before .before .before .before .before .before .before .before .before .read-states .ensures .0) in
     let f = c .before .before .before .before .read-transitions .ensures in
     let v = c .before .before .before .before .read-transitions .last .1 .1 .1 .1 .1 .0 in
-    let w : Fills (transitionsAt s (a .z .n) (a .z .k) (q .line) (q .at) 0 (take 128 t) (length s + 1)) (drop 128 t) v E.Reached =
+    let w : FillsTable (transitionsAt s (a .z .n) (a .z .k) (q .line) (q .at) 0 (take 128 t) (length s + 1)) (drop 128 t) v E.Reached =
     rw (c .enum-told .given .1) at f in
     rw (there, here, e)
     (transitions-pass (a .z) y q (transitionsAt s (a .z .n) (a .z .k) (q .line) (q .at) 0 (replicate 128 0) (length s + 1)) t v (drop 128 t)

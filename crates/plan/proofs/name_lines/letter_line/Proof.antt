@@ -5,7 +5,7 @@ use native.Mathlib.Omega.{arith}
 use denote.Ref.{now}
 use lib.ListN.{length}
 use Rattle.names.specs.ScanLaws.{name-is}
-use Rattle.parser.specs.RowsLaws.{letter-is}
+use Rattle.parser.specs.LetterLaws.{letter-is}
 use Rattle.plan.proofs.Laws.{line-bad, line-known, line-unknown}
 use borrow.Author.Needs.{needs}
 use Rattle.plan.proofs.name_lines.letter_line.Statement.{statement}

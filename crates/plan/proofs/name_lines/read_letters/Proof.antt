@@ -8,7 +8,7 @@ use mathlib.Core.List.{List, [], _∷_, _++_}
 use lib.ListN.{length, take, drop, length-set, take-append-drop}
 use Rattle.plan.proofs.Laws.{SoFar, letters-step, letters-done, stored, behind}
 use Rattle.parser.specs.Parse.{refused}
-use Rattle.parser.specs.Rows.{Holds}
+use Rattle.parser.specs.Rows.{HoldNames}
 use Rattle.plan.specs.declared.LetterLine.{LetterLine}
 use Rattle.plan.specs.Parse.{withLetter, lettersAt}
 use borrow.Author.Needs.{needs}
@@ -27,8 +27,8 @@ abbrev μ-loop : tie.MeasureT-loop
 turn : (c : tie.After-letter-line Inv-loop μ-loop) →
     let v = c .before .before .before .loop in
     let a = c .before .before .before .before .before .before .before .args in
-    (w : LetterLine) → c .letter-line .result ≡ w → (names : List (List ℕ)) → length names ≡ a .k → Holds names (a .rows .now) →
-    Holds names (c .letter-line .last .1 .1 .0)
+    (w : LetterLine) → c .letter-line .result ≡ w → (names : List (List ℕ)) → length names ≡ a .k → HoldNames names (a .rows .now) →
+    HoldNames names (c .letter-line .last .1 .1 .0)
     × (withLetter w (λ l e. lettersAt names (a .p .now) (v .line + 1) (e + 1) (take (v .i) (v .letters) ++ (l ∷ [])) (a .count - (v .i + 1))) (refused 14 (v .line)) (refused 12 (v .line))
     ≡ lettersAt names (a .p .now) 2 11 [] (a .count))
 turn c w e names n h =

@@ -1,6 +1,6 @@
 -- The answer of the last line, as a plan's. Assumes nothing.
 use mathlib.Core.Path.{sym, ap, _∙_}
-use Rattle.plan.specs.Parse.{endAt}
+use Rattle.plan.specs.Parse.{endOf}
 use Rattle.plan.specs.Answers.{planned}
 use borrow.Author.Needs.{needs}
 use Rattle.plan.proofs.whole_file.end_line.Statement.{statement}
@@ -16,11 +16,11 @@ enum-told : tie.Need-enum-told
 enum-told c = search needs
 
 returns : tie.Need-returns
-unfolding endAt
+unfolding endOf
 returns c = ap (planned (c .before .before .before .before .before .args .z)) (sym (c .before .r .given .1) ∙ c .before .before .before .end-line .ensures)
 
 returns-2 : tie.Need-returns-2
-unfolding endAt
+unfolding endOf
 returns-2 c = ap (planned (c .before .before .before .before .args .z)) (sym (c .enum-told .given .1) ∙ c .before .before .end-line .ensures)
 
 pub end-line-spec : {M : Type 1} → statement M

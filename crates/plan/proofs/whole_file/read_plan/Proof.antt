@@ -4,7 +4,7 @@ use mathlib.Core.Path.{_≡_, sym, _∙_, ap, subst}
 use mathlib.Core.List.{[], map}
 use lib.ListN.{length-map}
 use native.Mathlib.Omega.{arith}
-use Rattle.text.specs.Pair.{firstLine}
+use Rattle.text.specs.Pair.{wordAndPair}
 use Rattle.names.specs.Name.{compose}
 use Rattle.format.specs.Format.{Sheet}
 use Rattle.parser.specs.Parse.{passed}
@@ -13,7 +13,7 @@ use Rattle.parser.specs.FirstLaws.{first-passed, first-refused}
 use Rattle.plan.specs.declared.Letters.{Letters}
 use Rattle.plan.specs.declared.Planned.the-variants as P
 use Rattle.plan.specs.Plan.{planWord, LengthsRight}
-use Rattle.plan.specs.Parse.{lengths, planBounds, headOf, lettered, lettersAt, endAt, planOf}
+use Rattle.plan.specs.Parse.{lengths, planBounds, headOf, lettered, lettersAt, endOf, planOf}
 use Rattle.plan.specs.Answers.{PlaceFits, LettersRead}
 use Rattle.plan.specs.Read.{NamesIn}
 use Rattle.plan.specs.ReadLaws.{reads}
@@ -43,7 +43,7 @@ in-range c =
 read : (c : tie.After-known-told2) → headOf (start (lined c) .args .p .now) ≡ passed (lengths (lead c) (cycle c))
 unfolding headOf
 read c =
-    first-passed planBounds lengths 12 13 (firstLine (start (lined c) .args .p .now) planWord) (lead c) (cycle c)
+    first-passed planBounds lengths 12 13 (wordAndPair (start (lined c) .args .p .now) planWord) (lead c) (cycle c)
     (sym (c .before .lead .given .1) ∙ lined c .first-line .ensures .0)
 
 -- behind the name lines: their answer, for a sheet whose names the rows hold
@@ -100,7 +100,7 @@ returns c =
     let a = start l .args in
     let t = a .letters .now in
     let r = c .before .r .given .0 .0 in
-    let (number, line, e, f) = first-refused planBounds lengths 12 13 (firstLine (a .p .now) planWord) r (sym (c .before .r .given .1) ∙ l .first-line .ensures .0) in
+    let (number, line, e, f) = first-refused planBounds lengths 12 13 (wordAndPair (a .p .now) planWord) r (sym (c .before .r .given .1) ∙ l .first-line .ensures .0) in
     (tt, λ σ g. reads σ (g .all-names ∙ sym (g .letters)) (a .p .now) t t (start l .pre .0) (P.Refused r) (rw f (ap P.Refused e)))
 
 same-length : tie.Need-same-length
@@ -145,7 +145,7 @@ returns-3 c =
     let u = d .read-letters .last .1 .1 .1 .1 .0 in
     let q = c .before .before .place .given .0 .0 in
     let r = c .end-line .result in (
-      rw (c .end-line .ensures) (ends-fit z (in-range h) (endAt p (lettered [] (q .at) (q .line)))),
+      rw (c .end-line .ensures) (ends-fit z (in-range h) (endOf p (lettered [] (q .at) (q .line)))),
       λ σ g.
           (let names = map compose (σ .names) in
           reads σ (g .all-names ∙ sym (g .letters)) p t u (first .pre .0) r

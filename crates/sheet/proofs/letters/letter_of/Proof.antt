@@ -6,7 +6,7 @@ use denote.Ref.{now}
 use Rattle.text.specs.Bytes.{stretch}
 use Rattle.names.specs.Name.{compose}
 use Rattle.names.specs.NameLaws.{composed-name}
-use Rattle.parser.specs.Rows.{Holds, FirstLike}
+use Rattle.parser.specs.Rows.{HoldNames, FirstLike}
 use Rattle.parser.specs.RowsLaws.{holds-still, name-found}
 use borrow.Author.Needs.{needs}
 use Rattle.sheet.proofs.letters.letter_of.Statement.{statement}
@@ -35,7 +35,7 @@ returns c names n h is =
     let name = composed-name (stretch s (a .start) (a .end)) is in
     let r = c .first-like .result in (
       name-found names rows (a .count) x n fits h name r (subst (λ (v : List ℕ). FirstLike v (a .count) r) e (c .first-like .ensures)),
-      subst (λ (v : List ℕ). Holds names v) (sym e) (holds-still names rows (a .count) x n fits h name),
+      subst (λ (v : List ℕ). HoldNames names v) (sym e) (holds-still names rows (a .count) x n fits h name),
     )
 
 pub letter-of-spec : {M : Type 1} → statement M

@@ -4,8 +4,8 @@ use mathlib.Core.Logic.{inl}
 use Rattle.automaton.specs.Automaton.{automaton, Fits}
 use Rattle.walks.specs.CheckLaws.{judge-free, judge-meets}
 use borrow.Author.Needs.{needs}
-use Rattle.walks.proofs.judge.Statement.{statement}
-use Rattle.walks.proofs.judge.Tie as tie
+use Rattle.walks.proofs.check_cleared.Statement.{statement}
+use Rattle.walks.proofs.check_cleared.Tie as tie
 
 -- behind questions 4, 7 and 8 the numbers fit
 abbrev start : tie.Else1 → tie.Start
@@ -62,8 +62,8 @@ returns-3 c =
     let g = asked (c .before) in
     judge-meets (fits (g .before .before .before .before)) (g .ask .ensures) (c .if2 .left)
 
-pub judge-spec : {M : Type 1} → statement M
-judge-spec =
+pub check-cleared-spec : {M : Type 1} → statement M
+check-cleared-spec =
     tie.close
     (tie.spec
     first-no-requires

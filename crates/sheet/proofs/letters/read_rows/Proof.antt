@@ -3,8 +3,8 @@ use denote.Ref.{now}
 use lib.ListN.{replicate}
 use Rattle.sheet.proofs.FileMeans.{letters-read}
 use borrow.Author.Needs.{needs}
-use Rattle.sheet.proofs.letters.read_letters.Statement.{statement}
-use Rattle.sheet.proofs.letters.read_letters.Tie as tie
+use Rattle.sheet.proofs.letters.read_rows.Statement.{statement}
+use Rattle.sheet.proofs.letters.read_rows.Tie as tie
 
 slice-aggregate-read-file : tie.Need-slice-aggregate-read-file
 slice-aggregate-read-file c = search needs
@@ -20,6 +20,6 @@ returns c =
     let z = c .before .before .before .read-file in
     letters-read (now (c .before .before .before .before .before .before .before .before .args .s)) (replicate 128 0) (z .last .1 .0) (z .last .1 .1 .0) (z .result) (z .ensures)
 
-pub read-letters-spec : {M : Type 1} → statement M
-read-letters-spec =
+pub read-rows-spec : {M : Type 1} → statement M
+read-rows-spec =
     tie.close (tie.spec slice-aggregate-read-file read-file-requires same-length returns)
