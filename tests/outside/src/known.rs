@@ -1,4 +1,4 @@
-//! Document 01's own cases, and the judging programs against each other: what judges is judged first.
+//! The requirements' own cases, and the judging programs against each other: what judges is judged first.
 
 use super::*;
 

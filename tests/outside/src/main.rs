@@ -1,5 +1,5 @@
 //! Tries the proved programs against programs that share nothing with them: a reader of its own, walks by counting, verdicts on the
-//! product of sheet and plan, tuples by document 01's text, and Safra's construction.
+//! product of sheet and plan, tuples by the requirements' text, and Safra's construction.
 //!
 //! outside PROGRAMS [COUNT]: PROGRAMS is the folder of the built programs `track`, `verdict` and `rewrite`; COUNT (4,000) is how many
 //! sheets are made. Its last line is `outside: N passed, M failed`.

@@ -1,4 +1,4 @@
-//! Safra's construction, as document 002 (section 3) states it: a deterministic Rabin automaton.
+//! Safra's construction, as section 3 of document 002 (named in docs/ARCHITECTURE.md) states it: a deterministic Rabin automaton.
 
 use crate::sheet::Sheet;
 use std::collections::{BTreeMap, BTreeSet, HashMap};

@@ -1,4 +1,4 @@
-//! The tracker by document 01's text, on sets of states as sorted lists: to compare the listing, cell by cell.
+//! The tracker by the requirements' text, on sets of states as sorted lists: to compare the listing, cell by cell.
 
 use crate::sheet::{Plan, Sheet};
 use std::collections::{BTreeSet, HashMap};
