@@ -38,11 +38,11 @@ pub numbers-number : {A : Automaton} {v w : Tables} {r : Refusal} → NumbersRef
 numbers-number (NumbersRefuse.unfit x f e z) h = omega (arith, first-no-number f, ap (λ (r : Refusal). r .number) e)
 numbers-number (NumbersRefuse.meeting f m) h = omega (arith, m .number)
 
-pub answers-yes : (A : Automaton) → Fits A → Answers A 0
-answers-yes A f = (λ e. f, λ e. absurd (e refl))
+pub answers-yes : {A : Automaton} → Fits A → Answers A 0
+answers-yes f = (λ e. f, λ e. absurd (e refl))
 
-pub answers-no : (A : Automaton) (x : ℕ) → FirstNo A x → Answers A x
-answers-no A x n = (λ e. (let h = first-no-number n in omega arith), λ e. n)
+pub answers-no : {A : Automaton} {x : ℕ} → FirstNo A x → Answers A x
+answers-no n = (λ e. (let h = first-no-number n in omega arith), λ e. n)
 
 -- Cells
 

@@ -30,6 +30,16 @@ unfolding pick
 pick-spec (yes x) a b = inl (x, refl)
 pick-spec (no x) a b = inr (x, refl)
 
+pick-yes : {P : Type 0} (d : Dec P) (a b : ℕ) → P → pick d a b ≡ a
+unfolding pick
+pick-yes (yes x) a b p = refl
+pick-yes (no x) a b p = absurd (x p)
+
+pick-no : {P : Type 0} (d : Dec P) (a b : ℕ) → (P → ⊥) → pick d a b ≡ b
+unfolding pick
+pick-no (yes x) a b p = absurd (p x)
+pick-no (no x) a b p = refl
+
 -- Pigeonhole: among n + 1 numbers below n two are the same.
 pub pigeon : (n : ℕ) (f : ℕ → ℕ) → ((k : ℕ) → k ≤ n → f k < n) → (a : ℕ) × (b : ℕ) × (a < b) × (b ≤ n) × (f a ≡ f b)
 pigeon zero f h = absurd (let z : f 0 < 0 = h 0 (omega arith) in omega arith)
@@ -98,19 +108,11 @@ glue f g t s = pick (decLt s t) (f s) (g s)
 
 pub glue-lt : (f g : ℕ → ℕ) (t s : ℕ) → s < t → glue f g t s ≡ f s
 unfolding glue
-glue-lt f g t s l = by (pick-spec (decLt s t) (f s) (g s))
-  where
-    by : ((s < t) × (pick (decLt s t) (f s) (g s) ≡ f s)) ⊎ ((s < t → ⊥) × (pick (decLt s t) (f s) (g s) ≡ g s)) → pick (decLt s t) (f s) (g s) ≡ f s
-    by (inl x) = x .1
-    by (inr x) = absurd (x .0 l)
+glue-lt f g t s l = pick-yes (decLt s t) (f s) (g s) l
 
 pub glue-ge : (f g : ℕ → ℕ) (t s : ℕ) → t ≤ s → glue f g t s ≡ g s
 unfolding glue
-glue-ge f g t s l = by (pick-spec (decLt s t) (f s) (g s))
-  where
-    by : ((s < t) × (pick (decLt s t) (f s) (g s) ≡ f s)) ⊎ ((s < t → ⊥) × (pick (decLt s t) (f s) (g s) ≡ g s)) → pick (decLt s t) (f s) (g s) ≡ g s
-    by (inl x) = absurd (omega arith)
-    by (inr x) = x .1
+glue-ge f g t s l = pick-no (decLt s t) (f s) (g s) (λ h. omega arith)
 
 -- Paths: E s q r is a transition at time s from q to r.
 module _ (E : ℕ → ℕ → ℕ → Type 0) where

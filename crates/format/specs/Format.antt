@@ -1,13 +1,12 @@
 -- Document 01, "The files" and "The gate questions": what a sheet file is, and which line of a file that is none is at fault.
-use Prim.Native.Nat.{ℕ, zero, suc, _+_, _*_, _/_, _%_, _^_, _≤_, _<_}
+use Prim.Native.Nat.{ℕ, suc, _+_, _*_, _≤_, _<_}
 use mathlib.Core.Path.{_≡_}
-use mathlib.Core.List.{List, [], _∷_, _++_, map}
-use lib.ListN.{length, getD, set, replicate}
+use mathlib.Core.List.{List, [], _∷_, _++_}
+use lib.ListN.{length, getD}
 use Rattle.text.specs.Bytes.{lf, space, endWord}
 use Rattle.text.specs.Column.{column}
 use Rattle.names.specs.Name.{IsName, compose}
-use Rattle.sets.specs.Sets.{bit, unionOf}
-use Rattle.automaton.specs.Automaton.{Automaton, InRange}
+use Rattle.automaton.specs.Automaton.{InRange}
 
 -- a state line's two flags, initial and must-recur
 pub record State : Type 0 where
@@ -182,63 +181,3 @@ pub data Faulty (s : List ℕ) : ℕ → ℕ → Type 0 where
       → ((after : List ℕ) → rest ≡ endLine ++ after → ⊥) → Faulty s 9 (lineDue σ)
   -- "What follows `END` is a fault of the line after it: 9 in a sheet".
   behind : (σ : Sheet) (after : List ℕ) → Above s σ (endLine ++ after) → EndDue σ → (after ≡ [] → ⊥) → Faulty s 9 (suc (lineDue σ))
-
--- THE NUMBERS OF A SHEET
-
--- the states of a list, from state q on, whose flag is 1: the sum of 2^q over them
-unfoldable pub flagSet : (State → ℕ) → ℕ → List State → ℕ
-flagSet flag q [] = 0
-flagSet flag q (z ∷ zs) = flag z * 2 ^ q + flagSet flag (suc q) zs
-
--- a table of successor sets with one transition more
-unfoldable pub inserted : List ℕ → Transition → List ℕ
-inserted table t = set table (8 * t .from + t .letter) (unionOf (getD table (8 * t .from + t .letter) 0) (2 ^ t .to))
-
--- the table with some transitions more
-unfoldable pub tableOf : List ℕ → List Transition → List ℕ
-tableOf table [] = table
-tableOf table (t ∷ ts) = tableOf (inserted table t) ts
-
-unfoldable pub numbers : Sheet → Automaton
-numbers σ = record {
-  n = σ .n;
-  k = σ .k;
-  initial = flagSet (λ z. z .initial) 0 (σ .states);
-  recurring = flagSet (λ z. z .recurring) 0 (σ .states);
-  table = tableOf (replicate 128 0) (σ .transitions);
-}
-
--- THE WRITING of an automaton with names: composed letters, transitions in order
-
--- the state lines of n states from q on, by their flags in two sets
-unfoldable pub statesOf : ℕ → ℕ → ℕ → ℕ → List State
-statesOf initial recurring q zero = []
-statesOf initial recurring q (suc n) = record { initial = bit initial q; recurring = bit recurring q } ∷ statesOf initial recurring (suc q) n
-
--- a transition at place i of the order
-abbrev pub placed : ℕ → Transition
-placed i = record { from = i / 128; letter = i / 16 % 8; to = i % 16 }
-
--- a transition in front of others where its bit is 1
-abbrev pub whereMember : ℕ → Transition → List Transition → List Transition
-whereMember zero t ts = ts
-whereMember (suc b) t ts = t ∷ ts
-
--- the transitions of a table at the places from i on, of which there are `left`
-unfoldable pub transitionsOf : List ℕ → ℕ → ℕ → List Transition
-transitionsOf table i zero = []
-transitionsOf table i (suc left) = whereMember (bit (getD table (i / 16) 0) (i % 16)) (placed i) (transitionsOf table (suc i) left)
-
--- the sheet that is written: an automaton's numbers, and names as they are given, composed
-unfoldable pub writtenSheet : Automaton → List (List ℕ) → Sheet
-writtenSheet A names = record {
-  n = A .n;
-  k = A .k;
-  names = map compose names;
-  states = statesOf (A .initial) (A .recurring) 0 (A .n);
-  transitions = transitionsOf (A .table) 0 2048;
-}
-
--- the text that is written
-unfoldable pub written : Automaton → List (List ℕ) → List ℕ
-written A names = lines (writtenSheet A names) ++ endLine

@@ -1,3 +1,5 @@
 pub mod Format
+pub mod Numbers
+pub mod Written
 pub mod FormatLaws
 pub mod NumbersLaws

@@ -15,7 +15,8 @@ use Rattle.sets.specs.SetLaws.{no-member, some-member, member-lt, union-right, 
 use Rattle.automaton.specs.declared.Numbers.{Numbers}
 use Rattle.automaton.specs.Automaton.{automaton, AreNumbers, Edge, InRange, Fits}
 use Rattle.automaton.specs.Lent.{lentTable}
-use Rattle.format.specs.Format.{State, Transition, Sheet, FlagsRight, StatesRight, TransitionRight, TransitionsRight, place, Right, FileIs, flagSet, inserted, tableOf, numbers}
+use Rattle.format.specs.Format.{State, Transition, Sheet, FlagsRight, StatesRight, TransitionRight, TransitionsRight, place, Right, FileIs}
+use Rattle.format.specs.Numbers.{flagSet, inserted, tableOf, numbers}
 
 -- Flags
 

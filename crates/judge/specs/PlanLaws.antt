@@ -9,7 +9,8 @@ use native.Mathlib.Omega.{arith}
 use native.Mathlib.Decide.{decLt}
 use Rattle.names.specs.Name.{compose}
 use Rattle.automaton.specs.declared.Numbers.{Numbers}
-use Rattle.format.specs.Format.{Sheet, numbers}
+use Rattle.format.specs.Format.{Sheet}
+use Rattle.format.specs.Numbers.{numbers}
 use Rattle.sheet.specs.Answers.{LettersOf}
 use Rattle.plan.specs.Letter.{letterAt}
 use Rattle.plan.specs.Plan.{PlanIs}

@@ -20,20 +20,13 @@ use Rattle.judge.specs.declared.Verdict.{Verdict}
 use Rattle.judge.specs.Passes.{AnswerIs, LeastColour, Judges}
 use Rattle.judge.specs.Verdict.{Sound}
 use Rattle.judge.specs.TableRun.{LeastOf}
-use Rattle.judge.specs.LeastLaws.{least-lowest}
+use Rattle.judge.specs.LeastLaws.{least-down, least-lowest}
 
 -- the colours colourEntered after t and up to u, by the letter that enters them
 entered-least : (A : Automaton) (w : ℕ → ℕ) (t u v : ℕ) → LeastColour A w t u v → LeastOf (colourEntered A w) t u v
 entered-least A w t u v h =
-    let l = h .after in
-    let e : suc (h .at - 1) ≡ h .at = omega arith in
-    record {
-      at = h .at - 1;
-      from = omega arith;
-      before = omega (arith, h .up-to);
-      is = ap (λ s. run A w s .colour) e ∙ h .is;
-      lowest = λ s a b. h .lowest (suc s) (omega arith) b;
-    }
+    least-down (λ s. run A w s .colour) t u v
+    (record { at = h .at; from = h .after; before = omega (arith, h .up-to); is = h .is; lowest = λ s a b. h .lowest s a (omega arith) })
 
 by-parity : (A : Automaton) (w : ℕ → ℕ) (least : ℕ) → (least % 2 ≡ 0) ↔ Passes A w → (answer : Answer) → AnswerIs least answer → Sound A w answer
 by-parity A w least h Yes e = h .0 e

@@ -8,7 +8,8 @@ use Rattle.gate.specs.declared.Refusal.{Refusal}
 use Rattle.automaton.specs.Automaton.{Automaton}
 use Rattle.automaton.specs.Reading.{Passes}
 use Rattle.automaton.specs.Lent.{Tables, clearedTables, lentTable}
-use Rattle.format.specs.Format.{Sheet, numbers, most}
+use Rattle.format.specs.Format.{Sheet, most}
+use Rattle.format.specs.Numbers.{numbers}
 use Rattle.sheet.specs.Read.{Accepted, Refuses}
 use Rattle.plan.specs.Letter.{letterAt}
 use Rattle.plan.specs.Plan.{PlanIs, Faulty, mostPlan}

@@ -10,7 +10,8 @@ use Rattle.gate.specs.Gate.{cleared}
 use Rattle.gate.specs.GateLaws.{same-cleared}
 use Rattle.gate.specs.declared.Refusal.{Refusal}
 use Rattle.automaton.specs.Lent.{Tables}
-use Rattle.format.specs.Format.{Sheet, FileIs, numbers}
+use Rattle.format.specs.Format.{Sheet, FileIs}
+use Rattle.format.specs.Numbers.{numbers}
 use Rattle.format.specs.NumbersLaws.{sheet-fits}
 use Rattle.sheet.specs.Read.{Accepted}
 use Rattle.plan.specs.Letter.{letterAt}

@@ -7,7 +7,8 @@ use Rattle.gate.specs.Gate.{refusal}
 use Rattle.gate.specs.declared.Refusal.{Refusal}
 use Rattle.automaton.specs.Meeting.{Everywhere, Witness}
 use Rattle.automaton.specs.Lent.{Tables}
-use Rattle.format.specs.Format.{Sheet, FileIs, numbers}
+use Rattle.format.specs.Format.{Sheet, FileIs}
+use Rattle.format.specs.Numbers.{numbers}
 use Rattle.tuple.specs.Step.{Tuple}
 use Rattle.tracker.specs.declared.Tracker.{Tracker}
 use Rattle.tracker.specs.declared.Built.{Built}

@@ -10,8 +10,10 @@ use lib.ListN.{length, take, drop, length-map}
 use lib.Seq.{take-append-seam, drop-append-seam}
 use Rattle.gate.specs.Gate.{refusal}
 use Rattle.automaton.specs.Automaton.{Automaton}
-use Rattle.format.specs.Format.{Sheet, FileIs, numbers, most}
-use Rattle.parser.specs.Parse.{Phase, refused, passed, Contents}
+use Rattle.format.specs.Format.{Sheet, FileIs, most}
+use Rattle.format.specs.Numbers.{numbers}
+use Rattle.parser.specs.Parse.{Contents}
+use Rattle.parser.specs.Phase.{Phase, refused, passed}
 use Rattle.text.specs.SearchLaws.{same-is}
 use Rattle.parser.specs.ParseLaws.{AreContents}
 use Rattle.tuple.specs.Step.{Tuple}

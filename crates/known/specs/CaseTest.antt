@@ -8,7 +8,8 @@ use Rattle.text.specs.Search.{same}
 use Rattle.text.specs.Choice.{choose}
 use Rattle.automaton.specs.Automaton.{Automaton}
 use Rattle.format.specs.Format.{most}
-use Rattle.parser.specs.Parse.{Phase, refused, passed, parse}
+use Rattle.parser.specs.Parse.{parse}
+use Rattle.parser.specs.Phase.{Phase, refused, passed}
 use Rattle.parser.specs.Parse as S
 use Rattle.tuple.specs.Step.{Tuple}
 use Rattle.tracker.specs.Explore.{found}

@@ -9,7 +9,8 @@ use Rattle.gate.specs.Gate.{refusal}
 use Rattle.gate.specs.declared.Refusal.{Refusal}
 use Rattle.automaton.specs.Meeting.{Everywhere, Witness}
 use Rattle.automaton.specs.Lent.{Tables}
-use Rattle.format.specs.Format.{Sheet, FileIs, numbers, Faulty}
+use Rattle.format.specs.Format.{Sheet, FileIs, Faulty}
+use Rattle.format.specs.Numbers.{numbers}
 use Rattle.sheet.specs.Read.{Accepted, Refuses}
 use Rattle.tuple.specs.Step.{Tuple}
 use Rattle.tracker.specs.declared.Tracker.{Tracker}

@@ -13,10 +13,12 @@ use Rattle.gate.specs.Gate.{refusal}
 use Rattle.gate.specs.declared.Refusal.{Refusal}
 use Rattle.automaton.specs.Automaton.{Automaton, Fits}
 use Rattle.automaton.specs.Meeting.{Everywhere, Witness}
-use Rattle.format.specs.Format.{Sheet, FileIs, numbers, Faulty}
+use Rattle.format.specs.Format.{Sheet, FileIs, Faulty}
+use Rattle.format.specs.Numbers.{numbers}
 use Rattle.format.specs.NumbersLaws.{sheet-fits}
 use Rattle.sheet.specs.Read.{Accepted}
-use Rattle.parser.specs.Parse.{Phase, refused, passed, parse, Contents}
+use Rattle.parser.specs.Parse.{parse, Contents}
+use Rattle.parser.specs.Phase.{Phase, refused, passed}
 use Rattle.parser.specs.ParseLaws.{AreContents}
 use Rattle.parser.specs.CompleteLaws.{faulty-parse}
 use Rattle.parser.specs.UniqueLaws.{accepts-parse}

@@ -8,7 +8,7 @@ use Rattle.gate.specs.GateLaws.{refused-first}
 use Rattle.gate.specs.declared.Refusal.{Refusal}
 use Rattle.automaton.specs.Automaton.{Automaton, Fits, AreNumbers}
 use Rattle.automaton.specs.Lent.{Tables}
-use Rattle.format.specs.Format.{numbers}
+use Rattle.format.specs.Numbers.{numbers}
 use Rattle.format.specs.NumbersLaws.{sheet-fits}
 use Rattle.automaton.specs.QuestionLaws.{numbers-number}
 use Rattle.sheet.specs.ReadLaws.{refuses-number}

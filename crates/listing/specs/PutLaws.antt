@@ -3,13 +3,14 @@ use Prim.Native.Nat.{ℕ, zero, suc, _+_, _-_, _*_, _≤_, _<_}
 use mathlib.Core.Path.{_≡_, refl, ap, _∙_}
 use mathlib.Core.List.{List, [], _∷_, _++_}
 use native.Mathlib.Numerals.{add-one}
-use native.Mathlib.Nat.{mul-le-mul, mul-suc, suc-mul}
+use native.Mathlib.Nat.{mul-le-mul, mul-suc, suc-mul, sub-eq-zero-of-le}
 use native.Mathlib.Omega.{arith}
 use lib.ListN.{length, getD, length-append}
 use lib.Seq.{sets}
 use Rattle.text.specs.Bytes.{lf, endWord}
 use Rattle.text.specs.Column.{column}
 use Rattle.text.specs.ColumnLaws.{column-length}
+use Rattle.text.specs.LeftLaws.{left-more}
 use Rattle.text.specs.SetsLaws.{sets-append}
 use Rattle.listing.specs.Listing.{columns, trackLine, tupleLine, tupleLines, listing}
 use Rattle.listing.specs.Put.{cellsFrom, lineBytes, listingBytes}
@@ -53,24 +54,24 @@ listing-small n k count a b c =
 sets-part : (t u out : List ℕ) (at next : ℕ) → at + length t ≡ next → sets out at (t ++ u) ≡ sets (sets out at t) next u
 sets-part t u out at next e = sets-append t u out at ∙ ap (λ (i : ℕ). sets (sets out at t) i u) e
 
-module _ (w : ℕ) (f : ℕ → ℕ) (i count : ℕ) (h : i < count) where
-  columns-next : columns w f i (count - i) ≡ column w (f i) ++ columns w f (i + 1) (count - (i + 1))
-  unfolding columns
-  columns-next =
-      let k : count - i ≡ suc (count - (i + 1)) = omega arith in
-      rw (k, add-one)
+-- a text that is t, of w bytes, and then u
+pub record Parts (text t : List ℕ) (w : ℕ) (u : List ℕ) : Type 0 where
+  pub left : length text ≡ w + length u
+  pub put : (out : List ℕ) (p : ℕ) → sets out p text ≡ sets (sets out p t) (p + w) u
 
-  pub columns-left : length (columns w f i (count - i)) ≡ w + length (columns w f (i + 1) (count - (i + 1)))
-  columns-left = ap length columns-next ∙ length-append (column w (f i)) (columns w f (i + 1) (count - (i + 1))) ∙ omega (arith, column-length w (f i))
+parts : {text : List ℕ} {w : ℕ} (t u : List ℕ) → text ≡ t ++ u → length t ≡ w → Parts text t w u
+parts {w = w} t u e l = record {
+  left = ap length e ∙ length-append t u ∙ ap (_+ length u) l;
+  put = λ out p. ap (sets out p) e ∙ sets-part t u out p (p + w) (ap (p +_) l);
+}
 
-  pub columns-put : (out : List ℕ) (p : ℕ) → sets out p (columns w f i (count - i)) ≡ sets (sets out p (column w (f i))) (p + w) (columns w f (i + 1) (count - (i + 1)))
-  columns-put out p = ap (sets out p) columns-next ∙ sets-part (column w (f i)) (columns w f (i + 1) (count - (i + 1))) out p (p + w) (omega (arith, column-length w (f i)))
+pub columns-next : (w : ℕ) (f : ℕ → ℕ) (i count : ℕ) → i < count → Parts (columns w f i (count - i)) (column w (f i)) w (columns w f (i + 1) (count - (i + 1)))
+unfolding columns
+columns-next w f i count h = parts (column w (f i)) (columns w f (i + 1) (count - (i + 1))) (rw (left-more h, add-one)) (column-length w (f i))
 
 pub columns-none : (w : ℕ) (f : ℕ → ℕ) (i count : ℕ) → count ≤ i → columns w f i (count - i) ≡ []
 unfolding columns
-columns-none w f i count h =
-    let k : count - i ≡ 0 = omega arith in
-    rw k
+columns-none w f i count h = rw (sub-eq-zero-of-le h)
 
 pub first-put : (out : List ℕ) (n k count : ℕ)
     → sets out 0 (trackLine n k count)
@@ -108,30 +109,15 @@ tuple-put out at n k tuples nexts t =
     ∙ sets-part z (u ++ (lf ∷ [])) c (at + 9) (at + 9 + 6 * n) (omega (arith, columns-length 6 (cellsFrom tuples (17 * t)) 0 n))
     ∙ sets-part u (lf ∷ []) d (at + 9 + 6 * n) (at + 9 + 6 * n + 5 * k) (omega (arith, columns-length 5 (cellsFrom nexts (8 * t)) 0 k))
 
-module _ (n k : ℕ) (tuples nexts : List ℕ) (t count : ℕ) (h : t < count) where
-  lines-next : tupleLines n k tuples nexts t (count - t) ≡ tupleLine n k tuples nexts t ++ tupleLines n k tuples nexts (t + 1) (count - (t + 1))
-  unfolding tupleLines
-  lines-next =
-      let e : count - t ≡ suc (count - (t + 1)) = omega arith in
-      rw (e, add-one)
-
-  pub lines-left : length (tupleLines n k tuples nexts t (count - t)) ≡ lineBytes n k + length (tupleLines n k tuples nexts (t + 1) (count - (t + 1)))
-  lines-left =
-      ap length lines-next ∙ length-append (tupleLine n k tuples nexts t) (tupleLines n k tuples nexts (t + 1) (count - (t + 1)))
-      ∙ omega (arith, line-length n k tuples nexts t)
-
-  pub lines-put : (out : List ℕ) (p : ℕ)
-      → sets out p (tupleLines n k tuples nexts t (count - t))
-      ≡ sets (sets out p (tupleLine n k tuples nexts t)) (p + lineBytes n k) (tupleLines n k tuples nexts (t + 1) (count - (t + 1)))
-  lines-put out p =
-      ap (sets out p) lines-next
-      ∙ sets-part (tupleLine n k tuples nexts t) (tupleLines n k tuples nexts (t + 1) (count - (t + 1))) out p (p + lineBytes n k) (omega (arith, line-length n k tuples nexts t))
+pub lines-next : (n k : ℕ) (tuples nexts : List ℕ) (t count : ℕ) → t < count
+    → Parts (tupleLines n k tuples nexts t (count - t)) (tupleLine n k tuples nexts t) (lineBytes n k) (tupleLines n k tuples nexts (t + 1) (count - (t + 1)))
+unfolding tupleLines
+lines-next n k tuples nexts t count h =
+    parts (tupleLine n k tuples nexts t) (tupleLines n k tuples nexts (t + 1) (count - (t + 1))) (rw (left-more h, add-one)) (line-length n k tuples nexts t)
 
 pub lines-none : (n k : ℕ) (tuples nexts : List ℕ) (t count : ℕ) → count ≤ t → tupleLines n k tuples nexts t (count - t) ≡ []
 unfolding tupleLines
-lines-none n k tuples nexts t count h =
-    let e : count - t ≡ 0 = omega arith in
-    rw e
+lines-none n k tuples nexts t count h = rw (sub-eq-zero-of-le h)
 
 pub listing-put : (out : List ℕ) (n k count : ℕ) (tuples nexts : List ℕ)
     → sets out 0 (listing n k count tuples nexts)

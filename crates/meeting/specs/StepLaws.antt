@@ -16,12 +16,12 @@ pub grown-none : (A : Automaton) (T : List ℕ) (count d : ℕ) → Queue T coun
 grown-none A T count d q s m = record { queue = q; sound = s; more = omega arith; keeps = λ i l. (refl, refl); most = m }
 
 -- Step j is on letter j / 16 to state j % 16; e is the pair whose steps they are.
-module _ (A : Automaton) (fits : Fits A) (T₀ : List ℕ) (count₀ head e d : ℕ) (h : head < count₀) (is : e ≡ pair T₀ head) (deep : d ≡ depth e + 1)
-    (T : List ℕ) (count j : ℕ) (g : Grown A T₀ count₀ d T count) where
+module _ {A : Automaton} (fits : Fits A) {T₀ : List ℕ} {count₀ head e d : ℕ} (h : head < count₀) (is : e ≡ pair T₀ head) (deep : d ≡ depth e + 1)
+    {T : List ℕ} {count : ℕ} (j : ℕ) (g : Grown A T₀ count₀ d T count) where
   pub step-open : Queue T₀ count₀ → Open T count d (j % 16)
   step-open q = let m = g .more in let u = q .early head h in let v : depth e ≤ head = rw is u in record { queue = g .queue; most = g .most; deep = omega arith; state = omega arith }
 
-  module _ (x : ℕ) (T' : List ℕ) (count' : ℕ) (l : j / 16 < A .k) (gd : Guarded (successorSet A (one e) (j / 16)) (j % 16) (successorSet A (other e) (j / 16)) x)
+  module _ (x : ℕ) {T' : List ℕ} {count' : ℕ} (l : j / 16 < A .k) (gd : Guarded (successorSet A (one e) (j / 16)) (j % 16) (successorSet A (other e) (j / 16)) x)
       (y : Longer T count d (j % 16) (Below x 16) (8 * head + j / 16) T' count') where
     why : (q : ℕ) → Below x 16 q → Arrives A T count d (j % 16) q (8 * head + j / 16)
     why q m =
@@ -38,8 +38,8 @@ module _ (A : Automaton) (fits : Fits A) (T₀ : List ℕ) (count₀ head e d : 
           right = rw (a, b, o) (edge-of A fits (j / 16) (other e) q (omega arith) v);
         })
 
-    pub step-grown : Grown A T₀ count₀ d T' count'
-    step-grown =
+    grown : Grown A T₀ count₀ d T' count'
+    grown =
         let a = g .more in
         let b = y .more in
         record {
@@ -50,8 +50,8 @@ module _ (A : Automaton) (fits : Fits A) (T₀ : List ℕ) (count₀ head e d : 
           most = y .most;
         }
 
-    pub step-stepped : Stepped A (one e) (other e) d T count j → Stepped A (one e) (other e) d T' count' (j + 1)
-    step-stepped s c r z i m u v = at (decLt (16 * c + r) j)
+    stepped : Stepped A (one e) (other e) d T count j → Stepped A (one e) (other e) d T' count' (j + 1)
+    stepped s c r z i m u v = at (decLt (16 * c + r) j)
       where
         at : Dec (16 * c + r < j) → Has T' count' d r z
         at (yes w) = has-longer T T' count count' d r z (y .keeps) (y .more) (s c r z w m u v)
@@ -60,9 +60,11 @@ module _ (A : Automaton) (fits : Fits A) (T₀ : List ℕ) (count₀ head e d : 
             let b : c ≡ j / 16 = omega arith in
             rw a (y .has z (edge-to A fits c (other e) z v, gd z .1 (rw (b, a) at (u .to), rw b at (v .to))))
 
-  -- all steps are taken
-  pub steps-closed : 16 * A .k ≤ j → Stepped A (one e) (other e) d T count j → Closed A T count head
-  steps-closed l s c x y u v =
+    pub step-taken : Stepped A (one e) (other e) d T count j → Grown A T₀ count₀ d T' count' × Stepped A (one e) (other e) d T' count' (j + 1)
+    step-taken s = (grown, stepped s)
+
+  closed : 16 * A .k ≤ j → Stepped A (one e) (other e) d T count j → Closed A T count head
+  closed l s c x y u v =
       let o : pair T head ≡ e = g .keeps head h .0 ∙ sym is in
       let u' : Edge A c (one e) x = rw o at u in
       let v' : Edge A c (other e) y = rw o at v in
@@ -71,5 +73,8 @@ module _ (A : Automaton) (fits : Fits A) (T₀ : List ℕ) (count₀ head e d : 
       let z : suc (depth (pair T head)) ≡ d = rw o (omega arith) in
       rw z (s c x y (omega arith) m u' v')
 
-  pub grown-by : Grown A T₀ count₀ (suc (depth (pair T₀ head))) T count
+  grown-by : Grown A T₀ count₀ (suc (depth (pair T₀ head))) T count
   grown-by = let z : suc (depth (pair T₀ head)) ≡ d = rw (← is) (omega arith) in rw z g
+
+  pub all-taken : 16 * A .k ≤ j → Stepped A (one e) (other e) d T count j → Grown A T₀ count₀ (suc (depth (pair T₀ head))) T count × Closed A T count head
+  all-taken l s = (grown-by, closed l s)

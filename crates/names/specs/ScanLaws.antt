@@ -7,10 +7,11 @@ use lib.ListN.{length, getD, drop, length-append}
 use lib.Seq.{getD-drop, drop-cons, drop-length, getD-at}
 use lib.Dec.{eqb, ltb}
 use borrow.Author.Tests.{eq-eqb, ne-eqb, lt-ltb, le-ltb, eqb-true, eqb-false, ltb-false}
-use native.Mathlib.Nat.{add-zero}
+use native.Mathlib.Nat.{add-zero, sub-eq-zero-of-le}
 use native.Mathlib.Numerals.{add-one}
 use native.Mathlib.Omega.{arith}
 use Rattle.text.specs.Bytes.{lf, stretch}
+use Rattle.text.specs.LeftLaws.{left-more}
 use Rattle.text.specs.BytesLaws.{stretch-is, stretch-rest}
 use Rattle.text.specs.Choice.{choose}
 use Rattle.text.specs.Word.{startsAt, noZero}
@@ -25,22 +26,16 @@ use Rattle.names.specs.declared.Ending.the-variants.{At, Bad}
 module _ (s : List ℕ) (at n t : ℕ) where
   pub parts-stop : t < n → widthAt s at ≡ 0 → partsEnd s at (n - t) ≡ at
   unfolding partsEnd
-  parts-stop h e =
-      let k : n - t ≡ suc (n - (t + 1)) = omega arith in
-      rw k (simp (eq-eqb _ _ e))
+  parts-stop h e = rw (left-more h) (simp (eq-eqb _ _ e))
 
   pub parts-next :
       (w : ℕ) → t < n → w ≡ widthAt s at → (w ≡ 0 → ⊥) → partsEnd s at (n - t) ≡ partsEnd s (at + w) (n - (t + 1))
   unfolding partsEnd
-  parts-next w h e z =
-      let k : n - t ≡ suc (n - (t + 1)) = omega arith in
-      rw (k, e) (simp (ne-eqb (widthAt s at) 0 (λ q. z (e ∙ q))))
+  parts-next w h e z = rw (left-more h, e) (simp (ne-eqb (widthAt s at) 0 (λ q. z (e ∙ q))))
 
   pub parts-full : n ≤ t → partsEnd s at (n - t) ≡ at
   unfolding partsEnd
-  parts-full h =
-      let k : n - t ≡ 0 = omega arith in
-      rw k
+  parts-full h = rw (sub-eq-zero-of-le h)
 
 -- A WIDTH THAT IS NOT 0: a part stands there
 record PartAt (s : List ℕ) (at w : ℕ) : Type 0 where

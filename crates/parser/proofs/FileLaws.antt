@@ -7,7 +7,8 @@ use lib.ListN.{length, take, drop, replicate, length-replicate, replicate-append
 use lib.Seq.{take-at, drop-at}
 use Rattle.gate.specs.Gate.{cleared}
 use Rattle.gate.specs.declared.Refusal.{Refusal}
-use Rattle.parser.specs.Parse.{Phase, refused, passed, andThen, Named, Contents, contents, headOf, afterHead, parse}
+use Rattle.parser.specs.Parse.{Named, Contents, contents, headOf, afterHead, parse}
+use Rattle.parser.specs.Phase.{Phase, refused, passed, andThen}
 use Rattle.format.specs.Format.{most}
 use borrow.Author.Tests.{lt-ltb, le-ltb}
 use Rattle.parser.specs.PhaseAnswers.{statesAnswer, FillsTable, NamesRead, NumbersRead, FileRead}

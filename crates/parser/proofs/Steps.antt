@@ -5,11 +5,14 @@ use mathlib.Core.List.{List, [], _∷_, _++_}
 use lib.ListN.{length, getD, length-append}
 use lib.Seq.{sets}
 use lib.Pow.{pow-add}
-use native.Mathlib.Nat.{one-mul, mul-le-mul-right}
+use native.Mathlib.Nat.{one-mul, mul-le-mul-right, sub-eq-zero-of-le}
 use native.Mathlib.Omega.{arith}
 use borrow.Author.Tests.{eq-eqb, ne-eqb}
-use Rattle.format.specs.Format.{place, inserted}
-use Rattle.parser.specs.Parse.{refused, passed, withFlags, stateLineAt, statesAt, withTransition, transitionLineAt, transitionsAt, endAt, nameLineAt, letterOf, namesAt}
+use Rattle.format.specs.Format.{place}
+use Rattle.format.specs.Numbers.{inserted}
+use Rattle.parser.specs.Parse.{withFlags, stateLineAt, statesAt, withTransition, transitionLineAt, transitionsAt, nameLineAt, namesAt}
+use Rattle.parser.specs.Phase.{refused, passed, endAt, letterOf}
+use Rattle.text.specs.LeftLaws.{left-more}
 use Rattle.text.specs.Bytes.{stretch}
 use Rattle.names.specs.Name.{compose}
 use Rattle.names.specs.Row.{padded}
@@ -39,17 +42,13 @@ module _ (s : List ℕ) (line at q initial recurring n : ℕ) where
       statesAt s line at q initial recurring (n - q) ≡
       withFlags w (λ i r. statesAt s (line + 1) (at + 11) (q + 1) (initial + i * 2 ^ q) (recurring + r * 2 ^ q) (n - (q + 1))) (refused 7 line)
   unfolding statesAt
-  states-step h e =
-      let k : n - q ≡ suc (n - (q + 1)) = omega arith in
-      rw k (simp e)
+  states-step h e = rw (left-more h) (simp e)
 
   pub states-done :
       n ≤ q →
       statesAt s line at q initial recurring (n - q) ≡ passed (record { initial = initial; recurring = recurring; at = at; line = line })
   unfolding statesAt
-  states-done h =
-      let k : n - q ≡ 0 = omega arith in
-      rw k
+  states-done h = rw (sub-eq-zero-of-le h)
 
 -- THE TRANSITION LINES: g of them may still come
 module _ (s : List ℕ) (n k line at least : ℕ) (table : List ℕ) (f g : ℕ) (h : g ≡ suc f) where
@@ -81,15 +80,11 @@ pub record NamesSoFar (s : List ℕ) (k : ℕ) (rows : List ℕ) (line at l : �
 module _ {s : List ℕ} {k : ℕ} {rows : List ℕ} {line at l : ℕ} (z : NamesSoFar s k rows line at l) where
   pub names-bad : l < k → nameLineAt s at l ≡ E.Bad → namesAt s 2 12 [] k ≡ refused 5 line
   unfolding namesAt
-  names-bad h b =
-      let m : k - l ≡ suc (k - (l + 1)) = omega arith in
-      sym (z .goes) ∙ rw m (simp (z .count, b))
+  names-bad h b = sym (z .goes) ∙ rw (left-more h) (simp (z .count, b))
 
   pub names-done : k ≤ l → namesAt s 2 12 [] k ≡ passed (record { names = z .names; at = at; line = line })
   unfolding namesAt
-  names-done h =
-      let m : k - l ≡ 0 = omega arith in
-      sym (z .goes) ∙ rw m
+  names-done h = sym (z .goes) ∙ rw (sub-eq-zero-of-le h)
 
 -- a name stands in the row behind those before it, and row r is the first that is like it
 pub record NameRead (s : List ℕ) (k : ℕ) (rows : List ℕ) (line l e r : ℕ) : Type 0 where
@@ -107,13 +102,12 @@ name-read {s} {k} {rows} {v} {line} {at} {l} {e} {r} z h b fits stored like =
     let letter : letterOf (z .names) x ≡ r =
     letter-is (z .names) x r
     (name-found (z .names) rows l x (z .count) fits (z .holds) name r (subst (λ (v : List ℕ). FirstLike v l r) stored like)) in
-    let m : k - l ≡ suc (k - (l + 1)) = omega arith in
     record {
-      twice = λ d. sym (z .goes) ∙ rw m (simp (z .count, b, ne-eqb _ _ (λ i. d (sym letter ∙ i))));
+      twice = λ d. sym (z .goes) ∙ rw (left-more h) (simp (z .count, b, ne-eqb _ _ (λ i. d (sym letter ∙ i))));
       more = λ d. record {
         names = z .names ++ (x ∷ []);
         count = simp length-append (omega (arith, z .count));
-        goes = sym (rw m (simp (z .count, b, eq-eqb _ _ (letter ∙ d)))) ∙ z .goes;
+        goes = sym (rw (left-more h) (simp (z .count, b, eq-eqb _ _ (letter ∙ d)))) ∙ z .goes;
         holds = subst (λ (v : List ℕ). HoldNames (z .names ++ (x ∷ [])) v) (sym stored) (holds-more (z .names) rows l x (z .count) fits (z .holds) name);
       };
     }

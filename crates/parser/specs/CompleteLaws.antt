@@ -7,12 +7,14 @@ use borrow.Author.Tests.{lt-ltb, le-ltb}
 use native.Mathlib.Omega.{arith}
 use native.Mathlib.Nat.{zero-add}
 use Rattle.names.specs.Name.{compose}
-use Rattle.format.specs.Format.{State, Sheet, headLine, nameLines, stateLines, transitionLines, endLine, lines, FlagsRight, stateLine, leastAfter, most, FileIs, Above, NameDue, StateDue, lineDue, Faulty, flagSet, tableOf}
+use Rattle.format.specs.Format.{State, Sheet, headLine, nameLines, stateLines, transitionLines, endLine, lines, FlagsRight, stateLine, leastAfter, most, FileIs, Above, NameDue, StateDue, lineDue, Faulty}
+use Rattle.format.specs.Numbers.{flagSet, tableOf}
 use Rattle.format.specs.FormatLaws.{head-length, states-length, transitions-length}
 use Rattle.parser.specs.declared.Sizes.{Sizes}
 use Rattle.parser.specs.declared.Sets.{Sets}
 use Rattle.parser.specs.declared.StateLine.the-variants as S
-use Rattle.parser.specs.Parse.{stateLineAt, Phase, refused, passed, andThen, Named, namesAt, statesAt, transitionsAt, Contents, contents, afterHead, afterNames, afterStates, parse}
+use Rattle.parser.specs.Parse.{stateLineAt, Named, namesAt, statesAt, transitionsAt, Contents, contents, afterHead, afterNames, afterStates, parse}
+use Rattle.parser.specs.Phase.{Phase, refused, passed, andThen}
 use Rattle.text.specs.BytesLaws.{stretch-rest}
 use Rattle.parser.specs.HeadLaws.{head-right, head-range, head-form}
 use Rattle.parser.specs.NameLaws.{NameFault, wrong-name, known-name, NamesAlong, names-along, names-fault}

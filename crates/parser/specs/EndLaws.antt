@@ -11,7 +11,7 @@ use Rattle.text.specs.Choice.{choose}
 use Rattle.text.specs.Word.{startsAt}
 use Rattle.text.specs.WordLaws.{starts-is, no-word}
 use Rattle.format.specs.Format.{endLine}
-use Rattle.parser.specs.Parse.{Phase, refused, passed, endAt}
+use Rattle.parser.specs.Phase.{Phase, refused, passed, endAt}
 
 module _ (s : List ℕ) (at : ℕ) where
   abbrev pub NoEnd : Type 0

@@ -17,7 +17,7 @@ use Rattle.text.specs.declared.Pair.the-variants as P
 use Rattle.parser.specs.declared.Bounds.{Bounds}
 use Rattle.parser.specs.declared.First.{First}
 use Rattle.parser.specs.declared.First.the-variants as R
-use Rattle.parser.specs.Parse.{Phase, refused, passed, inBounds, firstPhase}
+use Rattle.parser.specs.Phase.{Phase, refused, passed, inBounds, firstPhase}
 use Rattle.parser.specs.PhaseAnswers.{firstAnswer, WithinBounds}
 
 -- THE CODE'S ANSWER tells the phase, whatever is made of the two numbers

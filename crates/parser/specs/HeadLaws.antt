@@ -8,7 +8,8 @@ use Rattle.text.specs.Pair.{twoNumbers}
 use Rattle.automaton.specs.Automaton.{InRange}
 use Rattle.format.specs.Format.{sheetWord, headLine, most, Faulty, head, range}
 use Rattle.parser.specs.declared.Sizes.{Sizes}
-use Rattle.parser.specs.Parse.{Phase, refused, passed, sizes, sheetBounds, headOf}
+use Rattle.parser.specs.Parse.{sizes, sheetBounds, headOf}
+use Rattle.parser.specs.Phase.{Phase, refused, passed}
 use Rattle.parser.specs.FirstLaws.{Kind, line-outcome, line-form, line-right, line-range}
 
 head-text : (n k : ℕ) (rest : List ℕ) → headLine n k ++ rest ≡ sheetWord ++ twoNumbers n k rest

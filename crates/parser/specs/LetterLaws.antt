@@ -1,6 +1,6 @@
 -- The letter of a name is the first whose composed name it has; a name is distinct from earlier ones exactly if there is none. Assumes nothing.
 use Prim.Native.Nat.{ℕ, zero, suc, _<_}
-use mathlib.Core.Path.{_≡_, refl, sym, _∙_}
+use mathlib.Core.Path.{_≡_, sym, _∙_}
 use mathlib.Core.List.{List, [], _∷_, map}
 use lib.ListN.{length, getD, length-map, List·getD-map}
 use native.Mathlib.Omega.{arith}
@@ -8,7 +8,7 @@ use Rattle.text.specs.Search.{same}
 use Rattle.text.specs.SearchLaws.{tells-same, first-found, first-one}
 use Rattle.names.specs.Name.{compose}
 use Rattle.format.specs.Format.{Distinct}
-use Rattle.parser.specs.Parse.{letterOf}
+use Rattle.parser.specs.Phase.{letterOf}
 use Rattle.parser.specs.Rows.{FirstName}
 
 pub letter-first : (names : List (List ℕ)) (x : List ℕ) → FirstName names x (letterOf names x)

@@ -1,3 +1,4 @@
+pub mod Phase
 pub mod Parse
 pub mod Rows
 pub mod PhaseAnswers

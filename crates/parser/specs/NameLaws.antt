@@ -21,7 +21,8 @@ use Rattle.names.specs.declared.Ending.{Ending}
 use Rattle.names.specs.declared.Ending.the-variants as E
 use Rattle.format.specs.Format.{nameLine, nameLines, Distinct, NamesRight}
 use Rattle.format.specs.FormatLaws.{name-length}
-use Rattle.parser.specs.Parse.{Phase, refused, passed, withEnding, Named, nameLineAt, letterOf, namesAt}
+use Rattle.parser.specs.Parse.{Named, nameLineAt, namesAt}
+use Rattle.parser.specs.Phase.{Phase, refused, passed, withEnding, letterOf}
 use Rattle.text.specs.BytesLaws.{length-more, stretch-rest, stretch-is}
 use Rattle.parser.specs.LetterLaws.{distinct-letter, letter-distinct}
 use Rattle.text.specs.ChoiceLaws.{test-true}

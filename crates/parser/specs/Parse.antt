@@ -2,21 +2,20 @@
 -- That this is what Format describes is a theorem. A byte past the end is 0, and 0 stands in no line.
 use Prim.Native.Nat.{ℕ, zero, suc, _+_, _*_, _^_}
 use mathlib.Core.List.{List, [], _∷_, _++_}
-use mathlib.Core.Bool.{Bool, _&&_}
+use mathlib.Core.Bool.{_&&_}
 use lib.ListN.{length, getD, replicate}
 use lib.Dec.{ltb, leb, eqb}
 use Rattle.text.specs.Choice.{choose}
 use Rattle.text.specs.Bytes.{space, stretch}
 use Rattle.text.specs.Number.{numberAt, withNumber, isNumbered, isBetween}
 use Rattle.text.specs.Pair.{pairAt, withPair, wordAndPair}
-use Rattle.text.specs.Word.{startsAt}
-use Rattle.text.specs.Search.{same, firstThat}
-use Rattle.text.specs.declared.Pair.{Pair}
 use Rattle.names.specs.Name.{compose}
 use Rattle.names.specs.Scan.{nameEndAt}
 use Rattle.names.specs.declared.Ending.{Ending}
 use Rattle.names.specs.declared.Ending.the-variants as E
-use Rattle.format.specs.Format.{Transition, sheetWord, endLine, most, place, inserted}
+use Rattle.format.specs.Format.{Transition, sheetWord, most, place}
+use Rattle.format.specs.Numbers.{inserted}
+use Rattle.parser.specs.Phase.{Phase, refused, passed, andThen, firstPhase, withEnding, letterOf, endAt}
 use Rattle.parser.specs.declared.Bounds.{Bounds}
 use Rattle.parser.specs.declared.Sizes.{Sizes}
 use Rattle.parser.specs.declared.Sets.{Sets}
@@ -25,24 +24,7 @@ use Rattle.parser.specs.declared.StateLine.the-variants as S
 use Rattle.parser.specs.declared.TransitionLine.{TransitionLine}
 use Rattle.parser.specs.declared.TransitionLine.the-variants as T
 
--- A PHASE of reading, one for each kind of line: it refuses with a number and a line, or hands on what it read
-pub data Phase (A : Type 0) : Type 0 where
-  refused : ℕ → ℕ → Phase A
-  passed : A → Phase A
-
--- the next phase, on what a phase handed on
-abbrev pub andThen : {A B : Type 0} → Phase A → (A → Phase B) → Phase B
-andThen (refused number line) next = refused number line
-andThen (passed a) next = next a
-
 -- THE FIRST LINE
-
-abbrev pub inBounds : Bounds → ℕ → ℕ → Bool
-inBounds β a b = isBetween (β .least) (β .most) a && isBetween (β .low) (β .high) b
-
--- a first line, of a sheet or of a plan: `form` is the number of a refusal for its form, and `range` for numbers out of bounds
-abbrev pub firstPhase : {A : Type 0} → Pair → Bounds → (ℕ → ℕ → A) → ℕ → ℕ → Phase A
-firstPhase w β make form range = withPair w (λ a b. choose (inBounds β a b) (passed (make a b)) (refused range 1)) (refused form 1)
 
 abbrev pub sizes : ℕ → ℕ → Sizes
 sizes n k = record { n = n; k = k }
@@ -65,14 +47,6 @@ pub record Named : Type 0 where
 -- the line of letter l: where its LF stands
 unfoldable pub nameLineAt : List ℕ → ℕ → ℕ → Ending
 nameLineAt s at l = choose (isNumbered s at 78 l && eqb (getD s (at + 4) 0) space) (nameEndAt s (at + 5)) E.Bad
-
-abbrev pub withEnding : {A : Type 0} → Ending → (ℕ → A) → A → A
-withEnding (E.At e) go bad = go e
-withEnding E.Bad go bad = bad
-
--- the number of the first of some composed names that is x, and their count where none is
-abbrev pub letterOf : List (List ℕ) → List ℕ → ℕ
-letterOf names x = firstThat (λ y. same y x) names
 
 -- the line after `names`; `go` says what comes after it, from the position of its LF
 -- "Is each name line of its form? No: 5. Are all names distinct after composing? No: 6, on the later line."
@@ -127,11 +101,6 @@ transitionLineAt s at n k least =
 abbrev pub withTransition : {A : Type 0} → TransitionLine → (Transition → A) → A → A
 withTransition (T.Is from letter to) go bad = go (record { from = from; letter = letter; to = to })
 withTransition T.Bad go bad = bad
-
--- "Is `END` last? No: 9.", "What follows `END` is a fault of the line after it": `number` is 9 in a sheet and 12 in a plan
-unfoldable pub endAt : ℕ → List ℕ → ℕ → ℕ → List ℕ → Phase (List ℕ)
-endAt number s line at done =
-    choose (startsAt s at endLine) (choose (eqb (length s) (at + 4)) (passed done) (refused number (line + 1))) (refused number line)
 
 -- one line; `go` says what comes after a transition
 -- "a line beginning with T answers to question 8, any other to 9"

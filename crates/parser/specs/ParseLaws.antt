@@ -11,10 +11,12 @@ use native.Mathlib.Nat.{zero-add}
 use Rattle.text.specs.Choice.{choose}
 use Rattle.names.specs.Name.{compose}
 use Rattle.automaton.specs.Automaton.{InRange}
-use Rattle.format.specs.Format.{State, Transition, Sheet, headLine, stateLine, FlagsRight, nameLines, stateLines, transitionLines, endLine, lines, leastAfter, most, FileIs, Above, NameDue, StateDue, EndDue, lineDue, Faulty, numbers}
+use Rattle.format.specs.Format.{State, Transition, Sheet, headLine, stateLine, FlagsRight, nameLines, stateLines, transitionLines, endLine, lines, leastAfter, most, FileIs, Above, NameDue, StateDue, EndDue, lineDue, Faulty}
+use Rattle.format.specs.Numbers.{numbers}
 use Rattle.parser.specs.declared.Sizes.{Sizes}
 use Rattle.parser.specs.declared.Sets.{Sets}
-use Rattle.parser.specs.Parse.{Phase, refused, passed, andThen, headOf, Named, namesAt, statesAt, transitionsAt, Contents, contents, afterHead, afterNames, afterStates, parse}
+use Rattle.parser.specs.Parse.{headOf, Named, namesAt, statesAt, transitionsAt, Contents, contents, afterHead, afterNames, afterStates, parse}
+use Rattle.parser.specs.Phase.{Phase, refused, passed, andThen}
 use Rattle.parser.specs.HeadLaws.{HeadOutcome, head-outcome}
 use Rattle.parser.specs.NameLaws.{NameFault, wrong-name, known-name, NamesOutcome, NamesRefused, NamesPassed, names-outcome}
 use Rattle.parser.specs.StateLaws.{StatesOutcome, StatesRefused, StatesPassed, states-outcome}

@@ -22,9 +22,10 @@ use Rattle.parser.specs.declared.TransitionLine.{TransitionLine}
 use Rattle.parser.specs.declared.TransitionLine.the-variants as T
 use Rattle.parser.specs.declared.End.{End}
 use Rattle.parser.specs.declared.End.the-variants as E
-use Rattle.parser.specs.Parse.{Phase, refused, passed, Named, Contents}
+use Rattle.parser.specs.Parse.{Named, Contents}
+use Rattle.parser.specs.Phase.{Phase, refused, passed}
 use Rattle.parser.specs.Rows.{HoldNames}
-use Rattle.format.specs.Format.{numbers}
+use Rattle.format.specs.Numbers.{numbers}
 use Rattle.automaton.specs.Lent.{lentTable}
 
 abbrev pub firstAnswer : Phase (ℕ × ℕ) → First

@@ -9,12 +9,14 @@ use native.Mathlib.Numerals.{add-one}
 use native.Mathlib.Nat.{zero-add, add-zero, suc-add}
 use Rattle.text.specs.Column.{column}
 use Rattle.text.specs.Number.{isNumbered, isBetween}
-use Rattle.format.specs.Format.{State, stateLine, stateLines, FlagsRight, StatesRight, flagSet}
+use Rattle.format.specs.Format.{State, stateLine, stateLines, FlagsRight, StatesRight}
+use Rattle.format.specs.Numbers.{flagSet}
 use Rattle.format.specs.FormatLaws.{state-length}
 use Rattle.parser.specs.declared.Sets.{Sets}
 use Rattle.parser.specs.declared.StateLine.{StateLine}
 use Rattle.parser.specs.declared.StateLine.the-variants as S
-use Rattle.parser.specs.Parse.{Phase, refused, passed, withFlags, stateLineAt, statesAt}
+use Rattle.parser.specs.Parse.{withFlags, stateLineAt, statesAt}
+use Rattle.parser.specs.Phase.{Phase, refused, passed}
 use Rattle.text.specs.BytesLaws.{stretch-rest}
 use Rattle.text.specs.Pair.{pairAt}
 use Rattle.text.specs.ChoiceLaws.{test-true}

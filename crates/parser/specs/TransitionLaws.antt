@@ -15,12 +15,14 @@ use Rattle.text.specs.Choice.{choose}
 use Rattle.text.specs.Column.{column}
 use Rattle.text.specs.Number.{numberAt}
 use Rattle.text.specs.declared.Number.the-variants as N
-use Rattle.format.specs.Format.{Transition, transitionLine, transitionLines, endLine, place, TransitionRight, TransitionsRight, leastAfter, inserted, tableOf}
+use Rattle.format.specs.Format.{Transition, transitionLine, transitionLines, endLine, place, TransitionRight, TransitionsRight, leastAfter}
+use Rattle.format.specs.Numbers.{inserted, tableOf}
 use Rattle.format.specs.FormatLaws.{transition-length}
 use Rattle.format.specs.NumbersLaws.{transition}
 use Rattle.parser.specs.declared.TransitionLine.{TransitionLine}
 use Rattle.parser.specs.declared.TransitionLine.the-variants as T
-use Rattle.parser.specs.Parse.{Phase, refused, passed, withTransition, transitionOf, transitionLineAt, endAt, transitionsAt}
+use Rattle.parser.specs.Parse.{withTransition, transitionOf, transitionLineAt, transitionsAt}
+use Rattle.parser.specs.Phase.{Phase, refused, passed, endAt}
 use Rattle.text.specs.BytesLaws.{stretch-rest}
 use Rattle.text.specs.Pair.{pairAt}
 use Rattle.text.specs.ChoiceLaws.{test-true}

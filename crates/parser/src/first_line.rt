@@ -3,7 +3,7 @@ ghost use mathlib.Core.Path.{_≡_};
 ghost use Prim.Native.Nat.{_<_, _^_};
 ghost use lib.ListN.{length};
 ghost use Rattle.text.specs.Pair.{wordAndPair};
-ghost use Rattle.parser.specs.Parse.{firstPhase};
+ghost use Rattle.parser.specs.Phase.{firstPhase};
 ghost use Rattle.parser.specs.PhaseAnswers.{firstAnswer, FirstFits};
 use super::Bounds;
 use super::First;

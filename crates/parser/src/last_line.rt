@@ -2,7 +2,7 @@
 ghost use mathlib.Core.Path.{_≡_};
 ghost use mathlib.Core.List.{[]};
 ghost use Prim.Native.Nat.{_<_, _^_};
-ghost use Rattle.parser.specs.Parse.{endAt};
+ghost use Rattle.parser.specs.Phase.{endAt};
 ghost use Rattle.parser.specs.PhaseAnswers.{endAnswer};
 use super::End;
 use gate::Refusal;

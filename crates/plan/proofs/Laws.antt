@@ -1,18 +1,20 @@
 -- One step of each definition that the code goes along. Assumes nothing.
-use Prim.Native.Nat.{ℕ, suc, _+_, _-_, _≤_, _<_}
+use Prim.Native.Nat.{ℕ, _+_, _-_, _≤_, _<_}
 use mathlib.Core.Path.{_≡_, sym, _∙_, ap}
 use mathlib.Core.List.{List, [], _∷_, _++_}
 use lib.ListN.{length, take, drop, set}
 use lib.Seq.{take-suc-set, drop-set-lt, drop-drop}
 use borrow.Author.Tests.{lt-ltb, le-ltb}
 use native.Mathlib.Omega.{arith}
+use native.Mathlib.Nat.{sub-eq-zero-of-le}
 use native.Mathlib.Numerals.{add-one}
+use Rattle.text.specs.LeftLaws.{left-more}
 use Rattle.names.specs.Scan.{nameEndAt}
 use Rattle.names.specs.declared.Ending.the-variants as E
 use Rattle.gate.specs.Gate.{refusal}
 use Rattle.gate.specs.declared.Refusal.{Refusal}
 use Rattle.parser.specs.declared.Place.{Place}
-use Rattle.parser.specs.Parse.{Phase, refused, passed, andThen}
+use Rattle.parser.specs.Phase.{Phase, refused, passed, andThen}
 use Rattle.parser.specs.Rows.{HoldNames}
 use Rattle.plan.specs.declared.LetterLine.{LetterLine}
 use Rattle.plan.specs.declared.LetterLine.the-variants as L
@@ -47,15 +49,11 @@ module _ (names : List (List ℕ)) (p : List ℕ) (line at i count : ℕ) (lette
       → lettersAt names p line at letters (count - i)
       ≡ withLetter w (λ l e. lettersAt names p (line + 1) (e + 1) (letters ++ (l ∷ [])) (count - (i + 1))) (refused 14 line) (refused 12 line)
   unfolding lettersAt
-  letters-step h e =
-      let k : count - i ≡ suc (count - (i + 1)) = omega arith in
-      rw k (simp e)
+  letters-step h e = rw (left-more h) (simp e)
 
   pub letters-done : count ≤ i → lettersAt names p line at letters (count - i) ≡ passed (lettered letters at line)
   unfolding lettersAt
-  letters-done h =
-      let k : count - i ≡ 0 = omega arith in
-      rw k
+  letters-done h = rw (sub-eq-zero-of-le h)
 
 -- where the reader of `count` lines stands: i letters are in the buffer, and what is left to do is left of the whole
 abbrev pub SoFar : List ℕ → List ℕ → ℕ → ℕ → List ℕ → List ℕ → ℕ → ℕ → ℕ → Type 0

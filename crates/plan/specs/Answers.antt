@@ -4,7 +4,7 @@ use mathlib.Core.Path.{_≡_}
 use mathlib.Core.List.{List, _++_}
 use lib.ListN.{drop}
 use Rattle.gate.specs.Gate.{refusal}
-use Rattle.parser.specs.Parse.{Phase, refused, passed}
+use Rattle.parser.specs.Phase.{Phase, refused, passed}
 use Rattle.parser.specs.declared.End.{End}
 use Rattle.parser.specs.declared.End.the-variants as E
 use Rattle.plan.specs.declared.Lengths.{Lengths}

@@ -10,7 +10,7 @@ use Rattle.text.specs.BytesLaws.{stretch-rest}
 use Rattle.text.specs.Column.{column}
 use Rattle.names.specs.Name.{compose}
 use Rattle.format.specs.Format.{Sheet, NamesRight, endLine}
-use Rattle.parser.specs.Parse.{refused, passed, andThen}
+use Rattle.parser.specs.Phase.{refused, passed, andThen}
 use Rattle.parser.specs.EndLaws.{end-missing, end-behind, end-read}
 use Rattle.plan.specs.Plan.{planHead, nameLines, PlanIs, Above, Faulty}
 use Rattle.plan.specs.Parse.{lengths, lettered, lettersAt, endOf, contents, afterHead, planOf}

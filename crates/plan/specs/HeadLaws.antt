@@ -6,7 +6,7 @@ use lib.ListN.{drop}
 use native.Mathlib.Omega.{arith}
 use Rattle.text.specs.Pair.{twoNumbers}
 use Rattle.format.specs.Format.{Sheet}
-use Rattle.parser.specs.Parse.{Phase, refused, passed}
+use Rattle.parser.specs.Phase.{Phase, refused, passed}
 use Rattle.parser.specs.FirstLaws.{Kind, line-outcome, line-form, line-right, line-range}
 use Rattle.plan.specs.declared.Lengths.{Lengths}
 use Rattle.plan.specs.Plan.{planWord, planHead, LengthsRight, Faulty}

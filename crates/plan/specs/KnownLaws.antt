@@ -1,15 +1,13 @@
 -- The letter that a name stands for is the one that a search among the composed names finds. Assumes nothing.
 use Prim.Native.Nat.{ℕ, zero, suc, _+_, _<_}
-use mathlib.Core.Path.{_≡_, refl, sym, ap, _∙_}
-use mathlib.Core.Bool.{Bool, true, false, true≢false}
+use mathlib.Core.Path.{_≡_, sym, ap, _∙_}
 use mathlib.Core.List.{List, [], _∷_, _++_, map, append-assoc}
-use lib.ListN.{length, getD, length-map, length-append, List·getD-map, List·getD-append}
+use lib.ListN.{length, getD, length-map, length-append, List·getD-append}
 use native.Mathlib.Omega.{arith}
-use Rattle.text.specs.Choice.{choose}
 use Rattle.names.specs.Name.{IsName, compose}
-use Rattle.format.specs.Format.{Sheet, Distinct, NamesRight}
+use Rattle.format.specs.Format.{Sheet, NamesRight}
 use Rattle.sheet.specs.Letters.{StandsFor}
-use Rattle.parser.specs.Parse.{letterOf}
+use Rattle.parser.specs.Phase.{letterOf}
 use Rattle.parser.specs.LetterLaws.{letter-first, letter-is, composed-at, distinct-at}
 
 -- names that are right are distinct after composing, by their letters

@@ -20,7 +20,7 @@ use Rattle.names.specs.declared.Ending.{Ending}
 use Rattle.names.specs.declared.Ending.the-variants as E
 use Rattle.format.specs.Format.{Sheet, NamesRight}
 use Rattle.sheet.specs.Letters.{StandsFor}
-use Rattle.parser.specs.Parse.{Phase, refused, passed, withEnding, letterOf}
+use Rattle.parser.specs.Phase.{Phase, refused, passed, withEnding, letterOf}
 use Rattle.plan.specs.Plan.{nameLines, Known, none, more}
 use Rattle.plan.specs.declared.LetterLine.{LetterLine}
 use Rattle.plan.specs.declared.LetterLine.the-variants as L

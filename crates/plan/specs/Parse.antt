@@ -10,8 +10,7 @@ use Rattle.names.specs.Name.{compose}
 use Rattle.names.specs.Scan.{nameEndAt}
 use Rattle.text.specs.Pair.{wordAndPair}
 use Rattle.parser.specs.declared.Bounds.{Bounds}
-use Rattle.parser.specs.Parse as S
-use Rattle.parser.specs.Parse.{Phase, refused, passed, andThen, firstPhase, withEnding, letterOf}
+use Rattle.parser.specs.Phase.{Phase, refused, passed, andThen, firstPhase, withEnding, letterOf, endAt}
 use Rattle.plan.specs.declared.Lengths.{Lengths}
 use Rattle.plan.specs.declared.LetterLine.{LetterLine}
 use Rattle.plan.specs.declared.LetterLine.the-variants as L
@@ -65,7 +64,7 @@ lettersAt names p line at letters (suc todo) =
 
 -- "`END`", "What follows `END` is a fault of the line after it: .. 12 in a plan."
 unfoldable pub endOf : List ℕ → Lettered → Phase (List ℕ)
-endOf p y = S.endAt 12 p (y .line) (y .at) (y .letters)
+endOf p y = endAt 12 p (y .line) (y .at) (y .letters)
 
 -- THE WHOLE FILE
 

@@ -29,23 +29,16 @@ module _ (T : List ℕ) (count d p q o : ℕ) (a : Open T count d p) (hq : q < 1
   pair-new : pair (pushed T count d p q o) count ≡ 256 * d + 16 * p + q
   unfolding first second last
   pair-new =
-      let s = a .queue .size in
       getD-set-other second (512 + p) count last 0 (λ z. omega arith) ∙ getD-set-other first (256 + count) count o 0 (λ z. omega arith)
       ∙ getD-set-same T count (256 * d + 16 * p + q) 0 (omega arith)
 
   origin-new : origin (pushed T count d p q o) count ≡ o
   unfolding first second last
-  origin-new =
-      let s = a .queue .size in
-      let h = a .state in
-      getD-set-other second (512 + p) (256 + count) last 0 (λ z. omega arith) ∙ getD-set-same first (256 + count) o 0 (simp length-set (omega arith))
+  origin-new = getD-set-other second (512 + p) (256 + count) last 0 (λ z. omega arith) ∙ getD-set-same first (256 + count) o 0 (simp length-set (omega arith))
 
   companions-new : companions (pushed T count d p q o) p ≡ unionOf (companions T p) (2 ^ q)
   unfolding first second last
-  companions-new =
-      let s = a .queue .size in
-      let h = a .state in
-      getD-set-same second (512 + p) last 0 (simp length-set (omega arith))
+  companions-new = getD-set-same second (512 + p) last 0 (simp length-set (omega arith))
 
   keeps : Keeps T count (pushed T count d p q o)
   keeps i l = (cell-old i (λ z. omega arith) (λ z. omega arith) (λ z. omega arith), cell-old (256 + i) (λ z. omega arith) (λ z. omega arith) (λ z. omega arith))
@@ -60,14 +53,9 @@ module _ (T : List ℕ) (count d p q o : ℕ) (a : Open T count d p) (hq : q < 1
       by (yes e) = rw (e, companions-new) (union-left (companions T p) (2 ^ q) s (rw e at h))
       by (no e) = rw (companions-old r e) h
 
-  pushed-depth : depth (pair (pushed T count d p q o) count) ≡ d
-  pushed-depth = let h = a .state in rw pair-new (omega arith)
-
-  pushed-one : one (pair (pushed T count d p q o) count) ≡ p
-  pushed-one = let h = a .state in rw pair-new (omega arith)
-
-  pushed-other : other (pair (pushed T count d p q o) count) ≡ q
-  pushed-other = let h = a .state in rw pair-new (omega arith)
+  -- what the new pair is
+  pushed-is : let e = pair (pushed T count d p q o) count in (depth e ≡ d) × (one e ≡ p) × (other e ≡ q)
+  pushed-is = rw pair-new (omega arith, omega arith, omega arith)
 
   push-queue : Queue (pushed T count d p q o) (count + 1)
   push-queue = record {
@@ -81,7 +69,7 @@ module _ (T : List ℕ) (count d p q o : ℕ) (a : Open T count d p) (hq : q < 1
   }
     where
       new-depth : (i : ℕ) → i ≡ count → depth (pair (pushed T count d p q o) i) ≡ d
-      new-depth i e = rw e pushed-depth
+      new-depth i e = rw e (pushed-is .0)
 
       early-at : (i : ℕ) → i < count + 1 → Dec (i < count) → depth (pair (pushed T count d p q o) i) ≤ i
       early-at i l (yes m) = rw (keeps i m .0) (a .queue .early i m)
@@ -108,7 +96,7 @@ module _ (T : List ℕ) (count d p q o : ℕ) (a : Open T count d p) (hq : q < 1
       noted-at i l (yes m) = rw (keeps i m .0) (companions-more (one (pair T i)) (other (pair T i)) (a .queue .noted i m))
       noted-at i l (no m) =
           let z : i ≡ count = omega arith in
-          rw (z, pushed-one, pushed-other, companions-new) (union-right (companions T p) (2 ^ q) q (bit-single q))
+          rw (z, pushed-is .1, pushed-is .2, companions-new) (union-right (companions T p) (2 ^ q) q (bit-single q))
 
       old : (r s : ℕ) → Listed T count r s → Listed (pushed T count d p q o) (count + 1) r s
       old r s (i, l, x, y) = (i, omega arith, rw (keeps i l .0) x, rw (keeps i l .0) y)
@@ -119,7 +107,7 @@ module _ (T : List ℕ) (count d p q o : ℕ) (a : Open T count d p) (hq : q < 1
         where
           by : Member (companions T p) s ⊎ Member (2 ^ q) s → Listed (pushed T count d p q o) (count + 1) r s
           by (inl g) = old r s (a .queue .listed r s h (rw f g))
-          by (inr g) = (count, omega arith, pushed-one ∙ sym f, pushed-other ∙ sym (single-in q s g))
+          by (inr g) = (count, omega arith, pushed-is .1 ∙ sym f, pushed-is .2 ∙ sym (single-in q s g))
 
   pub push : (x : ℕ) → Member x q → Longer T count d p (Only x q) o (pushed T count d p q o) (count + 1)
   push x w = record {
@@ -127,10 +115,10 @@ module _ (T : List ℕ) (count d p q o : ℕ) (a : Open T count d p) (hq : q < 1
     more = omega arith;
     keeps = keeps;
     most = λ i l. most-at i l (decLt i count);
-    fresh = λ i l m. (let z : i ≡ count = omega arith in record { deep = rw z pushed-depth; left = rw z pushed-one; right = rw z (pushed-other, rw pushed-other w); from = rw z origin-new });
-    has = λ r e. (count, omega arith, omega (arith, pushed-depth), pushed-one, pushed-other ∙ sym (e .0));
+    fresh = λ i l m. (let z : i ≡ count = omega arith in record { deep = rw z (pushed-is .0); left = rw z (pushed-is .1); right = rw z (pushed-is .2, rw (pushed-is .2) w); from = rw z origin-new });
+    has = λ r e. (count, omega arith, omega (arith, pushed-is .0), pushed-is .1, pushed-is .2 ∙ sym (e .0));
   }
     where
       most-at : (i : ℕ) → i < count + 1 → Dec (i < count) → depth (pair (pushed T count d p q o) i) ≤ d
       most-at i l (yes m) = rw (keeps i m .0) (a .most i m)
-      most-at i l (no m) = let z : i ≡ count = omega arith in rw z (omega (arith, pushed-depth))
+      most-at i l (no m) = let z : i ≡ count = omega arith in rw z (omega (arith, pushed-is .0))

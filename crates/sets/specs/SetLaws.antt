@@ -24,20 +24,19 @@ member-dec x q = ℕ-discrete (bit x q) 1
 pub bit-out : (x q : ℕ) → (Member x q → ⊥) → bit x q ≡ 0
 bit-out x q h = omega (arith, bit-lt x q)
 
-lowest : (x y m : ℕ) → x ≡ y * 2 + m → m < 2 → x % 2 ≡ m
-lowest x y m e l = omega arith
+-- an operation that goes digit by digit: m is what it makes of two digits
+bit-op : (op m : ℕ → ℕ → ℕ) → ((x y k : ℕ) → op x y / 2 ^ k ≡ op (x / 2 ^ k) (y / 2 ^ k)) → ((x y : ℕ) → op x y ≡ op (x / 2) (y / 2) * 2 + m (x % 2) (y % 2))
+    → (x y q : ℕ) → m (bit x q) (bit y q) < 2 → bit (op x y) q ≡ m (bit x q) (bit y q)
+unfolding bit
+bit-op op m shr step x y q l = ap (_% 2) (shr x y q) ∙ (let e = step (x / 2 ^ q) (y / 2 ^ q) in omega arith)
 
 pub bit-union : (x y q : ℕ) → bit (unionOf x y) q ≡ max (bit x q) (bit y q)
-unfolding bit unionOf
-bit-union x y q =
-    ap (_% 2) (or-shr x y q)
-    ∙ lowest (bitOr (x / 2 ^ q) (y / 2 ^ q)) (bitOr (x / 2 ^ q / 2) (y / 2 ^ q / 2)) (max (bit x q) (bit y q)) (or-step (x / 2 ^ q) (y / 2 ^ q)) (omega arith)
+unfolding unionOf
+bit-union x y q = bit-op bitOr max or-shr or-step x y q (omega (arith, bit-lt x q, bit-lt y q))
 
 bit-inter : (x y q : ℕ) → bit (interOf x y) q ≡ min (bit x q) (bit y q)
-unfolding bit interOf
-bit-inter x y q =
-    ap (_% 2) (and-shr x y q)
-    ∙ lowest (bitAnd (x / 2 ^ q) (y / 2 ^ q)) (bitAnd (x / 2 ^ q / 2) (y / 2 ^ q / 2)) (min (bit x q) (bit y q)) (and-step (x / 2 ^ q) (y / 2 ^ q)) (omega arith)
+unfolding interOf
+bit-inter x y q = bit-op bitAnd min and-shr and-step x y q (omega (arith, bit-lt x q))
 
 differ-min : (a b : ℕ) → a < 2 → b < 2 → differ a (min a b) ≡ a - b
 differ-min zero b h k = omega arith
@@ -47,14 +46,11 @@ differ-min (suc zero) (suc (suc b)) h k = absurd (omega arith)
 differ-min (suc (suc a)) b h k = absurd (omega arith)
 
 pub bit-minus : (x y q : ℕ) → bit (minusOf x y) q ≡ bit x q - bit y q
-unfolding bit minusOf interOf
+unfolding minusOf interOf
 bit-minus x y q =
-    let m : differ (bit x q) (min (bit x q) (bit y q)) ≡ bit x q - bit y q = differ-min (bit x q) (bit y q) (bit-lt x q) (bit-lt y q) in
-    ap (_% 2) (xor-shr x (bitAnd x y) q)
-    ∙ lowest (bitXor (x / 2 ^ q) (bitAnd x y / 2 ^ q)) (bitXor (x / 2 ^ q / 2) (bitAnd x y / 2 ^ q / 2)) (bit x q - bit y q)
-    (xor-step (x / 2 ^ q) (bitAnd x y / 2 ^ q)
-    ∙ ap (bitXor (x / 2 ^ q / 2) (bitAnd x y / 2 ^ q / 2) * 2 +_) (ap (differ (bit x q)) (bit-inter x y q) ∙ m))
-    (omega (arith, bit-lt x q))
+    let m : differ (bit x q) (bit (bitAnd x y) q) ≡ bit x q - bit y q =
+    ap (differ (bit x q)) (bit-inter x y q) ∙ differ-min (bit x q) (bit y q) (bit-lt x q) (bit-lt y q) in
+    bit-op bitXor differ xor-shr xor-step x (bitAnd x y) q (omega (arith, bit-lt x q)) ∙ m
 
 pub bit-zero : (q : ℕ) → bit 0 q ≡ 0
 unfolding bit

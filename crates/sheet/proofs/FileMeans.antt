@@ -8,9 +8,11 @@ use Rattle.gate.specs.Gate.{refusal, cleared}
 use Rattle.gate.specs.declared.Refusal.{Refusal}
 use Rattle.automaton.specs.Automaton.{InRange, AreNumbers}
 use Rattle.automaton.specs.declared.Numbers.{Numbers}
-use Rattle.format.specs.Format.{Sheet, FileIs, Faulty, numbers}
+use Rattle.format.specs.Format.{Sheet, FileIs, Faulty}
+use Rattle.format.specs.Numbers.{numbers}
 use Rattle.automaton.specs.Lent.{lentTable}
-use Rattle.parser.specs.Parse.{Phase, refused, passed, Contents, parse}
+use Rattle.parser.specs.Parse.{Contents, parse}
+use Rattle.parser.specs.Phase.{Phase, refused, passed}
 use Rattle.parser.specs.ParseLaws.{Means, AreContents, parse-means}
 use Rattle.parser.specs.Rows.{HoldNames}
 use Rattle.parser.specs.PhaseAnswers.{numbersOf, FileRead}

@@ -9,7 +9,7 @@ use lib.Seq.{take-length}
 use Rattle.text.specs.Bytes.{stretch}
 use Rattle.automaton.specs.declared.Numbers.{Numbers}
 use Rattle.names.specs.Name.{IsName, compose}
-use Rattle.format.specs.Format.{numbers}
+use Rattle.format.specs.Numbers.{numbers}
 use Rattle.sheet.specs.Letters.{NoName, NameIs, StandsFor}
 use Rattle.parser.specs.Rows.{FirstName}
 use Rattle.sheet.specs.Answers.{LettersOf}

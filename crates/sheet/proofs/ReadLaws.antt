@@ -14,7 +14,7 @@ use Rattle.automaton.specs.declared.Numbers.{Numbers}
 use Rattle.automaton.specs.Meeting.{Everywhere}
 use Rattle.automaton.specs.Lent.{Tables, tables, Long, clearedTables, lentTable, Lengths}
 use Rattle.meeting.specs.Answer.{Asked, Answered}
-use Rattle.format.specs.Format.{numbers}
+use Rattle.format.specs.Numbers.{numbers}
 use Rattle.format.specs.NumbersLaws.{sheet-fits, numbers-length, read-is}
 use Rattle.sheet.specs.Read as read
 use Rattle.parser.specs.PhaseAnswers.{FileRead}

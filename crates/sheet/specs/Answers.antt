@@ -12,7 +12,8 @@ use Rattle.parser.specs.declared.File.{File}
 use Rattle.parser.specs.declared.File.the-variants as F
 use Rattle.parser.specs.Rows.{HoldNames}
 use Rattle.names.specs.Name.{compose}
-use Rattle.format.specs.Format.{Sheet, FileIs, Faulty, numbers}
+use Rattle.format.specs.Format.{Sheet, FileIs, Faulty}
+use Rattle.format.specs.Numbers.{numbers}
 use Rattle.sheet.specs.Read.{Refuses}
 use Rattle.sheet.specs.declared.Read.{Read}
 use Rattle.sheet.specs.declared.Read.the-variants as R

@@ -10,7 +10,8 @@ use Rattle.automaton.specs.Meeting.{Free, Everywhere}
 use Rattle.automaton.specs.Lent.{Tables, Lengths, clearedTables, lentTable, Meets}
 use Rattle.sheet.specs.declared.Read.{Read}
 use Rattle.sheet.specs.declared.Read.the-variants.{Refused, Is}
-use Rattle.format.specs.Format.{Sheet, FileIs, Faulty, numbers}
+use Rattle.format.specs.Format.{Sheet, FileIs, Faulty}
+use Rattle.format.specs.Numbers.{numbers}
 
 -- QUESTIONS 2 TO 10 on a sheet file: s is the file of σ, and no two walks meet
 pub record Accepted (s : List ℕ) (σ : Sheet) : Type 0 where

@@ -5,8 +5,10 @@ use mathlib.Core.List.{List, [], _∷_, _++_}
 use lib.ListN.{length, getD, take, drop, length-append}
 use lib.Seq.{drop-cons, take-at, drop-at, drop-drop}
 use native.Mathlib.Omega.{arith}
+use native.Mathlib.Nat.{sub-eq-zero-of-le}
 use native.Mathlib.Numerals.{add-one}
 use Rattle.text.specs.Bytes.{stretch}
+use Rattle.text.specs.LeftLaws.{left-more}
 use Rattle.text.specs.CellsLaws.{part-length, part-at}
 
 -- two texts whose first parts are as long
@@ -20,14 +22,10 @@ pub length-more : {A : Type 0} (x : List A) (a : A) → length (x ++ (a ∷ []))
 length-more x a = length-append x (a ∷ []) ∙ add-one (length x)
 
 pub stretch-none : (s : List ℕ) (a e : ℕ) → e ≤ a → stretch s a e ≡ []
-stretch-none s a e h =
-    let k : e - a ≡ 0 = omega arith in
-    rw k
+stretch-none s a e h = rw (sub-eq-zero-of-le h)
 
 pub stretch-cons : (s : List ℕ) (a e : ℕ) → a < e → e ≤ length s → stretch s a e ≡ getD s a 0 ∷ stretch s (a + 1) e
-stretch-cons s a e h l =
-    let k : e - a ≡ suc (e - (a + 1)) = omega arith in
-    rw (drop-cons s a 0 (omega arith), ← add-one a, k)
+stretch-cons s a e h l = rw (drop-cons s a 0 (omega arith), ← add-one a, left-more h)
 
 pub stretch-length : (s : List ℕ) (a e : ℕ) → e ≤ length s → length (stretch s a e) ≡ e - a
 stretch-length s a e h = part-length s a (e - a) (omega arith)

@@ -7,6 +7,7 @@ pub mod Word
 pub mod Search
 pub mod ChoiceLaws
 pub mod CellsLaws
+pub mod LeftLaws
 pub mod BytesLaws
 pub mod ColumnLaws
 pub mod WordLaws

@@ -8,7 +8,8 @@ use Rattle.gate.specs.declared.Refusal.{Refusal}
 use Rattle.automaton.specs.Automaton.{Automaton, Fits, AreNumbers}
 use Rattle.automaton.specs.Meeting.{Free, Everywhere}
 use Rattle.automaton.specs.Lent.{Tables, Lengths, clearedTables, NumbersRefuse, lentTable}
-use Rattle.format.specs.Format.{Sheet, numbers}
+use Rattle.format.specs.Format.{Sheet}
+use Rattle.format.specs.Numbers.{numbers}
 use Rattle.sheet.specs.Read.{Accepted, Refuses}
 use Rattle.tuple.specs.Step.{Tuple}
 use Rattle.tracker.specs.declared.Built.{Built}

@@ -12,7 +12,8 @@ use Rattle.automaton.specs.Automaton.{Automaton, automaton, Fits, AreNumbers}
 use Rattle.automaton.specs.Lent.{Tables, clearedTables, lentTable}
 use Rattle.walks.specs.Check.{Checks}
 use Rattle.walks.specs.declared.Checked.the-variants.{Refused as CheckRefused}
-use Rattle.format.specs.Format.{Sheet, numbers}
+use Rattle.format.specs.Format.{Sheet}
+use Rattle.format.specs.Numbers.{numbers}
 use Rattle.format.specs.NumbersLaws.{sheet-fits, read-is}
 use Rattle.sheet.specs.Read.{Accepted, Reads}
 use Rattle.sheet.specs.declared.Read.the-variants.{Refused as ReadRefused, Is as ReadIs}

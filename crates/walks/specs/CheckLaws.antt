@@ -21,14 +21,13 @@ judged A v w (Refused r) l (inl ((n, f, e), z)) = inr (l, NumbersRefuse.unfit n 
 judged A v w (Refused r) l (inr (f, m)) = inr (l, NumbersRefuse.meeting f (meets-cleared v m))
 judged A v w Free l (f, x, z) = (l, f, x, z)
 
-module _ (A : Automaton) (v : Tables) (l : Lengths (A .table) v) {word one other : List ℕ} (w : word ≡ cleared (v .word)) (o : one ≡ cleared (v .one))
-    (r : other ≡ cleared (v .other)) where
-  -- the tables once they are cleared
-  pub ready : Lengths (A .table) (tables word one other) × Zero word × Zero one × Zero other
-  ready = rw (w, o, r) (lengths-cleared v l, zero-cleared (v .word), zero-cleared (v .one), zero-cleared (v .other))
+-- the tables once they are cleared
+module _ {v w : Tables} (e : w ≡ clearedTables v) where
+  pub ready : {t : List ℕ} → Lengths t v → Lengths t w × Zero (w .word) × Zero (w .one) × Zero (w .other)
+  ready l = rw e (lengths-cleared v l, zero-cleared (v .word), zero-cleared (v .one), zero-cleared (v .other))
 
-  pub checked : (after : Tables) (c : Checked) → ChecksCleared A (tables word one other) after c → Checks A v after c
-  checked after c j = judged A v after c l (rw (w, o, r) at j)
+  pub checked : (A : Automaton) → Lengths (A .table) v → (after : Tables) (c : Checked) → ChecksCleared A w after c → Checks A v after c
+  checked A l after c j = judged A v after c l (rw e at j)
 
 module _ {A : Automaton} {v w : Tables} {r : ℕ} (f : Fits A) (a : Answered A Everywhere v w r) where
   pub judge-free : r ≡ 0 → ChecksCleared A v w Free

@@ -10,7 +10,8 @@ use Rattle.sets.specs.Sets.{bit, Member}
 use Rattle.sets.specs.SetLaws.{bit-lt}
 use Rattle.automaton.specs.Automaton.{Automaton, Fits}
 use Rattle.automaton.specs.EdgeLaws.{edge-of, edge-state}
-use Rattle.format.specs.Format.{Distinct, NamesRight, StatesRight, TransitionRight, TransitionsRight, Right, most, place, FileIs, nameLines, statesOf, placed, whereMember, transitionsOf, writtenSheet, written}
+use Rattle.format.specs.Format.{Distinct, NamesRight, StatesRight, TransitionRight, TransitionsRight, Right, most, place, FileIs, nameLines}
+use Rattle.format.specs.Written.{statesOf, placed, whereMember, transitionsOf, writtenSheet, written}
 use Rattle.format.specs.FormatLaws.{name-length}
 use Rattle.writer.specs.LengthLaws.{statesOf-length, transitionsOf-most}
 use Rattle.writer.specs.TextLaws.{written-length}

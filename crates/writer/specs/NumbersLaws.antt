@@ -10,7 +10,9 @@ use lib.Seq.{ext-getD, getD-take, length-take-le}
 use Rattle.sets.specs.Sets.{bit, Member, setOf}
 use Rattle.sets.specs.SetLaws.{bit-lt, bit-out, bit-zero, ext, small-of-within, set-is-sum}
 use Rattle.automaton.specs.Automaton.{Automaton, Fits}
-use Rattle.format.specs.Format.{State, Transition, flagSet, inserted, tableOf, numbers, statesOf, placed, whereMember, transitionsOf, writtenSheet}
+use Rattle.format.specs.Format.{State, Transition}
+use Rattle.format.specs.Numbers.{flagSet, inserted, tableOf, numbers}
+use Rattle.format.specs.Written.{statesOf, placed, whereMember, transitionsOf, writtenSheet}
 use Rattle.format.specs.NumbersLaws.{inserted-length, inserted-new, inserted-other, table-length}
 use Rattle.writer.specs.Same.{trimmed}
 

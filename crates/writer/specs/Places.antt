@@ -4,7 +4,8 @@ use mathlib.Core.Path.{_≡_}
 use mathlib.Core.List.{List}
 use lib.ListN.{getD}
 use Rattle.sets.specs.Sets.{Member}
-use Rattle.format.specs.Format.{Transition, transitionsOf}
+use Rattle.format.specs.Format.{Transition}
+use Rattle.format.specs.Written.{transitionsOf}
 
 -- "strictly ascending by these three": there are 2048 places, 16 to a cell of the table
 abbrev pub places : ℕ

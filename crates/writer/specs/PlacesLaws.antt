@@ -3,23 +3,23 @@ use Prim.Native.Nat.{ℕ, zero, suc, _+_, _-_, _*_, _/_, _%_, _≤_, _<_}
 use mathlib.Core.Path.{_≡_, sym, ap, _∙_}
 use mathlib.Core.List.{List, [], _∷_}
 use native.Mathlib.Omega.{arith}
+use native.Mathlib.Nat.{sub-eq-zero-of-le}
 use native.Mathlib.Numerals.{add-one}
 use lib.ListN.{length, getD}
 use lib.Seq.{sets}
+use Rattle.text.specs.LeftLaws.{left-more}
 use Rattle.text.specs.SetsLaws.{sets-append}
 use Rattle.sets.specs.Sets.{bit}
 use Rattle.sets.specs.SetLaws.{bit-zero}
-use Rattle.format.specs.Format.{placed, whereMember, transitionsOf, transitionLine, transitionLines}
+use Rattle.format.specs.Format.{transitionLine, transitionLines}
+use Rattle.format.specs.Written.{placed, whereMember, transitionsOf}
 use Rattle.format.specs.FormatLaws.{transition-length}
 use Rattle.writer.specs.Places.{places, transitionsFrom, At, Stop, First}
 
 module _ (T : List ℕ) where
   place-step : (i : ℕ) → i < places → transitionsFrom T i ≡ whereMember (bit (getD T (i / 16) 0) (i % 16)) (placed i) (transitionsFrom T (i + 1))
   unfolding transitionsOf
-  place-step i h =
-      let e : places - i ≡ suc (places - (i + 1)) = omega arith in
-      let f : i + 1 ≡ suc i = add-one i in
-      rw (e, f)
+  place-step i h = rw (left-more h, add-one i)
 
   place-here : (i : ℕ) → i < places → At T i → transitionsFrom T i ≡ placed i ∷ transitionsFrom T (i + 1)
   place-here i h m = place-step i h ∙ rw m
@@ -59,9 +59,7 @@ module _ {T : List ℕ} {i : ℕ} (stop : Stop T i) where
   module _ (h : places ≤ i) where
     place-last : transitionsFrom T i ≡ []
     unfolding transitionsOf
-    place-last =
-        let e : places - i ≡ 0 = omega arith in
-        rw e
+    place-last = rw (sub-eq-zero-of-le h)
 
     pub count-last : length (transitionsFrom T i) ≡ 0
     count-last = ap length place-last

@@ -8,7 +8,9 @@ use Rattle.names.specs.Name.{compose}
 use Rattle.names.specs.NameLaws.{compose-idempotent}
 use Rattle.automaton.specs.Automaton.{Automaton, Fits}
 use Rattle.automaton.specs.Meeting.{Free, Everywhere}
-use Rattle.format.specs.Format.{Sheet, NamesRight, FileIs, lines, endLine, numbers, statesOf, transitionsOf, writtenSheet, written}
+use Rattle.format.specs.Format.{Sheet, NamesRight, FileIs, lines, endLine}
+use Rattle.format.specs.Numbers.{numbers}
+use Rattle.format.specs.Written.{statesOf, transitionsOf, writtenSheet, written}
 use Rattle.format.specs.NumbersLaws.{sheet-fits, numbers-length}
 use Rattle.sheet.specs.Read.{Accepted}
 use Rattle.parser.specs.UniqueLaws.{file-unique}

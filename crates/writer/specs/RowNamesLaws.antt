@@ -5,12 +5,13 @@ use mathlib.Core.Bool.{true}
 use mathlib.Core.List.{List, [], _∷_, _++_}
 use native.Mathlib.Omega.{arith}
 use native.Mathlib.Numerals.{add-one}
-use native.Mathlib.Nat.{add-zero, zero-add}
+use native.Mathlib.Nat.{add-zero, zero-add, sub-eq-zero-of-le}
 use lib.ListN.{length, getD, take, drop, replicate, length-append}
 use lib.Seq.{sets, drop-cons}
 use borrow.Author.Tests.{ne-eqb}
 use Rattle.text.specs.Bytes.{stretch}
 use Rattle.text.specs.Word.{noZero}
+use Rattle.text.specs.LeftLaws.{left-more}
 use Rattle.text.specs.SetsLaws.{sets-append}
 use Rattle.names.specs.NameLaws.{name-without}
 use Rattle.parser.specs.Rows.{HoldNames}
@@ -45,10 +46,9 @@ restOf rows l i = upToZero (take (24 - i) (drop (24 * l + i) rows))
 module _ (rows : List ℕ) (l i : ℕ) (fits : 24 * l + 24 ≤ length rows) where
   rest-cons : i < 24 → take (24 - i) (drop (24 * l + i) rows) ≡ getD rows (24 * l + i) 0 ∷ take (24 - (i + 1)) (drop (24 * l + (i + 1)) rows)
   rest-cons h =
-      let e : 24 - i ≡ suc (24 - (i + 1)) = omega arith in
       let f : 24 * l + (i + 1) ≡ suc (24 * l + i) = omega arith in
       let g : 24 * l + i < length rows = omega arith in
-      rw (drop-cons rows (24 * l + i) 0, e, f)
+      rw (drop-cons rows (24 * l + i) 0, left-more h, f)
 
   pub rest-zero : i < 24 → getD rows (24 * l + i) 0 ≡ 0 → length (restOf rows l i) ≡ 0
   unfolding upToZero
@@ -59,9 +59,7 @@ module _ (rows : List ℕ) (l i : ℕ) (fits : 24 * l + 24 ≤ length rows) wher
 
   pub rest-none : 24 ≤ i → length (restOf rows l i) ≡ 0
   unfolding upToZero
-  rest-none h =
-      let e : 24 - i ≡ 0 = omega arith in
-      rw e
+  rest-none h = rw (sub-eq-zero-of-le h)
 
 pub rest-whole : (rows : List ℕ) (l : ℕ) → restOf rows l 0 ≡ rowName rows l
 rest-whole rows l = rw add-zero
@@ -71,16 +69,11 @@ rest-whole rows l = rw add-zero
 module _ (rows : List ℕ) (k l : ℕ) where
   pub names-next : l < k → nameLines l (rowNames rows l (k - l)) ≡ nameLine l (rowName rows l) ++ nameLines (l + 1) (rowNames rows (l + 1) (k - (l + 1)))
   unfolding nameLines rowNames
-  names-next h =
-      let e : k - l ≡ suc (k - (l + 1)) = omega arith in
-      let f : l + 1 ≡ suc l = add-one l in
-      rw (e, f)
+  names-next h = rw (left-more h, add-one l)
 
   pub names-last : k ≤ l → nameLines l (rowNames rows l (k - l)) ≡ []
   unfolding nameLines rowNames
-  names-last h =
-      let e : k - l ≡ 0 = omega arith in
-      rw e
+  names-last h = rw (sub-eq-zero-of-le h)
 
   pub names-length-next : l < k → length (nameLines l (rowNames rows l (k - l))) ≡ 6 + length (rowName rows l) + length (nameLines (l + 1) (rowNames rows (l + 1) (k - (l + 1))))
   names-length-next h = ap length (names-next h) ∙ simp (length-append, name-length)

@@ -5,7 +5,9 @@ use mathlib.Core.List.{List, map}
 use lib.ListN.{take}
 use Rattle.names.specs.Name.{compose}
 use Rattle.automaton.specs.Automaton.{Automaton}
-use Rattle.format.specs.Format.{Sheet, numbers, written}
+use Rattle.format.specs.Format.{Sheet}
+use Rattle.format.specs.Numbers.{numbers}
+use Rattle.format.specs.Written.{written}
 
 -- "sheets with equal numbers and equal composed names are the same sheet"
 pub record SameSheet (σ τ : Sheet) : Type 0 where

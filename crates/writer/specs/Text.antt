@@ -9,7 +9,8 @@ use Rattle.automaton.specs.Automaton.{Automaton}
 use Rattle.automaton.specs.Lent.{Tables, clearedTables, Lengths}
 use Rattle.walks.specs.declared.Checked.{Checked}
 use Rattle.walks.specs.declared.Checked.the-variants as K
-use Rattle.format.specs.Format.{Sheet, FileIs, written, headLine, nameLines, stateLines, transitionLines, endLine, statesOf, transitionsOf}
+use Rattle.format.specs.Format.{Sheet, FileIs, headLine, nameLines, stateLines, transitionLines, endLine}
+use Rattle.format.specs.Written.{written, statesOf, transitionsOf}
 use Rattle.gate.specs.declared.Written.{Written}
 use Rattle.gate.specs.declared.Written.the-variants.{Refused}
 use Rattle.writer.specs.RowNames.{rowNames}

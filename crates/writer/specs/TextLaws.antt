@@ -7,7 +7,8 @@ use lib.Seq.{sets}
 use Rattle.text.specs.SetsLaws.{sets-append}
 use Rattle.names.specs.Name.{compose}
 use Rattle.automaton.specs.Automaton.{Automaton}
-use Rattle.format.specs.Format.{headLine, nameLines, stateLines, transitionLines, endLine, lines, statesOf, transitionsOf, writtenSheet, written}
+use Rattle.format.specs.Format.{headLine, nameLines, stateLines, transitionLines, endLine, lines}
+use Rattle.format.specs.Written.{statesOf, transitionsOf, writtenSheet, written}
 use Rattle.format.specs.FormatLaws.{head-length, states-length, transitions-length}
 use Rattle.writer.specs.LengthLaws.{statesOf-length}
 use Rattle.writer.specs.Text.{textOf}

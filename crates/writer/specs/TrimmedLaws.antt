@@ -9,7 +9,9 @@ use Rattle.names.specs.Name.{compose}
 use Rattle.sets.specs.Sets.{bit, Member}
 use Rattle.automaton.specs.Automaton.{Automaton, Edge, Fits}
 use Rattle.automaton.specs.Meeting.{Walk, Free, Everywhere}
-use Rattle.format.specs.Format.{Sheet, Transition, lines, endLine, numbers, statesOf, whereMember, placed, transitionsOf, writtenSheet, written}
+use Rattle.format.specs.Format.{Sheet, Transition, lines, endLine}
+use Rattle.format.specs.Numbers.{numbers}
+use Rattle.format.specs.Written.{statesOf, whereMember, placed, transitionsOf, writtenSheet, written}
 use Rattle.format.specs.NumbersLaws.{numbers-length}
 use Rattle.writer.specs.Same.{trimmed}
 

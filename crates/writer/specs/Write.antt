@@ -8,7 +8,8 @@ use Rattle.gate.specs.declared.Refusal.{Refusal}
 use Rattle.automaton.specs.Automaton.{Automaton, Fits}
 use Rattle.automaton.specs.Meeting.{Free, Everywhere}
 use Rattle.automaton.specs.Lent.{Tables, Long, clearedTables, NumbersRefuse, Lengths}
-use Rattle.format.specs.Format.{Sheet, written}
+use Rattle.format.specs.Format.{Sheet}
+use Rattle.format.specs.Written.{written}
 use Rattle.sheet.specs.Read.{Accepted, Refuses}
 use Rattle.gate.specs.declared.Written.{Written}
 use Rattle.gate.specs.declared.Written.the-variants.{Refused, Bytes}

@@ -12,7 +12,8 @@ use Rattle.names.specs.Name.{compose}
 use Rattle.automaton.specs.declared.Numbers.{Numbers}
 use Rattle.automaton.specs.Automaton.{Automaton, Fits, automaton}
 use Rattle.automaton.specs.Lent.{Tables, Long, clearedTables, NumbersRefuse}
-use Rattle.format.specs.Format.{Sheet, FileIs, numbers}
+use Rattle.format.specs.Format.{Sheet, FileIs}
+use Rattle.format.specs.Numbers.{numbers}
 use Rattle.automaton.specs.QuestionLaws.{numbers-number}
 use Rattle.automaton.specs.LentLaws.{tables-twice, long-cleared, refuse-cleared}
 use Rattle.sheet.specs.ReadLaws.{refuses-number}

@@ -4,7 +4,8 @@ ghost use Prim.Native.Nat.{_+_, _*_, _≤_, _<_};
 ghost use lib.ListN.{length};
 ghost use lib.Seq.{sets};
 ghost use Rattle.sets.specs.Sets.{bit};
-ghost use Rattle.format.specs.Format.{stateLine, stateLines, statesOf};
+ghost use Rattle.format.specs.Format.{stateLine, stateLines};
+ghost use Rattle.format.specs.Written.{statesOf};
 ghost use Rattle.writer.specs.States.{stateOf};
 use crate::lines;
 

@@ -3,7 +3,8 @@ ghost use mathlib.Core.Path.{_≡_};
 ghost use Prim.Native.Nat.{_+_, _*_, _≤_};
 ghost use lib.ListN.{length};
 ghost use lib.Seq.{sets};
-ghost use Rattle.format.specs.Format.{placed, transitionsOf, transitionLine, transitionLines};
+ghost use Rattle.format.specs.Format.{transitionLine, transitionLines};
+ghost use Rattle.format.specs.Written.{placed, transitionsOf};
 ghost use Rattle.writer.specs.Places.{places, First};
 use crate::lines;
 

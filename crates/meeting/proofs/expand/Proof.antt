@@ -1,11 +1,11 @@
 -- The invariant: what the pair steps to is in the queue, for the letters and states of the first j steps. Assumes nothing.
-use Prim.Native.Nat.{_+_, _*_, _/_, _-_, _≤_, _<_}
+use Prim.Native.Nat.{_+_, _*_, _/_, _-_, _≤_}
 use mathlib.Core.Path.{refl}
 use native.Mathlib.Omega.{arith}
 use Rattle.automaton.specs.Automaton.{automaton}
 use Rattle.queue.specs.Queue.{AtMost, one, other}
 use Rattle.meeting.specs.Search.{Grown, Stepped}
-use Rattle.meeting.specs.StepLaws.{grown-none, step-open, step-grown, step-stepped, steps-closed, grown-by}
+use Rattle.meeting.specs.StepLaws.{grown-none, step-open, step-taken, all-taken}
 use borrow.Author.Needs.{needs}
 use Rattle.meeting.proofs.expand.Statement.{statement}
 use Rattle.meeting.proofs.expand.Tie as tie
@@ -16,6 +16,9 @@ Inv-loop a table queue₀ count head e d p q reached₀ j₀ queue reached j =
 
 abbrev μ-loop : tie.MeasureT-loop
 μ-loop a table queue₀ count head e d p q reached₀ j₀ queue reached j = 16 * a .k - j
+
+abbrev entry : tie.At-loop Inv-loop μ-loop → tie.Start Inv-loop μ-loop
+entry t = t .before .before .before .before .before
 
 number-requires : tie.Need-number-requires Inv-loop μ-loop
 number-requires c κs =
@@ -73,14 +76,11 @@ add-add-row c = search needs
 
 add-row-requires : tie.Need-add-row-requires Inv-loop μ-loop
 add-row-requires c κs =
-    let a = c .before .before .before .before .before .before .before .before .before .before .before .args in
-    let p = c .before .before .before .before .before .before .before .before .before .before .before .pre in
-    let A = automaton (a .a) (a .table .now) in
-    let l = c .before .before .before .before .before .before .loop in
-    let e = c .before .before .before .before .before .before .before .number in
+    let t = c .before .before .before .before .before .before in
+    let p = entry t .pre in
     let r = p .queue .room in
     let h = p .some in
-    (step-open A (p .fits) (a .queue .now) (a .count) (a .head) (e .result) (e .result / 256 + 1) (p .some) (e .ensures) refl (l .queue) (l .reached) (l .j) (l .inv .1) (p .queue), omega arith)
+    (step-open (p .fits) h (t .before .number .ensures) refl (t .loop .j) (t .loop .inv .1) (p .queue), omega arith)
 
 add-j : tie.Need-add-j Inv-loop μ-loop
 add-j c = search needs
@@ -90,38 +90,27 @@ loop-less c = search needs
 
 loop-again : tie.Need-loop-again Inv-loop μ-loop
 loop-again c =
-    let a = c .before .before .before .before .before .before .before .before .before .before .before .before .before .before .args in
-    let p = c .before .before .before .before .before .before .before .before .before .before .before .before .before .before .pre in
-    let A = automaton (a .a) (a .table .now) in
-    let l = c .before .before .before .before .before .before .before .before .before .loop in
-    let e = c .before .before .before .before .before .before .before .before .before .before .number in
-    let g = c .before .before .add-row in
+    let t = c .before .before .before .before .before .before .before .before .before in
+    let p = entry t .pre in
+    let l = t .loop in
     let x = c .before .before .before .before .guarded in
-    let k : l .j / 16 < a .a .k = omega arith in (
-      omega arith,
-      step-grown A (p .fits) (a .queue .now) (a .count) (a .head) (e .result) (e .result / 256 + 1) (p .some) (e .ensures) refl (l .queue) (l .reached) (l .j) (l .inv .1) (x .result) (g .last .0) (g .result) k (x .ensures) (g .ensures),
-      step-stepped A (p .fits) (a .queue .now) (a .count) (a .head) (e .result) (e .result / 256 + 1) (p .some) (e .ensures) refl (l .queue) (l .reached) (l .j) (l .inv .1) (x .result) (g .last .0) (g .result) k (x .ensures) (g .ensures) (l .inv .2),
-    )
+    let y = c .before .before .add-row in
+    let (grown, stepped) = step-taken (p .fits) (p .some) (t .before .number .ensures) refl (l .j) (l .inv .1) (x .result) (omega arith) (x .ensures) (y .ensures) (l .inv .2) in
+    (omega arith, grown, stepped)
 
 same-length : tie.Need-same-length Inv-loop μ-loop
 same-length c =
-    let a = c .before .before .before .before .before .before .before .args in
-    let p = c .before .before .before .before .before .before .before .pre in
-    let A = automaton (a .a) (a .table .now) in
-    let l = c .before .before .loop in
-    let e = c .before .before .before .number in
-    let s = p .queue .size in
-    let t = l .inv .1 .queue .size in
+    let t = c .before .before in
+    let a = entry t .pre .queue .size in
+    let b = t .loop .inv .1 .queue .size in
     omega arith
 
 returns : tie.Need-returns Inv-loop μ-loop
 returns c =
-    let a = c .before .before .before .before .before .before .before .args in
-    let p = c .before .before .before .before .before .before .before .pre in
-    let A = automaton (a .a) (a .table .now) in
-    let l = c .before .before .loop in
-    let e = c .before .before .before .number in
-    (grown-by A (p .fits) (a .queue .now) (a .count) (a .head) (e .result) (e .result / 256 + 1) (p .some) (e .ensures) refl (l .queue) (l .reached) (l .j) (l .inv .1), steps-closed A (p .fits) (a .queue .now) (a .count) (a .head) (e .result) (e .result / 256 + 1) (p .some) (e .ensures) refl (l .queue) (l .reached) (l .j) (l .inv .1) (c .if1 .left) (l .inv .2))
+    let t = c .before .before in
+    let p = entry t .pre in
+    let l = t .loop in
+    all-taken (p .fits) (p .some) (t .before .number .ensures) refl (l .j) (l .inv .1) (c .if1 .left) (l .inv .2)
 
 pub expand-spec : {M : Type 1} → statement M
 expand-spec =

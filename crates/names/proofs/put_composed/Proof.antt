@@ -1,14 +1,15 @@
 -- `names::put_composed` meets its contract. The loop's invariant: storing what the rest of the stretch composes to gives all of it stored.
 -- Assumes nothing.
-use Prim.Native.Nat.{ℕ, _+_, _-_, _≤_}
+use Prim.Native.Nat.{ℕ, suc, _+_, _-_, _≤_}
 use mathlib.Core.Path.{_≡_, refl, sym, _∙_, ap}
+use mathlib.Core.List.{List}
 use native.Mathlib.Nat.{add-zero}
 use native.Mathlib.Omega.{arith}
 use denote.Ref.{now}
 use lib.ListN.{length, length-set}
 use lib.Seq.{sets}
 use Rattle.text.specs.Bytes.{stretch}
-use mathlib.Core.Bool.{true, false}
+use mathlib.Core.Bool.{Bool, true, false}
 use Rattle.names.specs.Name.{compose}
 use Rattle.names.specs.Row.{diaeresisAt}
 use Rattle.names.specs.ComposeLaws.{composed-fits, composed-one, composed-two, stored-none, stored-one, stored-two}
@@ -25,32 +26,40 @@ Inv-loop s start end out₀ at i₀ n₀ out i n =
 abbrev μ-loop : tie.MeasureT-loop
 μ-loop s start end out₀ at i₀ n₀ out i n = end - i
 
--- the test of this turn, and what is left to store then
-two : (c : tie.Then1 Inv-loop μ-loop)
-    → diaeresisAt (now (c .before .before .before .before .before .before .args .s)) (c .before .before .before .loop .i) (c .before .before .before .before .before .before .args .end) ≡ true
+abbrev turn : tie.After-diaeresis-at Inv-loop μ-loop → tie.At-loop Inv-loop μ-loop
+turn d = d .before .before
+
+abbrev entry : tie.At-loop Inv-loop μ-loop → tie.Start Inv-loop μ-loop
+entry t = t .before .before .before
+
+-- what is left to store from a place on
+abbrev rest : tie.At-loop Inv-loop μ-loop → ℕ → List ℕ
+rest t i = compose (stretch (now (entry t .args .s)) i (entry t .args .end))
+
+-- the test of this turn
+abbrev asked : tie.After-diaeresis-at Inv-loop μ-loop → Bool
+asked d = let a = entry (turn d) .args in diaeresisAt (now (a .s)) (turn d .loop .i) (a .end)
+
+-- the first m bytes left have room
+room : (t : tie.At-loop Inv-loop μ-loop) (m : ℕ) → m ≤ length (rest t (t .loop .i)) → entry t .args .at + t .loop .n + m ≤ length (t .loop .out)
+room t m h = omega (arith, t .loop .inv .4, entry t .pre .1)
+
+two : (c : tie.Then1 Inv-loop μ-loop) → asked (c .before) ≡ true
 two c = sym (c .before .diaeresis-at .ensures) ∙ c .if1 .taken
 
-two-left :
-    (c : tie.Then1 Inv-loop μ-loop) →
-    (c .before .before .before .loop .i + 3 ≤ c .before .before .before .before .before .before .args .end) ×
-    (c .before .before .before .before .before .before .args .at + c .before .before .before .loop .n + 2 ≤ length (c .before .before .before .loop .out))
-two-left c =
-    let l = c .before .before .before .loop in
-    let a = c .before .before .before .before .before .before .args in
-    let k = ap length (composed-two (now (a .s)) (l .i) (a .end) (omega arith) (omega arith) (two c)) in
-    (composed-fits (now (a .s)) (l .i) (a .end) (omega arith) (omega arith) (two c), omega (arith, l .inv .4, c .before .before .before .before .before .before .pre .1))
+two-length : (c : tie.Then1 Inv-loop μ-loop) → let t = turn (c .before) in length (rest t (t .loop .i)) ≡ suc (suc (length (rest t (t .loop .i + 3))))
+two-length c = ap length (composed-two _ _ _ (omega arith) (omega arith) (two c))
 
-one : (c : tie.Else1 Inv-loop μ-loop)
-    → diaeresisAt (now (c .before .before .before .before .before .before .args .s)) (c .before .before .before .loop .i) (c .before .before .before .before .before .before .args .end) ≡ false
+two-left : (c : tie.Then1 Inv-loop μ-loop) →
+    let t = turn (c .before) in
+    (t .loop .i + 3 ≤ entry t .args .end) × (entry t .args .at + t .loop .n + 2 ≤ length (t .loop .out))
+two-left c = (composed-fits _ _ _ (omega arith) (omega arith) (two c), room (turn (c .before)) 2 (omega (arith, two-length c)))
+
+one : (c : tie.Else1 Inv-loop μ-loop) → asked (c .before) ≡ false
 one c = sym (c .before .diaeresis-at .ensures) ∙ c .if1 .left
 
-one-left : (c : tie.Else1 Inv-loop μ-loop)
-    → c .before .before .before .before .before .before .args .at + c .before .before .before .loop .n + 1 ≤ length (c .before .before .before .loop .out)
-one-left c =
-    let l = c .before .before .before .loop in
-    let a = c .before .before .before .before .before .before .args in
-    let k = ap length (composed-one (now (a .s)) (l .i) (a .end) (omega arith) (omega arith) (one c)) in
-    omega (arith, l .inv .4, c .before .before .before .before .before .before .pre .1)
+one-length : (c : tie.Else1 Inv-loop μ-loop) → let t = turn (c .before) in length (rest t (t .loop .i)) ≡ suc (length (rest t (t .loop .i + 1)))
+one-length c = ap length (composed-one _ _ _ (omega arith) (omega arith) (one c))
 
 loop-holds : tie.Need-loop-holds Inv-loop μ-loop
 loop-holds c =
@@ -92,16 +101,16 @@ loop-less c = omega (arith, two-left (c .before .before))
 
 loop-again : tie.Need-loop-again Inv-loop μ-loop
 loop-again c =
-    let l = c .before .before .before .before .before .loop in
-    let a = c .before .before .before .before .before .before .before .before .args in
-    let s = now (a .s) in
-    let k : a .at + l .n + 2 ≡ a .at + (l .n + 2) = omega arith in (
+    let t = c .before .before in
+    let l = turn (t .before) .loop in
+    let at = entry (turn (t .before)) .args .at in
+    let k : at + l .n + 2 ≡ at + (l .n + 2) = omega arith in (
       omega arith,
-      two-left (c .before .before) .0,
+      two-left t .0,
       omega arith,
       simp length-set (l .inv .3),
-      omega (arith, ap length (composed-two s (l .i) (a .end) (omega arith) (omega arith) (two (c .before .before))), l .inv .4),
-      rw (c .umlaut-of .ensures, ← k) (sym (stored-two s (l .out) (l .i) (a .end) (a .at + l .n) (omega arith) (omega arith) (two (c .before .before))) ∙ l .inv .5),
+      omega (arith, two-length t, l .inv .4),
+      rw (c .umlaut-of .ensures, ← k) (sym (stored-two _ (l .out) _ _ (at + l .n) (omega arith) (omega arith) (two t)) ∙ l .inv .5),
     )
 
 shared-slice-read-out : tie.Need-shared-slice-read-out Inv-loop μ-loop
@@ -111,7 +120,7 @@ add-out-4 : tie.Need-add-out-4 Inv-loop μ-loop
 add-out-4 c = search needs
 
 slice-write-out-3 : tie.Need-slice-write-out-3 Inv-loop μ-loop
-slice-write-out-3 c = omega (arith, one-left (c .before))
+slice-write-out-3 c = omega (arith, room (turn (c .before .before)) 1 (omega (arith, one-length (c .before))))
 
 add-n-2 : tie.Need-add-n-2 Inv-loop μ-loop
 add-n-2 c = search needs
@@ -124,16 +133,16 @@ loop-less-2 c = search needs
 
 loop-again-2 : tie.Need-loop-again-2 Inv-loop μ-loop
 loop-again-2 c =
-    let l = c .before .before .before .before .loop in
-    let a = c .before .before .before .before .before .before .before .args in
-    let s = now (a .s) in
-    let k : a .at + l .n + 1 ≡ a .at + (l .n + 1) = omega arith in (
+    let t = c .before in
+    let l = turn (t .before) .loop in
+    let at = entry (turn (t .before)) .args .at in
+    let k : at + l .n + 1 ≡ at + (l .n + 1) = omega arith in (
       omega arith,
       omega arith,
       omega arith,
       simp length-set (l .inv .3),
-      omega (arith, ap length (composed-one s (l .i) (a .end) (omega arith) (omega arith) (one (c .before))), l .inv .4),
-      rw (← k) (sym (stored-one s (l .out) (l .i) (a .end) (a .at + l .n) (omega arith) (omega arith) (one (c .before))) ∙ l .inv .5),
+      omega (arith, one-length t, l .inv .4),
+      rw (← k) (sym (stored-one _ (l .out) _ _ (at + l .n) (omega arith) (omega arith) (one t)) ∙ l .inv .5),
     )
 
 same-length : tie.Need-same-length Inv-loop μ-loop

@@ -1,19 +1,36 @@
 -- Each length is asked before a table is touched; cleared tables are all zero and as long as before. Assumes nothing.
-use mathlib.Core.Path.{refl}
+use mathlib.Core.Path.{_≡_, refl}
 use mathlib.Core.Logic.{inl}
 use native.Mathlib.Omega.{arith}
 use Rattle.automaton.specs.Automaton.{automaton}
-use Rattle.automaton.specs.Lent.{tables, Lengths}
+use Rattle.automaton.specs.Lent.{Tables, tables, Lengths, clearedTables}
+use Rattle.automaton.specs.LentLaws.{tables-cleared}
 use Rattle.walks.specs.CheckLaws.{ready, checked}
 use borrow.Author.Needs.{needs}
 use Rattle.walks.proofs.check.Statement.{statement}
 use Rattle.walks.proofs.check.Tie as tie
 
+abbrev start : tie.Else4 → tie.Start
+start c = c .before .before .before .before .before .before .before .before
+
+abbrev lent : tie.Start → Tables
+lent s = tables (s .args .word .now) (s .args .one .now) (s .args .other .now)
+
 -- all four lengths were asked
-long : (c : tie.Else4) →
-    let a = c .before .before .before .before .before .before .before .before .args in
-    Lengths (a .table .now) (tables (a .word .now) (a .one .now) (a .other .now))
+long : (c : tie.Else4) → Lengths (start c .args .table .now) (lent (start c))
 long c = record { cells = omega arith; long = record { word = omega arith; one = omega arith; other = omega arith } }
+
+abbrev asked : tie.After-clear3 → tie.Else4
+asked c = c .before .before .before .before .before .before .before .before .before .before
+
+-- all three tables are cleared
+empty : (c : tie.After-clear3) →
+    let one = c .before .before .before .before in
+    let word = one .before .before .before .before in
+    tables (word .clear .last .0) (one .clear2 .last .0) (c .clear3 .last .0) ≡ clearedTables (lent (start (asked c)))
+empty c =
+    let one = c .before .before .before .before in
+    tables-cleared (lent (start (asked c))) (one .before .before .before .before .clear .ensures) (one .clear2 .ensures) (c .clear3 .ensures)
 
 returns : tie.Need-returns
 returns c = inl (λ q. (let h = q .cells in omega arith), refl, refl)
@@ -37,12 +54,7 @@ clear-requires-3 : tie.Need-clear-requires-3
 clear-requires-3 c κs = search needs
 
 check-cleared-requires : tie.Need-check-cleared-requires
-check-cleared-requires c κs =
-    let k = c .before .before .before .before .before in
-    let e = k .before .before .before .before .before .before .before .before .before .before in
-    let a = e .before .before .before .before .before .before .before .before .args in
-    ready (automaton (a .a) (a .table .now)) (tables (a .word .now) (a .one .now) (a .other .now)) (long e)
-    (k .before .before .before .before .before .before .before .before .clear .ensures) (k .before .before .before .before .clear2 .ensures) (k .clear3 .ensures)
+check-cleared-requires c κs = let k = c .before .before .before .before .before in ready (empty k) (long (asked k))
 
 same-length : tie.Need-same-length
 same-length c = search needs
@@ -57,10 +69,8 @@ returns-5 : tie.Need-returns-5
 returns-5 c =
     let g = c .before .before .before .before .before .before .check-cleared in
     let k = c .before .before .before .before .before .before .before .before .before .before .before .before in
-    let e = k .before .before .before .before .before .before .before .before .before .before in
-    let a = e .before .before .before .before .before .before .before .before .args in
-    checked (automaton (a .a) (a .table .now)) (tables (a .word .now) (a .one .now) (a .other .now)) (long e)
-    (k .before .before .before .before .before .before .before .before .clear .ensures) (k .before .before .before .before .clear2 .ensures) (k .clear3 .ensures)
+    let a = start (asked k) .args in
+    checked (empty k) (automaton (a .a) (a .table .now)) (long (asked k))
     (tables (g .last .1 .1 .0) (g .last .1 .1 .1 .0) (g .last .1 .1 .1 .1 .0)) (g .result) (g .ensures)
 
 pub check-spec : {M : Type 1} → statement M

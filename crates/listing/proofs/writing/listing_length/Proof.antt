@@ -1,11 +1,15 @@
 -- The product is small. Assumes nothing.
-use Prim.Native.Nat.{_-_}
+use Prim.Native.Nat.{_-_, _*_, _≤_}
 use mathlib.Core.Path.{refl}
 use native.Mathlib.Omega.{arith}
+use Rattle.listing.specs.Put.{lineBytes}
 use Rattle.listing.specs.PutLaws.{listing-small}
 use borrow.Author.Needs.{needs}
 use Rattle.listing.proofs.writing.listing_length.Statement.{statement}
 use Rattle.listing.proofs.writing.listing_length.Tie as tie
+
+small : (c : tie.Start) → c .args .count * lineBytes (c .args .n) (c .args .k) ≤ 149504
+small c = listing-small (c .args .n) (c .args .k) (c .args .count) (c .pre .0) (c .pre .1) (c .pre .2)
 
 mul-result : tie.Need-mul-result
 mul-result c = search needs
@@ -20,16 +24,10 @@ add-result-2 : tie.Need-add-result-2
 add-result-2 c = search needs
 
 mul-result-3 : tie.Need-mul-result-3
-mul-result-3 c =
-    let a = c .args in
-    let p = c .pre in
-    omega (arith, listing-small (a .n) (a .k) (a .count) (p .0) (p .1) (p .2))
+mul-result-3 c = omega (arith, small c)
 
 add-result-3 : tie.Need-add-result-3
-add-result-3 c =
-    let a = c .args in
-    let p = c .pre in
-    omega (arith, listing-small (a .n) (a .k) (a .count) (p .0) (p .1) (p .2))
+add-result-3 c = omega (arith, small c)
 
 returns : tie.Need-returns
 returns c = refl

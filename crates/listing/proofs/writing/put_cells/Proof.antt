@@ -8,7 +8,7 @@ use lib.ListN.{length}
 use lib.Seq.{sets}
 use Rattle.listing.specs.Listing.{columns}
 use Rattle.listing.specs.Put.{cellsFrom}
-use Rattle.listing.specs.PutLaws.{columns-length, columns-left, columns-put, columns-none}
+use Rattle.listing.specs.PutLaws.{columns-length, columns-next, columns-none}
 use borrow.Author.Needs.{needs}
 use Rattle.listing.proofs.writing.put_cells.Statement.{statement}
 use Rattle.listing.proofs.writing.put_cells.Tie as tie
@@ -54,7 +54,7 @@ put-column-requires c κs =
     let h : l .i < a .count = c .before .before .loop-test .taken in
     let k = l .inv .2 in
     let e = l .inv .1 in
-    (c .before .before .before .before .before .before .pre .wide, omega (arith, columns-left (a .w) f (l .i) (a .count) h))
+    (c .before .before .before .before .before .before .pre .wide, omega (arith, columns-next (a .w) f (l .i) (a .count) h .left))
 
 add-p : tie.Need-add-p Inv-loop μ-loop
 add-p c = search needs
@@ -70,14 +70,14 @@ loop-again c =
     let a = c .before .before .before .before .before .before .before .before .before .args in
     let f = cellsFrom (a .table .now) (a .from) in
     let l = c .before .before .before .before .before .before .loop in
-    let h : l .i < a .count = c .before .before .before .before .before .loop-test .taken in
+    let next = columns-next (a .w) f (l .i) (a .count) (c .before .before .before .before .before .loop-test .taken) in
     let e = c .before .before .put-column .ensures in
     let k = l .inv .2 in (
       omega arith,
       c .before .before .put-column .kept .0 ∙ l .inv .1,
-      omega (arith, columns-left (a .w) f (l .i) (a .count) h),
+      omega (arith, next .left),
       ap (λ (o : List ℕ). sets o (l .p + a .w) (columns (a .w) f (l .i + 1) (a .count - (l .i + 1)))) e
-          ∙ sym (columns-put (a .w) f (l .i) (a .count) h (l .out) (l .p))
+          ∙ sym (next .put (l .out) (l .p))
           ∙ l .inv .3,
     )
 

@@ -8,7 +8,7 @@ use lib.ListN.{length}
 use lib.Seq.{sets}
 use Rattle.listing.specs.Listing.{tupleLines}
 use Rattle.listing.specs.Put.{lineBytes}
-use Rattle.listing.specs.PutLaws.{lines-length, lines-left, lines-put, lines-none}
+use Rattle.listing.specs.PutLaws.{lines-length, lines-next, lines-none}
 use borrow.Author.Needs.{needs}
 use Rattle.listing.proofs.writing.put_tuples.Statement.{statement}
 use Rattle.listing.proofs.writing.put_tuples.Tie as tie
@@ -57,7 +57,7 @@ put-tuple-requires c κs =
     let e = l .inv .1 in
     let f = l .inv .2 in (
       record { states = p .states; letters = p .letters; most = omega arith; tuple-cells = omega arith; next-cells = omega arith },
-      omega (arith, lines-left (a .n) (a .k) (a .tuples .now) (a .nexts .now) (l .t) (a .count) h),
+      omega (arith, lines-next (a .n) (a .k) (a .tuples .now) (a .nexts .now) (l .t) (a .count) h .left),
     )
 
 add-p : tie.Need-add-p Inv-loop μ-loop
@@ -73,13 +73,13 @@ loop-again : tie.Need-loop-again Inv-loop μ-loop
 loop-again c =
     let a = c .before .before .before .before .before .before .before .before .before .args in
     let l = c .before .before .before .before .before .loop in
-    let h : l .t < a .count = c .before .before .before .before .loop-test .taken in
+    let next = lines-next (a .n) (a .k) (a .tuples .now) (a .nexts .now) (l .t) (a .count) (c .before .before .before .before .loop-test .taken) in
     let f = l .inv .2 in (
       omega arith,
       c .before .before .put-tuple .kept .0 ∙ l .inv .1,
-      omega (arith, lines-left (a .n) (a .k) (a .tuples .now) (a .nexts .now) (l .t) (a .count) h),
+      omega (arith, next .left),
       ap (λ (o : List ℕ). sets o (l .p + lineBytes (a .n) (a .k)) (tupleLines (a .n) (a .k) (a .tuples .now) (a .nexts .now) (l .t + 1) (a .count - (l .t + 1)))) (c .before .before .put-tuple .ensures)
-          ∙ sym (lines-put (a .n) (a .k) (a .tuples .now) (a .nexts .now) (l .t) (a .count) h (l .out) (l .p))
+          ∙ sym (next .put (l .out) (l .p))
           ∙ l .inv .3,
     )
 

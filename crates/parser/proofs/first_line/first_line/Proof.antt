@@ -5,7 +5,7 @@ use Rattle.text.specs.Choice.{choose}
 use Rattle.text.specs.NumberLaws.{between-is}
 use Rattle.text.specs.Pair.{wordAndPair}
 use Rattle.text.specs.declared.Pair.{Pair}
-use Rattle.parser.specs.Parse.{refused, passed, firstPhase}
+use Rattle.parser.specs.Phase.{refused, passed, firstPhase}
 use Rattle.parser.specs.PhaseAnswers.{firstAnswer}
 use borrow.Author.Needs.{needs}
 use Rattle.parser.proofs.first_line.first_line.Statement.{statement}

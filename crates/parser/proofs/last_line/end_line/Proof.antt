@@ -1,7 +1,7 @@
 -- Each answer is what the tests passed make of the definition. Assumes nothing.
 use mathlib.Core.Path.{sym, _∙_}
 use borrow.Author.Tests.{eq-eqb, ne-eqb, not-true, not-false}
-use Rattle.parser.specs.Parse.{endAt}
+use Rattle.parser.specs.Phase.{endAt}
 use borrow.Author.Needs.{needs}
 use Rattle.parser.proofs.last_line.end_line.Statement.{statement}
 use Rattle.parser.proofs.last_line.end_line.Tie as tie

@@ -6,7 +6,8 @@ use native.Mathlib.Omega.{arith}
 use denote.Ref.{now}
 use lib.Pow.{pow-mono}
 use Rattle.parser.specs.declared.StateLine.{StateLine}
-use Rattle.parser.specs.Parse.{refused, withFlags, statesAt}
+use Rattle.parser.specs.Parse.{withFlags, statesAt}
+use Rattle.parser.specs.Phase.{refused}
 use Rattle.parser.specs.PhaseAnswers.{statesAnswer}
 use Rattle.parser.proofs.Steps.{states-step, states-done, flag-part, double}
 use borrow.Author.Needs.{needs}

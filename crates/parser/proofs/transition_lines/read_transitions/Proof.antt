@@ -5,9 +5,11 @@ use native.Mathlib.Omega.{arith}
 use denote.Ref.{now}
 use lib.ListN.{length, getD, take, drop, length-set, take-append-drop}
 use lib.Seq.{drop-set-lt, take-set-lt, getD-take}
-use Rattle.format.specs.Format.{place, inserted}
+use Rattle.format.specs.Format.{place}
+use Rattle.format.specs.Numbers.{inserted}
 use Rattle.parser.specs.declared.TransitionLine.{TransitionLine}
-use Rattle.parser.specs.Parse.{refused, withTransition, transitionsAt}
+use Rattle.parser.specs.Parse.{withTransition, transitionsAt}
+use Rattle.parser.specs.Phase.{refused}
 use Rattle.parser.proofs.Steps.{transitions-step, transitions-end, end-fills}
 use Rattle.text.specs.WordLaws.{within}
 use borrow.Author.Needs.{needs}

@@ -1,9 +1,21 @@
 -- Each answer is what the tests passed make of the definition. Assumes nothing.
-use mathlib.Core.Path.{sym}
-use Rattle.parser.specs.Parse.{transitionLineAt}
+use Prim.Native.Nat.{_+_}
+use mathlib.Core.Path.{_≡_, sym, _∙_}
+use denote.Ref.{now}
+use Rattle.text.specs.Pair.{pairAt, withPair}
+use Rattle.parser.specs.Parse.{transitionOf, transitionLineAt}
+use Rattle.parser.specs.declared.TransitionLine.the-variants as T
 use borrow.Author.Needs.{needs}
 use Rattle.parser.proofs.transition_lines.transition_line.Statement.{statement}
 use Rattle.parser.proofs.transition_lines.transition_line.Tie as tie
+
+-- what is left of the definition behind the line's first number
+behind : (c : tie.After-from) →
+    let a = c .before .before .before .before .args in
+    transitionLineAt (now (a .s)) (a .at) (a .n) (a .k) (a .least) ≡
+    withPair (pairAt (now (a .s)) (a .at + 4)) (λ letter to. transitionOf (a .n) (a .k) (a .least) (c .from .given .0 .0) letter to) T.Bad
+unfolding transitionLineAt
+behind c = simp (sym (c .before .before .number-at .ensures), c .from .given .1)
 
 add-number-at : tie.Need-add-number-at
 add-number-at c = search needs
@@ -34,32 +46,15 @@ enum-told-2 : tie.Need-enum-told-2
 enum-told-2 c = search needs
 
 returns-2 : tie.Need-returns-2
-unfolding transitionLineAt
-returns-2 c = (
-  simp (
-    sym (c .before .before .before .before .before .before .number-at .ensures),
-    c .before .before .before .before .from .given .1,
-    sym (c .before .before .pair-at .ensures),
-    c .enum-told2 .given .1,
-  ),
-  tt,
-)
+returns-2 c = (sym (behind (c .before .before .before .before) ∙ simp (sym (c .before .before .pair-at .ensures), c .enum-told2 .given .1)), tt)
 
 transition-of-requires : tie.Need-transition-of-requires
 transition-of-requires c κs = search needs
 
 returns-3 : tie.Need-returns-3
-unfolding transitionLineAt
-returns-3 c = (
-  simp (
-    sym (c .before .before .before .before .before .before .before .before .number-at .ensures),
-    c .before .before .before .before .before .before .from .given .1,
-    sym (c .before .before .before .before .pair-at .ensures),
-    c .before .before .letter .given .1,
-    sym (c .transition-of .ensures .0),
-  ),
-  c .transition-of .ensures .1,
-)
+returns-3 c =
+    let p = c .before .before in
+    (sym (behind (p .before .before .before .before) ∙ simp (sym (p .before .before .pair-at .ensures), p .letter .given .1, sym (c .transition-of .ensures .0))), c .transition-of .ensures .1)
 
 pub transition-line-spec : {M : Type 1} → statement M
 transition-line-spec =

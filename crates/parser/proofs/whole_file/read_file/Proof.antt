@@ -7,7 +7,8 @@ use lib.ListN.{length, replicate}
 use Rattle.text.specs.Pair.{wordAndPair}
 use Rattle.automaton.specs.Automaton.{InRange}
 use Rattle.format.specs.Format.{sheetWord}
-use Rattle.parser.specs.Parse.{Phase, passed, sizes, sheetBounds, headOf, namesAt, statesAt, transitionsAt, afterNames}
+use Rattle.parser.specs.Parse.{sizes, sheetBounds, headOf, namesAt, statesAt, transitionsAt, afterNames}
+use Rattle.parser.specs.Phase.{Phase, passed}
 use Rattle.parser.specs.PhaseAnswers.{FirstFits, NamesRead}
 use Rattle.parser.specs.FirstLaws.{first-passed, first-refused}
 use Rattle.parser.specs.declared.Sets.{Sets}

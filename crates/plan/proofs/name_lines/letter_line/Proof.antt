@@ -1,15 +1,43 @@
 -- The definition's cases; the letter found is the first whose name it is. Assumes nothing.
-use Prim.Native.Nat.{_+_, _≤_, _<_}
-use mathlib.Core.Path.{sym, _∙_}
+use Prim.Native.Nat.{ℕ, _+_, _≤_, _<_}
+use mathlib.Core.Path.{_≡_, sym, _∙_}
+use mathlib.Core.List.{List}
 use native.Mathlib.Omega.{arith}
 use denote.Ref.{now}
 use lib.ListN.{length}
+use Rattle.names.specs.Scan.{nameEndAt}
+use Rattle.names.specs.declared.Ending.the-variants as E
 use Rattle.names.specs.ScanLaws.{name-is}
 use Rattle.parser.specs.LetterLaws.{letter-is}
+use Rattle.parser.specs.Rows.{HoldNames}
+use Rattle.plan.specs.Parse.{letterFrom}
 use Rattle.plan.proofs.Laws.{line-bad, line-known, line-unknown}
 use borrow.Author.Needs.{needs}
 use Rattle.plan.proofs.name_lines.letter_line.Statement.{statement}
 use Rattle.plan.proofs.name_lines.letter_line.Tie as tie
+
+abbrev entry : tie.After-e → tie.Start
+entry c = c .before .before .before .before .before
+
+-- the name's end, and where it stands
+ends : (c : tie.After-e) → nameEndAt (now (entry c .args .p)) (entry c .args .at) ≡ E.At (c .e .given .0 .0)
+ends c = sym (c .before .before .name-end .ensures .0) ∙ c .e .given .1
+
+within : (c : tie.After-e) →
+    let a = entry c .args in
+    let e = c .e .given .0 .0 in
+    (a .at < e) × (e ≤ a .at + 24) × (e < length (now (a .p)))
+within c = rw (c .e .given .1) at (c .before .before .name-end .ensures .1)
+
+-- the letter of that name
+letter : (c : tie.After-letter-of) →
+    let e = c .before .before .before in
+    let a = entry e .args in
+    (names : List (List ℕ)) → length names ≡ a .k → HoldNames names (now (a .rows)) →
+    (letterFrom names (now (a .p)) (a .at) (e .e .given .0 .0) ≡ c .letter-of .result) × HoldNames names (c .letter-of .last .0)
+letter c names n h =
+    let f = c .letter-of .ensures names n h (name-is _ _ _ (ends (c .before .before .before)) .name) in
+    (letter-is names _ _ (f .0), f .1)
 
 name-end-requires : tie.Need-name-end-requires
 name-end-requires c κs = search needs
@@ -24,41 +52,24 @@ returns : tie.Need-returns
 returns c = (tt, λ names n h. (sym (line-bad names _ _ (sym (c .before .before .name-end .ensures .0) ∙ c .enum-told .given .1)), h))
 
 letter-of-requires : tie.Need-letter-of-requires
-letter-of-requires c κs =
-    let w : (c .before .before .before .before .before .before .before .args .at < c .before .before .e .given .0 .0) × (c .before .before .e .given .0 .0 ≤ c .before .before .before .before .before .before .before .args .at + 24) × (c .before .before .e .given .0 .0 < length (now (c .before .before .before .before .before .before .before .args .p))) =
-    rw (c .before .before .e .given .1) at (c .before .before .before .before .name-end .ensures .1) in
-    (omega arith, omega arith, record { order = omega arith; fits = omega arith }, omega arith)
+letter-of-requires c κs = let w = within (c .before .before) in (omega arith, omega arith, record { order = omega arith; fits = omega arith }, omega arith)
 
 same-length : tie.Need-same-length
 same-length c = search needs
 
 returns-2 : tie.Need-returns-2
 returns-2 c =
-    let a = c .before .before .before .before .before .before .before .before .before .before .before .args in
-    let e = c .before .before .before .before .before .before .e .given .0 .0 in
-    let end = sym (c .before .before .before .before .before .before .before .before .name-end .ensures .0) ∙ c .before .before .before .before .before .before .e .given .1 in
-    let w : (a .at < e) × (e ≤ a .at + 24) × (e < length (now (a .p))) = rw (c .before .before .before .before .before .before .e .given .1) at (c .before .before .before .before .before .before .before .before .name-end .ensures .1) in
-    let l = c .before .before .before .letter-of .result in (
-      (c .if1 .taken, w .2),
-      λ names n h.
-          (let f = c .before .before .before .letter-of .ensures names n h (name-is (now (a .p)) (a .at) e end .name) in
-          (sym (line-known names (now (a .p)) (a .at) e l end (letter-is names _ l (f .0)) (omega arith)), f .1)),
-    )
+    let t = c .before .before .before in
+    let e = t .before .before .before in
+    ((c .if1 .taken, within e .2), λ names n h. (let (l, held) = letter t names n h in (sym (line-known names _ _ _ _ (ends e) l (omega arith)), held)))
 
 same-length-2 : tie.Need-same-length-2
 same-length-2 c = search needs
 
 returns-3 : tie.Need-returns-3
 returns-3 c =
-    let a = c .before .before .before .before .before .before .before .before .before .before .before .args in
-    let e = c .before .before .before .before .before .before .e .given .0 .0 in
-    let end = sym (c .before .before .before .before .before .before .before .before .name-end .ensures .0) ∙ c .before .before .before .before .before .before .e .given .1 in
-    let l = c .before .before .before .letter-of .result in (
-      tt,
-      λ names n h.
-          (let f = c .before .before .before .letter-of .ensures names n h (name-is (now (a .p)) (a .at) e end .name) in
-          (sym (line-unknown names (now (a .p)) (a .at) e l end (letter-is names _ l (f .0)) (omega arith)), f .1)),
-    )
+    let t = c .before .before .before in
+    (tt, λ names n h. (let (l, held) = letter t names n h in (sym (line-unknown names _ _ _ _ (ends (t .before .before .before)) l (omega arith)), held)))
 
 pub letter-line-spec : {M : Type 1} → statement M
 letter-line-spec =

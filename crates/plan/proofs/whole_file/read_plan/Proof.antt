@@ -7,7 +7,7 @@ use native.Mathlib.Omega.{arith}
 use Rattle.text.specs.Pair.{wordAndPair}
 use Rattle.names.specs.Name.{compose}
 use Rattle.format.specs.Format.{Sheet}
-use Rattle.parser.specs.Parse.{passed}
+use Rattle.parser.specs.Phase.{passed}
 use Rattle.parser.specs.PhaseAnswers.{FirstFits}
 use Rattle.parser.specs.FirstLaws.{first-passed, first-refused}
 use Rattle.plan.specs.declared.Letters.{Letters}

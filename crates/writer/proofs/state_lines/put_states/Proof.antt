@@ -5,7 +5,8 @@ use native.Mathlib.Omega.{arith}
 use lib.ListN.{length}
 use lib.Seq.{sets}
 use native.Mathlib.Nat.{sub-zero}
-use Rattle.format.specs.Format.{stateLines, statesOf}
+use Rattle.format.specs.Format.{stateLines}
+use Rattle.format.specs.Written.{statesOf}
 use Rattle.writer.specs.StatesLaws.{states-next, states-last}
 use borrow.Author.Needs.{needs}
 use Rattle.writer.proofs.state_lines.put_states.Statement.{statement}
