@@ -21,7 +21,7 @@ use Rattle.format.specs.Numbers.{flagSet, inserted, tableOf, numbers}
 -- Flags
 
 -- the states of a list from q on, whatever their flags, are the numbers from q to below q + length
-pub flags-small :
+flags-small :
     (flag : State → ℕ) → ((z : State) → FlagsRight z → flag z ≤ 1) →
     (q : ℕ) (zs : List State) → StatesRight zs → flagSet flag q zs + 2 ^ q ≤ 2 ^ (q + length zs)
 unfolding flagSet
@@ -39,7 +39,7 @@ abbrev pub transition : ℕ → ℕ → ℕ → Transition
 transition from letter to = record { from = from; letter = letter; to = to }
 
 -- one of the transitions of a list
-abbrev pub OneOf : List Transition → Transition → Type 0
+abbrev OneOf : List Transition → Transition → Type 0
 OneOf ts t = (i : ℕ) × (i < length ts) × (getD ts i (transition 0 0 0) ≡ t)
 
 -- the number of a transition's successor set
@@ -168,7 +168,7 @@ module _ (σ : Sheet) (right : Right σ) where
   member-of t o = table-new (σ .n) (σ .k) (right .range) t (replicate 128 0) refl 0 (σ .transitions) (right .transitions) (o .0) (o .1) (o .2)
 
   -- "transitions (from, letter, to)": the edges of the numbers are the transitions of the sheet
-  pub right-edge : (l q r : ℕ) → Edge (numbers σ) l q r ↔ OneOf (σ .transitions) (transition q l r)
+  right-edge : (l q r : ℕ) → Edge (numbers σ) l q r ↔ OneOf (σ .transitions) (transition q l r)
   unfolding numbers
   right-edge l q r = (from, to)
     where
@@ -208,7 +208,7 @@ module _ (σ : Sheet) (right : Right σ) where
           absurd (out (omega arith) (omega arith))
 
   -- questions 4, 7 and 8 hold of the numbers
-  pub right-fits : length (σ .states) ≡ σ .n → Fits (numbers σ)
+  right-fits : length (σ .states) ≡ σ .n → Fits (numbers σ)
   unfolding numbers
   right-fits size = record {
     range = right .range;

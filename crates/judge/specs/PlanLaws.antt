@@ -75,7 +75,7 @@ module _ (σ : Sheet) (k : σ .k ≤ 8) (p lead cycle : List ℕ) (plan : PlanIs
   cycle-there : take c (drop m u) ≡ cycle
   cycle-there = ap (λ (y : List ℕ). take c (drop m y)) is ∙ (ap (take c) (drop-at lead (cycle ++ behind) m (sym lead-is)) ∙ take-at cycle behind c (sym cycle-is))
 
-  pub word-is : wordOf u m c ≡ letterAt lead cycle
+  word-is : wordOf u m c ≡ letterAt lead cycle
   word-is = rw (lead-there, cycle-there)
 
   -- so the verdict by numbers on the buffer's letters is that on the plan's

@@ -27,13 +27,13 @@ module _ (nexts : List ℕ) (at : ℕ) where
   reached-below count h l w (suc t) = h .below (8 * reached nexts at w t + w t)
 
   -- first t letters, then s more
-  pub reached-add : (w : ℕ → ℕ) (t s : ℕ) → reached nexts at w (t + s) ≡ reached nexts (reached nexts at w t) (λ i. w (t + i)) s
+  reached-add : (w : ℕ → ℕ) (t s : ℕ) → reached nexts at w (t + s) ≡ reached nexts (reached nexts at w t) (λ i. w (t + i)) s
   unfolding reached
   reached-add w t zero = rw add-zero
   reached-add w t (suc s) = rw (add-suc, reached-add w t s)
 
   -- only the letters read count
-  pub reached-same : (w v : ℕ → ℕ) (t : ℕ) → ((i : ℕ) → i < t → w i ≡ v i) → reached nexts at w t ≡ reached nexts at v t
+  reached-same : (w v : ℕ → ℕ) (t : ℕ) → ((i : ℕ) → i < t → w i ≡ v i) → reached nexts at w t ≡ reached nexts at v t
   unfolding reached
   reached-same w v zero h = refl
   reached-same w v (suc t) h = rw (reached-same w v t (λ i l. h i (omega arith)), h t (omega arith))
@@ -46,12 +46,12 @@ module _ (letters : List ℕ) (lead cycle : ℕ) (all : lead + cycle ≤ length 
   cycle-length : length (take cycle (drop lead letters)) ≡ cycle
   cycle-length = simp (length-take, length-drop) (omega arith)
 
-  pub word-lead : (t : ℕ) → t < lead → wordOf letters lead cycle t ≡ getD letters t 0
+  word-lead : (t : ℕ) → t < lead → wordOf letters lead cycle t ≡ getD letters t 0
   word-lead t l =
       letter-lead (take lead letters) (take cycle (drop lead letters)) t (rw lead-length l)
       ∙ getD-take lead letters t 0 l
 
-  pub word-cycle : (p i : ℕ) → i < cycle → wordOf letters lead cycle (lead + p * cycle + i) ≡ getD letters (lead + i) 0
+  word-cycle : (p i : ℕ) → i < cycle → wordOf letters lead cycle (lead + p * cycle + i) ≡ getD letters (lead + i) 0
   word-cycle p i l =
       (rw (lead-length, cycle-length) at (letter-cycle (take lead letters) (take cycle (drop lead letters)) p i (rw cycle-length l)))
       ∙ part-at letters lead cycle i l

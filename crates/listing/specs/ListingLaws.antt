@@ -31,7 +31,7 @@ pub record Shown (n k count : ℕ) (tuples nexts : List ℕ) : Type 0 where
   pub no-next : (c : ℕ) → (c / 8 < count → c % 8 < k → ⊥) → getD nexts c 0 ≡ 0
 
 -- the same number in each cell
-abbrev pub SameCells : List ℕ → List ℕ → Type 0
+abbrev SameCells : List ℕ → List ℕ → Type 0
 SameCells a b = (i : ℕ) → getD a i 0 ≡ getD b i 0
 
 column-same : (w u v : ℕ) (c d : List ℕ) → u < 10 ^ w → v < 10 ^ w → column w u ++ c ≡ column w v ++ d → (u ≡ v) × (c ≡ d)

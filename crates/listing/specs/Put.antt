@@ -13,7 +13,7 @@ abbrev pub cellsFrom : List ℕ → ℕ → ℕ → ℕ
 cellsFrom table from i = getD table (from + i) 0
 
 -- count cells from `from` on, and room for them, w wide, in the bytes from `at` on
-pub record CellsFit (out : List ℕ) (at w : ℕ) (table : List ℕ) (from count : ℕ) : Type 0 where
+pub record CellsThere (out : List ℕ) (at w : ℕ) (table : List ℕ) (from count : ℕ) : Type 0 where
   pub wide : w ≤ 6
   pub cells : from + count ≤ length table
   pub bytes : at + w * count ≤ length out

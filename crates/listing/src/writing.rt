@@ -5,7 +5,7 @@ ghost use lib.ListN.{length};
 ghost use lib.Seq.{sets};
 ghost use Rattle.listing.specs.Listing.{columns, trackLine, tupleLine, tupleLines, listing};
 ghost use Rattle.gate.specs.Gate.{lentText};
-ghost use Rattle.listing.specs.Put.{cellsFrom, CellsFit, lineBytes, listingBytes, Sized};
+ghost use Rattle.listing.specs.Put.{cellsFrom, CellsThere, lineBytes, listingBytes, Sized};
 
 // How many bytes a listing has.
 pub fn listing_length(n: usize, k: usize, count: usize) -> usize
@@ -17,7 +17,7 @@ pub fn listing_length(n: usize, k: usize, count: usize) -> usize
 
 // The numbers in a table's cells from `from` on, each in w columns.
 fn put_cells(out: &mut [u8], at: usize, w: usize, table: &[u16], from: usize, count: usize)
-    requires { ⌜ CellsFit (now out) at w (now table) from count ⌝ }
+    requires { ⌜ CellsThere (now out) at w (now table) from count ⌝ }
     ensures { λ _. ⌜ now (out .exit) ≡ sets (now (out .entry)) at (columns w (cellsFrom (now (table .entry)) from) 0 count) ⌝ }
 {
     let mut p = at;

@@ -101,7 +101,7 @@ module _ (s : List ℕ) (σ : Sheet) (rest : List ℕ) (above : Above s σ rest)
         states-along s behind-states (σ .states) todo (2 + length (σ .names)) (along .behind) 0 0 0 (omega arith) (above .right .states) (along .text)
 
     -- a fault where a state is due
-    pub state-found : StateDue σ → ((z : State) (after : List ℕ) → FlagsRight z → rest ≡ stateLine (length (σ .states)) z ++ after → ⊥) → parse s ≡ refused 7 (lineDue σ)
+    state-found : StateDue σ → ((z : State) (after : List ℕ) → FlagsRight z → rest ≡ stateLine (length (σ .states)) z ++ after → ⊥) → parse s ≡ refused 7 (lineDue σ)
     unfolding sizes behind-states transitionLines statesAt
     state-found due none =
         let m : ℕ = σ .n - suc (length (σ .states)) in
@@ -169,13 +169,13 @@ module _ (s : List ℕ) (σ : Sheet) (rest : List ℕ) (above : Above s σ rest)
           parse-states ∙ ap (λ (p : Phase (List ℕ)). andThen p (λ t. passed (contents sizes named sets t))) phase
 
       -- a fault where a transition or END is due
-      pub end-found : {number line : ℕ} → EndFault (σ .n) (σ .k) (leastAfter 0 (σ .transitions)) rest (lineDue σ) number line → parse s ≡ refused number line
+      end-found : {number line : ℕ} → EndFault (σ .n) (σ .k) (leastAfter 0 (σ .transitions)) rest (lineDue σ) number line → parse s ≡ refused number line
       end-found fault =
           parse-transitions
           ∙ ap (λ (p : Phase (List ℕ)). andThen p (λ t. passed (contents sizes named sets t)))
           (transitions-fault s (σ .n) (σ .k) (length s - length (σ .transitions)) (lineDue σ) end (leastAfter 0 (σ .transitions)) table (rw from-end fault))
 
-      pub sheet-found : rest ≡ endLine → (c : Contents) × (parse s ≡ passed c)
+      sheet-found : rest ≡ endLine → (c : Contents) × (parse s ≡ passed c)
       sheet-found e = (
         contents sizes named sets table,
         parse-transitions

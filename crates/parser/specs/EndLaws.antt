@@ -14,7 +14,7 @@ use Rattle.format.specs.Format.{endLine}
 use Rattle.parser.specs.Phase.{Phase, refused, passed, endAt}
 
 module _ (s : List ℕ) (at : ℕ) where
-  abbrev pub NoEnd : Type 0
+  abbrev NoEnd : Type 0
   NoEnd = (after : List ℕ) → drop at s ≡ endLine ++ after → ⊥
 
   one-behind : (x y : List ℕ) → drop at s ≡ endLine ++ x → drop at s ≡ endLine ++ y → x ≡ y

@@ -23,11 +23,11 @@ use Rattle.parser.specs.StateLaws.{StatesOutcome, StatesRefused, StatesP
 use Rattle.parser.specs.TransitionLaws.{EndFault, wrong-transition, no-end, not-last, TransitionsOutcome, TransitionsRefused, TransitionsPassed, transitions-outcome}
 
 -- the upper part of a sheet
-abbrev pub upper : ℕ → ℕ → List (List ℕ) → List State → List Transition → Sheet
+abbrev upper : ℕ → ℕ → List (List ℕ) → List State → List Transition → Sheet
 upper n k names states transitions = record { n = n; k = k; names = names; states = states; transitions = transitions }
 
 -- the lines of each kind, one after the other
-pub upper-text :
+upper-text :
     (s r1 r2 r3 rest : List ℕ) (n k : ℕ) (names : List (List ℕ)) (states : List State) (transitions : List Transition) →
     s ≡ headLine n k ++ r1 → r1 ≡ nameLines 0 names ++ r2 → r2 ≡ stateLines 0 states ++ r3 → r3 ≡ transitionLines transitions ++ rest →
     s ≡ lines (upper n k names states transitions) ++ rest

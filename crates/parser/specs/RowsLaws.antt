@@ -15,7 +15,7 @@ use Rattle.parser.specs.Rows.{RowIs, HoldNames, FirstLike, FirstName}
 -- NAMES BY THEIR ROWS
 
 -- the first row that is like the row of x tells the first letter whose name x is
-pub first-name :
+first-name :
     (names : List (List ℕ)) (rows : List ℕ) (count : ℕ) (x : List ℕ) (l : ℕ) →
     length names ≡ count → HoldNames names rows → RowIs rows count x → FirstLike rows count l → FirstName names x l
 first-name names rows count x l n h k f = record {
@@ -30,7 +30,7 @@ first-name names rows count x l n h k f = record {
 
 module _ (names : List (List ℕ)) (rows : List ℕ) (l : ℕ) (x : List ℕ) (n : length names ≡ l) (fits : 24 * l + 24 ≤ length rows)
     (h : HoldNames names rows) (fx : IsName x) where
-  pub row-there : RowIs (sets rows (24 * l) (padded x)) l x
+  row-there : RowIs (sets rows (24 * l) (padded x)) l x
   row-there = record { is-name = fx; is = part-stored 24 rows (padded x) (24 * l) (padded-length x (fx .most)) fits }
 
   pub holds-still : HoldNames names (sets rows (24 * l) (padded x))

@@ -39,7 +39,7 @@ module _ (s : List ℕ) (at q : ℕ) where
       let f = fields-of s at 83 q (z .initial) (z .recurring) rest hq (omega arith) (omega arith) e in
       simp (f .opening, f .two, between-of (z .initial) (z .recurring) {least = 0} {most = 1} {least′ = 0} {most′ = 1} (omega arith, h .0, omega arith, h .1))
 
-  pub state-line-is : (i r : ℕ) → stateLineAt s at q ≡ S.Is i r → FlagsRight (flags i r) × (drop at s ≡ stateLine q (flags i r) ++ drop (at + 11) s)
+  state-line-is : (i r : ℕ) → stateLineAt s at q ≡ S.Is i r → FlagsRight (flags i r) × (drop at s ≡ stateLine q (flags i r) ++ drop (at + 11) s)
   unfolding stateLineAt stateLine column
   state-line-is i r e =
       let n = bad-is-not i r in

@@ -70,7 +70,7 @@ module _ (n k least : ℕ) where
         let (first, one) = numbered-parts s at 84 (t .from) (f .opening) in
         (first, simp (one, f .two) (right-of t h))
 
-    pub transition-line-is : (f l t : ℕ) → getD s at 0 ≡ 84 → transitionLineAt s at n k least ≡ T.Is f l t →
+    transition-line-is : (f l t : ℕ) → getD s at 0 ≡ 84 → transitionLineAt s at n k least ≡ T.Is f l t →
         TransitionRight n k least (transition f l t) × (drop at s ≡ transitionLine (transition f l t) ++ drop (at + 11) s)
     unfolding transitionLineAt transitionLine column
     transition-line-is f l t first e =

@@ -99,16 +99,16 @@ module _ (σ : Sheet) (all : length (σ .names) ≡ σ .k) (right : NamesRight [
       (sym (known-length σ (h .known)) ∙ length-append lead cycle)
 
   -- So a file has one fault, one plan, and not both
-  pub one-fault : (p : List ℕ) (n l m k : ℕ) → Faulty σ p n l → Faulty σ p m k → (n ≡ m) × (l ≡ k)
-  one-fault p n l m k f g = let e : refused n l ≡ refused m k = sym (fault-read p n l f) ∙ fault-read p m k g in (cc, cc)
+  pub fault-unique : (p : List ℕ) (n l m k : ℕ) → Faulty σ p n l → Faulty σ p m k → (n ≡ m) × (l ≡ k)
+  fault-unique p n l m k f g = let e : refused n l ≡ refused m k = sym (fault-read p n l f) ∙ fault-read p m k g in (cc, cc)
 
   pub plan-or-fault : (p lead cycle : List ℕ) (n l : ℕ) → PlanIs σ p lead cycle → Faulty σ p n l → ⊥
   plan-or-fault p lead cycle n l h f =
       let e : passed (contents (lengths (length lead) (length cycle)) (lead ++ cycle)) ≡ refused n l = sym (plan-read p lead cycle h) ∙ fault-read p n l f in
       let z : _≡_ {A = ℕ} 0 1 = cc in omega arith
 
-  pub one-plan : (p lead cycle lead′ cycle′ : List ℕ) → PlanIs σ p lead cycle → PlanIs σ p lead′ cycle′ → (lead ≡ lead′) × (cycle ≡ cycle′)
-  one-plan p lead cycle lead′ cycle′ h g = parted (read (sym (plan-read p lead cycle h) ∙ plan-read p lead′ cycle′ g))
+  pub plan-unique : (p lead cycle lead′ cycle′ : List ℕ) → PlanIs σ p lead cycle → PlanIs σ p lead′ cycle′ → (lead ≡ lead′) × (cycle ≡ cycle′)
+  plan-unique p lead cycle lead′ cycle′ h g = parted (read (sym (plan-read p lead cycle h) ∙ plan-read p lead′ cycle′ g))
     where
       read : passed (contents (lengths (length lead) (length cycle)) (lead ++ cycle)) ≡ passed (contents (lengths (length lead′) (length cycle′)) (lead′ ++ cycle′))
           → (length lead ≡ length lead′) × (lead ++ cycle ≡ lead′ ++ cycle′)

@@ -11,7 +11,7 @@ use Rattle.parser.specs.Phase.{letterOf}
 use Rattle.parser.specs.LetterLaws.{letter-first, letter-is, composed-at, distinct-at}
 
 -- names that are right are distinct after composing, by their letters
-pub names-apart : (earlier names : List (List ℕ)) → NamesRight earlier names
+names-apart : (earlier names : List (List ℕ)) → NamesRight earlier names
     → (i j : ℕ) → i < length earlier + j → j < length names → compose (getD (earlier ++ names) i []) ≡ compose (getD names j []) → ⊥
 names-apart earlier [] r i j h k e = omega arith
 names-apart earlier (x ∷ xs) r i zero h k e =

@@ -11,7 +11,7 @@ use Rattle.text.specs.SetsLaws.{part-stored, part-kept}
 use Rattle.rows.specs.Rows.{rowAt, digestOf, Index, Indexed, Sought, Found, Added}
 
 -- Place p of the walk: one more than a row with digest h, or 0. No row that is looked for stands at p or behind.
-pub record Walk (table : List ℕ) (m : ℕ) (row : List ℕ) (h p : ℕ) : Type 0 where
+pub record ChainWalk (table : List ℕ) (m : ℕ) (row : List ℕ) (h p : ℕ) : Type 0 where
   pub most : p ≤ m
   pub digest : (t : ℕ) → p ≡ t + 1 → digestOf (rowAt table t) ≡ h
   pub left : (t : ℕ) → t < m → rowAt table t ≡ row → t < p
@@ -20,14 +20,14 @@ module _ (table : List ℕ) (m : ℕ) (row : List ℕ) (h : ℕ) (head link : Li
   dig : (t : ℕ) → rowAt table t ≡ row → digestOf (rowAt table t) ≡ h
   dig t e = ap digestOf e ∙ sym (s .digest)
 
-  pub walk-begins : Walk table m row h (getD head h 0)
+  pub walk-begins : ChainWalk table m row h (getD head h 0)
   walk-begins = record {
     most = i .index .head-is h;
     digest = λ t e. i .index .head-of h t e;
     left = λ t k e. subst (λ (x : ℕ). t < getD head x 0) (dig t e) (i .index .last t k);
   }
 
-  pub walk-goes : (p t : ℕ) → Walk table m row h p → p ≡ t + 1 → (rowAt table t ≡ row → ⊥) → Walk table m row h (getD link t 0)
+  pub walk-goes : (p t : ℕ) → ChainWalk table m row h p → p ≡ t + 1 → (rowAt table t ≡ row → ⊥) → ChainWalk table m row h (getD link t 0)
   walk-goes p t w e f =
       let l = w .most in
       let k : t < m = omega arith in
@@ -41,7 +41,7 @@ module _ (table : List ℕ) (m : ℕ) (row : List ℕ) (h : ℕ) (head link : Li
             i .index .before u t (omega arith) k (dig u r ∙ sym (w .digest t e));
       }
 
-  pub walk-ends : Walk table m row h 0 → Found table m row m
+  pub walk-ends : ChainWalk table m row h 0 → Found table m row m
   walk-ends w = record { most = omega arith; is = λ k. absurd (omega arith); none = λ e t k r. let x = w .left t k r in omega arith }
 
 pub walk-finds : (table : List ℕ) (m : ℕ) (row : List ℕ) (t : ℕ) → t < m → rowAt table t ≡ row → Found table m row t

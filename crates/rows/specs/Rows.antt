@@ -8,7 +8,7 @@ use lib.Seq.{sets}
 use Rattle.text.specs.Choice.{choose}
 
 -- the cells of a row: document 01's "Tuple t has numbers 17t to 17t+16"
-abbrev pub rowCells : ℕ
+abbrev rowCells : ℕ
 rowCells = 17
 
 -- row t of a table

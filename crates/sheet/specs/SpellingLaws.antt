@@ -19,7 +19,7 @@ name-behind : (s : List ℕ) (at l : ℕ) (x rest : List ℕ) → drop at s ≡ 
 unfolding nameLine column
 name-behind s at l x rest e = stretch-rest s at (78 ∷ (column 3 l ++ (space ∷ []))) (x ++ (lf ∷ rest)) (e ∙ simp append-assoc)
 
-pub names-spelled :
+names-spelled :
     (names earlier : List (List ℕ)) (s rest : List ℕ) (at l : ℕ) → NamesRight earlier names → drop at s ≡ nameLines l names ++ rest →
     (i : ℕ) → i < length names → spelledAt s (lineBelow s at i) ≡ getD names i []
 unfolding nameLines spelledAt lineBelow

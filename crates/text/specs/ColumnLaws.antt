@@ -91,7 +91,7 @@ digit-small b =
     (lt-or-ge b 48)
 
 -- A column holds no 0 byte
-pub byte-positive : (i v : ℕ) → 0 < digitByte i v
+byte-positive : (i v : ℕ) → 0 < digitByte i v
 unfolding digitByte
 byte-positive zero v = omega arith
 byte-positive (suc i) v =

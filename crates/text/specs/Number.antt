@@ -32,9 +32,9 @@ abbrev pub withNumber : {A : Type 0} → Number → (ℕ → A) → A → A
 withNumber (Is v) go bad = go v
 withNumber Bad go bad = bad
 
--- does the line at `at` open with a letter and a number
+-- does the line at `at` open with a byte, which tells its kind, and a number
 unfoldable pub isNumbered : List ℕ → ℕ → ℕ → ℕ → Bool
-isNumbered s at letter v = eqb (getD s at 0) letter && withNumber (numberAt s (at + 1)) (λ n. eqb n v) false
+isNumbered s at kind v = eqb (getD s at 0) kind && withNumber (numberAt s (at + 1)) (λ n. eqb n v) false
 
 -- is a number from `least` to `most`
 abbrev pub isBetween : ℕ → ℕ → ℕ → Bool

@@ -25,14 +25,14 @@ value-written v h =
     let c : digitOf (digitByte 0 v) ≡ v / 1 % 10 = digit-of 0 v in
     omega arith
 
-pub read-written : (v : ℕ) → v < 1000 → numberOf (digitByte 2 v) (digitByte 1 v) (digitByte 0 v) ≡ Is v
+read-written : (v : ℕ) → v < 1000 → numberOf (digitByte 2 v) (digitByte 1 v) (digitByte 0 v) ≡ Is v
 unfolding numberOf
 read-written v h =
     rw value-written
     (simp (eq-eqb (digitByte 2 v) (digitByte 2 v) refl, eq-eqb (digitByte 1 v) (digitByte 1 v) refl, eq-eqb (digitByte 0 v) (digitByte 0 v) refl))
 
 -- THE LAW, one way: a number below 1000 in the three columns from `at` is read
-pub number-column : (s rest : List ℕ) (at v : ℕ) → v < 1000 → drop at s ≡ column 3 v ++ rest → numberAt s at ≡ Is v
+number-column : (s rest : List ℕ) (at v : ℕ) → v < 1000 → drop at s ≡ column 3 v ++ rest → numberAt s at ≡ Is v
 unfolding numberAt column
 number-column s rest at v h e =
     let a = goes-on s at _ _ e in
@@ -59,7 +59,7 @@ unfolding valueOf
 value-small a b c = omega (arith, digit-small a, digit-small b, digit-small c)
 
 -- three bytes that are read as v are the writing of v
-pub read-is-written :
+read-is-written :
     (a b c v : ℕ) → numberOf a b c ≡ Is v → (v < 1000) × (a ≡ digitByte 2 v) × (b ≡ digitByte 1 v) × (c ≡ digitByte 0 v)
 unfolding numberOf
 read-is-written a b c v p =

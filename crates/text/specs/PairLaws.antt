@@ -59,7 +59,7 @@ module _ (s : List ℕ) (at a b : ℕ) where
 
 -- A FIRST LINE: a word and two numbers
 module _ (s word : List ℕ) where
-  abbrev pub NoFirst : Type 0
+  abbrev NoFirst : Type 0
   NoFirst = (a b : ℕ) (rest : List ℕ) → a < 1000 → b < 1000 → s ≡ word ++ twoNumbers a b rest → ⊥
 
   pair-there : (a b : ℕ) (rest : List ℕ) → a < 1000 → b < 1000 → s ≡ word ++ twoNumbers a b rest → pairAt s (length word) ≡ Are a b

@@ -19,6 +19,11 @@ unfoldable pub firstThat : {A : Type 0} → (A → Bool) → List A → ℕ
 firstThat test [] = 0
 firstThat test (x ∷ xs) = choose (test x) 0 (suc (firstThat test xs))
 
+-- the numbers before the first zero
+unfoldable pub leading : List ℕ → List ℕ
+leading [] = []
+leading (x ∷ xs) = choose (eqb x 0) [] (x ∷ leading xs)
+
 -- number l is the first that is x; the list's length where none is
 pub record First {A : Type 0} (d : A) (xs : List A) (x : A) (l : ℕ) : Type 0 where
   pub most : l ≤ length xs

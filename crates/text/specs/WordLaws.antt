@@ -1,5 +1,5 @@
 -- A word stands at a place exactly if the file goes on with it there. Assumes nothing.
-use Prim.Native.Nat.{ℕ, suc, _+_, _<_, _≤_}
+use Prim.Native.Nat.{ℕ, zero, suc, _+_, _<_, _≤_}
 use mathlib.Core.Path.{_≡_, refl, sym, _∙_, ap}
 use mathlib.Core.Bool.{true, false, true≢false, and-eq-true-iff}
 use mathlib.Core.Logic.{_⊎_, ⊎-elim}
@@ -78,3 +78,9 @@ starts-is s at (b ∷ word) z e =
 -- where a word does not stand, the file does not go on with it
 pub no-word : (s : List ℕ) (at : ℕ) (word rest : List ℕ) → startsAt s at word ≡ false → drop at s ≡ word ++ rest → ⊥
 no-word s at word rest b e = true≢false (sym (starts-word s at word rest e) ∙ b)
+
+-- no number of a list without a zero is 0
+pub no-zero-at : (x : List ℕ) → noZero x ≡ true → (i : ℕ) → i < length x → getD x i 0 ≡ 0 → ⊥
+no-zero-at [] z i h e = omega arith
+no-zero-at (b ∷ x) z zero h e = eqb-false b 0 (neither (eqb b 0) (noZero x) z .0) e
+no-zero-at (b ∷ x) z (suc i) h e = no-zero-at x (neither (eqb b 0) (noZero x) z .1) i (omega arith) e

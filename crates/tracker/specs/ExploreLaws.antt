@@ -66,7 +66,7 @@ step-skips A c ts f = by (decLt (c / 8) (length ts)) (decLt (c % 8) (A .k))
     by (yes h) (no l) = rw (lt-ltb (c / 8) (length ts) h, le-ltb (c % 8) (A .k) (omega arith))
     by (no h) l = rw (le-ltb (c / 8) (length ts) (omega arith))
 
-pub step-adds : (A : Automaton) (c : ℕ) (ts : List Tuple) → c / 8 < length ts → c % 8 < A .k → step A c ts ≡ addNew ts (entered A ts c)
+step-adds : (A : Automaton) (c : ℕ) (ts : List Tuple) → c / 8 < length ts → c % 8 < A .k → step A c ts ≡ addNew ts (entered A ts c)
 unfolding step
 step-adds A c ts h l = rw (lt-ltb (c / 8) (length ts) h, lt-ltb (c % 8) (A .k) l)
 
@@ -129,7 +129,7 @@ module _ (A : Automaton) (m : ℕ) (ts us : List Tuple) (a : Agree A m ts us) wh
       }
 
 -- a tuple has one finding step
-pub found-once : (A : Automaton) (ts : List Tuple) (i c d : ℕ) → FoundBy A ts i c → FoundBy A ts i d → c ≡ d
+found-once : (A : Automaton) (ts : List Tuple) (i c d : ℕ) → FoundBy A ts i c → FoundBy A ts i d → c ≡ d
 found-once A ts i c d f g = by (decLt c d) (decLt d c)
   where
     by : Dec (c < d) → Dec (d < c) → c ≡ d
@@ -270,7 +270,7 @@ module _ (A : Automaton) (c : ℕ) (ts : List Tuple) (x : Explored A c ts) (h : 
     ordered = ordered-more;
   }
 
-pub explored-step : (A : Automaton) (c : ℕ) (ts us : List Tuple) → Explored A c ts → Stepped A c ts us → Explored A (suc c) us
+explored-step : (A : Automaton) (c : ℕ) (ts us : List Tuple) → Explored A c ts → Stepped A c ts us → Explored A (suc c) us
 unfolding us
 explored-step A c ts us x (Stepped.skip f e) = subst (Explored A (suc c)) (sym e) (explored-same A c ts x (λ h l. absurd (f h l)))
 explored-step A c ts us x (Stepped.old h l g e) = subst (Explored A (suc c)) (sym e) (explored-same A c ts x (λ h l. g))

@@ -70,7 +70,7 @@ row-written ts u n w e h =
 
 module _ (A : Automaton) (fits : Fits A) where
   -- every tuple that is found is as a step enters it
-  pub found-formed : (c i : ℕ) → i < length (found A c) → Formed A (tupleAt A (found A c) i)
+  found-formed : (c i : ℕ) → i < length (found A c) → Formed A (tupleAt A (found A c) i)
   found-formed c i h =
       reachable-all A (Formed A) (first-formed fits) (λ u l f k. next-formed fits l k u) (tupleAt A (found A c) i) (found-reachable A c i h)
 
@@ -96,7 +96,7 @@ module _ {A : Automaton} {room c m : ℕ} {tuples nexts head link : List ℕ} (f
       subst (Steps A (c % 8)) (sym (row-of (c / 8) h)) (formed-steps (f .fits) (c % 8) (s .letter) (found-formed A (f .fits) c (c / 8) (omega arith)))
 
   -- and the row that it gives
-  pub fill-enters : Taken A c m → row (next A (c % 8) (tupleOf (rowAt tuples (c / 8)))) ≡ row (entered A ts c)
+  fill-enters : Taken A c m → row (next A (c % 8) (tupleOf (rowAt tuples (c / 8)))) ≡ row (entered A ts c)
   fill-enters s =
       let e = f .count in
       let h = s .from in
@@ -114,7 +114,7 @@ module _ {A : Automaton} {room c m : ℕ} {tuples nexts head link : List ℕ} (f
   entered-formed : Taken A c m → Formed A (entered A ts c)
   entered-formed s = next-formed (f .fits) (c % 8) (s .letter) (tupleAt A ts (c / 8))
 
-  pub entered-cells : Taken A c m → length (row (entered A ts c)) ≡ 17
+  entered-cells : Taken A c m → length (row (entered A ts c)) ≡ 17
   entered-cells s = formed-length (f .fits) (entered-formed s)
 
   found-suc : found A (c + 1) ≡ step A c ts
@@ -145,7 +145,7 @@ module _ {A : Automaton} {room c m : ℕ} {tuples nexts head link : List ℕ} (f
   }
 
   -- there is no such letter
-  pub filled-skip : (c % 8 < A .k → ⊥) → Filled A room (c + 1) m tuples nexts head link
+  filled-skip : (c % 8 < A .k → ⊥) → Filled A room (c + 1) m tuples nexts head link
   filled-skip g =
       filled-same (found-suc ∙ step-skips A c ts (λ h l. g l)) nexts refl
       (record {
@@ -181,7 +181,7 @@ module _ {A : Automaton} {room c m : ℕ} {tuples nexts head link : List ℕ} (f
     nexts-more = record { next = λ d k g j. next-more d k j (ℕ-discrete d c); zero = λ d z. zero-more d z (ℕ-discrete d c) }
 
   -- the tuple entered has number t
-  pub filled-old : Taken A c m → (t : ℕ) → t < m → rowAt tuples t ≡ row (entered A ts c) → Filled A room (c + 1) m tuples (set nexts c t) head link
+  filled-old : Taken A c m → (t : ℕ) → t < m → rowAt tuples t ≡ row (entered A ts c) → Filled A room (c + 1) m tuples (set nexts c t) head link
   filled-old s t h e =
       let p = f .count in
       filled-same (found-suc ∙ step-keeps A c ts (t, omega arith, number-at s t h e)) (set nexts c t) (length-set nexts c t)
@@ -202,7 +202,7 @@ module _ {A : Automaton} {room c m : ℕ} {tuples nexts head link : List ℕ} (f
     us-length = length-more ts (entered A ts c) ∙ omega (arith, f .count)
 
     -- and there is no room for it
-    pub filled-over : room ≤ m → room < length (found A (c + 1))
+    filled-over : room ≤ m → room < length (found A (c + 1))
     filled-over h = omega (arith, ap length found-new, us-length)
 
     last-enters : tupleAt A us m ≡ entered A us c
@@ -232,7 +232,7 @@ module _ {A : Automaton} {room c m : ℕ} {tuples nexts head link : List ℕ} (f
           ∙ ap (λ (i : ℕ). rows us ++ replicate i 0) (sym p)
 
       -- and it is added
-      pub filled-new : Filled A room (c + 1) (m + 1) tuples' (set nexts c m) head' link'
+      filled-new : Filled A room (c + 1) (m + 1) tuples' (set nexts c m) head' link'
       filled-new = record {
         fits = f .fits;
         most = f .most;
@@ -246,7 +246,7 @@ module _ {A : Automaton} {room c m : ℕ} {tuples nexts head link : List ℕ} (f
       }
 
   -- every step of the tuples is taken
-  pub filled-all : (v : Store) → length (v .tuples) ≡ length tuples → length (v .nexts) ≡ length nexts → 8 * m ≤ c → Fitted A room v (store tuples nexts) m
+  filled-all : (v : Store) → length (v .tuples) ≡ length tuples → length (v .nexts) ≡ length nexts → 8 * m ≤ c → Fitted A room v (store tuples nexts) m
   filled-all v l g h =
       let p = f .count in
       let k = f .fits .range .3 in
@@ -321,7 +321,7 @@ first-row n x = by (ℕ-discrete x 0)
     by (yes e) = rw (eq-eqb x 0 e, e)
     by (no e) = rw (ne-eqb x 0 e)
 
-pub first-cells : (A : Automaton) → firstCells (A .n) (A .initial) ≡ row (first A)
+first-cells : (A : Automaton) → firstCells (A .n) (A .initial) ≡ row (first A)
 unfolding first firstCells
 first-cells A = first-row (A .n) (A .initial)
 
@@ -338,7 +338,7 @@ module _ (A : Automaton) (fits : Fits A) (room : ℕ) (v : Store) (r : RoomFits 
       a .is ∙ row-written [] (first A) (length (v .tuples)) tt (formed-length fits (first-formed fits)) (omega arith)
       ∙ ap (λ (i : ℕ). rows (first A ∷ []) ++ replicate (i - 17) 0) (sym first-length)
 
-  pub filled-first : Filled A room 0 1 tuples' (cleared (v .nexts)) head' link'
+  filled-first : Filled A room 0 1 tuples' (cleared (v .nexts)) head' link'
   unfolding found
   filled-first =
       let p = r .nexts in

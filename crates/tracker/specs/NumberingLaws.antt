@@ -26,11 +26,11 @@ word-snoc : (A : Automaton) (word : List ℕ) (l : ℕ) → Word A word → l < 
 word-snoc A [] l w h = (h, tt)
 word-snoc A (x ∷ word) l (g, w) h = (g, word-snoc A word l w h)
 
-pub reachable-first : (A : Automaton) → Reachable A (first A)
+reachable-first : (A : Automaton) → Reachable A (first A)
 unfolding after
 reachable-first A = record { word = []; letters = tt; is = refl }
 
-pub reachable-next : (A : Automaton) (u : Tuple) (l : ℕ) → Reachable A u → l < A .k → Reachable A (next A l u)
+reachable-next : (A : Automaton) (u : Tuple) (l : ℕ) → Reachable A u → l < A .k → Reachable A (next A l u)
 reachable-next A u l r h = record {
   word = r .word ++ (l ∷ []);
   letters = word-snoc A (r .word) l (r .letters) h;
@@ -68,7 +68,7 @@ module _ (A : Automaton) (ts : List Tuple) (begins : tupleAt A ts 0 ≡ first A)
           let g = f .from in
           subst (Reachable A) (f .enters) (reachable-next A (tupleAt A ts (c / 8)) (c % 8) (ih (c / 8) (omega arith) (omega arith)) (f .letter))
 
-  pub listed-reachable : (i : ℕ) → i < length ts → Reachable A (tupleAt A ts i)
+  listed-reachable : (i : ℕ) → i < length ts → Reachable A (tupleAt A ts i)
   listed-reachable i h = below-reachable (suc i) i (omega arith) h
 
 -- the tuples of a numbering are all reachable
@@ -173,7 +173,7 @@ module _ (A : Automaton) (ts : List Tuple) (n : Numbering A ts) where
   begins-step c us vs x b (Stepped.old h l g e) = subst (Begins A ts) (sym e) b
   begins-step c us vs x b (Stepped.new h l f e) = subst (Begins A ts) (sym e) (begins-new c us x b h l f)
 
-  pub found-begins : (c : ℕ) → Begins A ts (found A c)
+  found-begins : (c : ℕ) → Begins A ts (found A c)
   unfolding found
   found-begins zero = record { most = n .some; alike = λ i h. let e : i ≡ 0 = omega arith in rw e (sym (n .begins)) }
   found-begins (suc c) = begins-step c (found A c) (step A c (found A c)) (explored A c) (found-begins c) (stepped A c (found A c))
@@ -192,7 +192,7 @@ module _ (A : Automaton) (ts : List Tuple) (n : Numbering A ts) where
           absurd (behind c (found A c) x (found-begins c) m d (omega arith) h (omega arith) (v .from) (v .letter) (v .enters))
       by (no h) = omega (arith, found-begins (8 * length ts) .most)
 
-  pub numbering-is : ts ≡ found A (8 * length ts)
+  numbering-is : ts ≡ found A (8 * length ts)
   numbering-is =
       ext-getD (first A) ts (found A (8 * length ts)) (sym found-length)
       (λ i h. sym (found-begins (8 * length ts) .alike i (omega (arith, found-length))))

@@ -7,8 +7,9 @@ use native.Mathlib.Numerals.{add-one}
 use lib.ListN.{length, getD, set, take, drop, length-map}
 use lib.Seq.{take-suc, drop-cons, getD-at, set-at, length-take-le}
 use Rattle.automaton.specs.Successors.{successorsOf}
-use Rattle.tuple.specs.Row.{setCells, leading}
-use Rattle.tuple.specs.RowLaws.{leading-stop, leading-more}
+use Rattle.tuple.specs.Row.{setCells}
+use Rattle.text.specs.Search.{leading}
+use Rattle.text.specs.SearchLaws.{leading-stop, leading-more}
 use Rattle.tuple.specs.Parts.{Advanced}
 use Rattle.tuple.specs.UnionLaws.{behind-cons, behind-end}
 

@@ -1,11 +1,10 @@
 -- Document 01: "Tuple t has numbers 17t to 17t+16, sets 0 to 15 and then the colour".
 use Prim.Native.Nat.{ℕ, _-_, _<_}
 use mathlib.Core.Path.{_≡_}
-use mathlib.Core.Bool.{Bool, true, false}
 use mathlib.Core.List.{List, [], _∷_, _++_}
 use lib.ListN.{length, getD, take, replicate}
 use Rattle.automaton.specs.Automaton.{Automaton, Fits}
-use Rattle.sets.specs.Sets.{isEmpty}
+use Rattle.text.specs.Search.{leading}
 use Rattle.tuple.specs.Step.{Tuple}
 
 -- the cells of a row that hold sets; one more holds the colour
@@ -16,16 +15,7 @@ setCells = 16
 unfoldable pub row : Tuple → List ℕ
 row u = u .sets ++ (replicate (setCells - length (u .sets)) 0 ++ (u .colour ∷ []))
 
-unfoldable pub consUnless : Bool → ℕ → List ℕ → List ℕ
-consUnless true x sets = []
-consUnless false x sets = x ∷ sets
-
--- the sets before the first empty one
-unfoldable pub leading : List ℕ → List ℕ
-leading [] = []
-leading (x ∷ cells) = consUnless (isEmpty x) x (leading cells)
-
--- the tuple of a row
+-- the tuple of a row: its sets are those before the first empty one
 unfoldable pub tupleOf : List ℕ → Tuple
 tupleOf cells = record { sets = leading (take setCells cells); colour = getD cells setCells 0 }
 

@@ -1,46 +1,15 @@
 -- A tuple has one row, and a row one tuple. Assumes nothing.
 use Prim.Native.Nat.{ℕ, _+_, zero, suc, _-_, _≤_, _<_}
 use mathlib.Core.Path.{_≡_, refl, sym, ap, _∙_}
-use mathlib.Core.Bool.{Bool, true, false}
 use mathlib.Core.List.{List, [], _∷_, _++_, append-assoc}
 use native.Mathlib.Omega.{arith}
-use borrow.Author.Tests.{eq-eqb, ne-eqb}
 use lib.ListN.{length, getD, take, replicate, length-append, length-replicate, List·getD-append}
 use lib.Seq.{take-at, getD-at}
 use Rattle.automaton.specs.Automaton.{Automaton, Fits}
-use Rattle.sets.specs.Sets.{isEmpty}
+use Rattle.text.specs.Search.{leading}
+use Rattle.text.specs.SearchLaws.{leading-padded}
 use Rattle.tuple.specs.Step.{Tuple, setAt, Formed}
-use Rattle.tuple.specs.Row.{setCells, row, consUnless, leading, tupleOf, Steps}
-
--- The leading sets
-
-pub leading-stop : (x : ℕ) (cells : List ℕ) → x ≡ 0 → leading (x ∷ cells) ≡ []
-unfolding leading consUnless
-leading-stop x cells e = rw (eq-eqb x 0 e)
-
-pub leading-more : (x : ℕ) (cells : List ℕ) → (x ≡ 0 → ⊥) → leading (x ∷ cells) ≡ x ∷ leading cells
-unfolding leading consUnless
-leading-more x cells e = rw (ne-eqb x 0 e)
-
-pub leading-length : (cells : List ℕ) → length (leading cells) ≤ length cells
-unfolding leading consUnless
-leading-length [] = omega arith
-leading-length (x ∷ cells) = by (isEmpty x) (leading-length cells)
-  where
-    by : (b : Bool) → length (leading cells) ≤ length cells → length (consUnless b x (leading cells)) ≤ suc (length cells)
-    by true h = omega arith
-    by false h = omega arith
-
-leading-zeros : (k : ℕ) → leading (replicate k 0) ≡ []
-unfolding leading
-leading-zeros zero = refl
-leading-zeros (suc k) = leading-stop 0 (replicate k 0) refl
-
-leading-sets : (sets : List ℕ) (k : ℕ) → ((i : ℕ) → i < length sets → getD sets i 0 ≡ 0 → ⊥) → leading (sets ++ replicate k 0) ≡ sets
-leading-sets [] k full = leading-zeros k
-leading-sets (x ∷ sets) k full =
-    leading-more x (sets ++ replicate k 0) (full 0 (omega arith))
-    ∙ ap (λ (l : List ℕ). x ∷ l) (leading-sets sets k (λ i h. full (suc i) (omega arith)))
+use Rattle.tuple.specs.Row.{setCells, row, tupleOf, Steps}
 
 -- Rows
 
@@ -80,7 +49,7 @@ module _ (u : Tuple) (few : length (u .sets) ≤ setCells) where
   tuple-row : ((i : ℕ) → i < length (u .sets) → setAt (u .sets) i ≡ 0 → ⊥) → tupleOf (row u) ≡ u
   unfolding tupleOf
   tuple-row full =
-      let s : leading (take setCells (row u)) ≡ u .sets = rw row-front (leading-sets (u .sets) (setCells - length (u .sets)) full) in
+      let s : leading (take setCells (row u)) ≡ u .sets = rw row-front (leading-padded (u .sets) (setCells - length (u .sets)) full) in
       rw (s, row-colour)
 
 -- Tuples as steps enter them

@@ -15,8 +15,10 @@ use Rattle.tuple.specs.PassLaws.{turns-length}
 use Rattle.tuple.specs.CloseLaws.{closeUp-length}
 use Rattle.tuple.specs.PlaceLaws.{places-length}
 use Rattle.tuple.specs.TupleLaws.{next-formed}
-use Rattle.tuple.specs.Row.{setCells, row, leading, tupleOf, Steps}
-use Rattle.tuple.specs.RowLaws.{leading-length, row-length, row-set}
+use Rattle.tuple.specs.Row.{setCells, row, tupleOf, Steps}
+use Rattle.text.specs.Search.{leading}
+use Rattle.tuple.specs.RowLaws.{row-length, row-set}
+use Rattle.text.specs.SearchLaws.{leading-length}
 use Rattle.tuple.specs.Parts.{Advanced, Swept, Placed, settled}
 
 -- the pass does not touch place 0

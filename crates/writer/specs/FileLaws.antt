@@ -23,7 +23,7 @@ distinct-composed [] x d = tt
 distinct-composed (y ∷ ys) x d = ((λ e. d .0 (sym (compose-idempotent y) ∙ e ∙ compose-idempotent x)), distinct-composed ys x (d .1))
 
 -- names that are right are right when they are composed
-pub names-composed : (xs earlier : List (List ℕ)) → NamesRight earlier xs → NamesRight (map compose earlier) (map compose xs)
+names-composed : (xs earlier : List (List ℕ)) → NamesRight earlier xs → NamesRight (map compose earlier) (map compose xs)
 names-composed [] earlier r = tt
 names-composed (x ∷ xs) earlier r = (
   composed-name x (r .0),
@@ -40,7 +40,7 @@ names-most (x ∷ xs) earlier l r =
 
 -- The states
 
-pub states-right : (initial recurring n q : ℕ) → StatesRight (statesOf initial recurring q n)
+states-right : (initial recurring n q : ℕ) → StatesRight (statesOf initial recurring q n)
 unfolding statesOf
 states-right initial recurring zero q = tt
 states-right initial recurring (suc n) q = ((omega (arith, bit-lt initial q), omega (arith, bit-lt recurring q)), states-right initial recurring n (suc q))
@@ -55,7 +55,7 @@ module _ (A : Automaton) (fits : Fits A) where
       let edge = edge-of A fits (i / 16 % 8) (i / 128) (i % 16) (omega arith) (rw e m) in
       record { from = edge .from; letter = edge .letter; to = edge-state A fits (i / 16 % 8) (i / 128) (i % 16) edge; order = omega arith }
 
-  pub transitions-right : (left i least : ℕ) → least ≤ i → TransitionsRight (A .n) (A .k) least (transitionsOf (A .table) i left)
+  transitions-right : (left i least : ℕ) → least ≤ i → TransitionsRight (A .n) (A .k) least (transitionsOf (A .table) i left)
   unfolding transitionsOf
   transitions-right zero i least h = tt
   transitions-right (suc left) i least h =

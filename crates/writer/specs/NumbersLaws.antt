@@ -27,7 +27,7 @@ module _ (initial recurring : ℕ) (flag : State → ℕ) (x : ℕ) (reads : (q 
       rw (e, flags-sum m (suc q), reads q) (omega arith)
 
   -- the flags of n states give back the set that they were taken from
-  pub flags-back : (n : ℕ) → x < 2 ^ n → flagSet flag 0 (statesOf initial recurring 0 n) ≡ x
+  flags-back : (n : ℕ) → x < 2 ^ n → flagSet flag 0 (statesOf initial recurring 0 n) ≡ x
   unfolding setOf
   flags-back n h =
       let e = flags-sum n 0 in
@@ -100,7 +100,7 @@ module _ (T : List ℕ) where
       before (suc b) d = inserted-other table (placed i) c q (λ f g. d (omega arith))
 
   -- the transitions of a table of 128 sets of states below 16 give it back
-  pub table-back : 128 ≤ length T → ((c q : ℕ) → Member (getD T c 0) q → q < 16) → (empty : List ℕ) → length empty ≡ 128 → ((c : ℕ) → c < 128 → getD empty c 0 ≡ 0)
+  table-back : 128 ≤ length T → ((c q : ℕ) → Member (getD T c 0) q → q < 16) → (empty : List ℕ) → length empty ≡ 128 → ((c : ℕ) → c < 128 → getD empty c 0 ≡ 0)
       → tableOf empty (transitionsOf T 0 2048) ≡ take 128 T
   table-back h within empty k z =
       ext-getD 0 (tableOf empty (transitionsOf T 0 2048)) (take 128 T) (size ∙ sym (length-take-le 128 T h))

@@ -1,47 +1,34 @@
 -- A name in a row, byte by byte, and the lines of the names, row by row. Assumes nothing.
 use Prim.Native.Nat.{ℕ, zero, suc, _+_, _-_, _*_, _≤_, _<_}
 use mathlib.Core.Path.{_≡_, refl, sym, ap, ap₂, _∙_}
-use mathlib.Core.Bool.{true}
 use mathlib.Core.List.{List, [], _∷_, _++_}
 use native.Mathlib.Omega.{arith}
 use native.Mathlib.Numerals.{add-one}
 use native.Mathlib.Nat.{add-zero, zero-add, sub-eq-zero-of-le}
-use lib.ListN.{length, getD, take, drop, replicate, length-append}
+use lib.ListN.{length, getD, take, drop, length-append}
 use lib.Seq.{sets, drop-cons}
-use borrow.Author.Tests.{ne-eqb}
 use Rattle.text.specs.Bytes.{stretch}
-use Rattle.text.specs.Word.{noZero}
 use Rattle.text.specs.LeftLaws.{left-more}
+use Rattle.text.specs.Search.{leading}
+use Rattle.text.specs.SearchLaws.{leading-stop, leading-more, leading-first, leading-padded}
+use Rattle.text.specs.WordLaws.{no-zero-at}
 use Rattle.text.specs.SetsLaws.{sets-append}
 use Rattle.names.specs.NameLaws.{name-without}
 use Rattle.parser.specs.Rows.{HoldNames}
 use Rattle.format.specs.Format.{nameLine, nameLines}
 use Rattle.format.specs.FormatLaws.{name-length}
-use Rattle.writer.specs.RowNames.{upToZero, rowName, rowNames}
+use Rattle.writer.specs.RowNames.{rowName, rowNames}
 
 -- The name in a row
-
--- a name is the row's first bytes
-take-up-to : (x : List ℕ) (n : ℕ) → take (length (upToZero (take n x))) x ≡ upToZero (take n x)
-unfolding upToZero
-take-up-to x zero = refl
-take-up-to [] (suc n) = refl
-take-up-to (zero ∷ x) (suc n) = refl
-take-up-to (suc b ∷ x) (suc n) = ap (suc b ∷_) (take-up-to x n)
 
 pub row-is : (rows : List ℕ) (l n : ℕ) → n ≡ length (rowName rows l) → stretch rows (24 * l) (24 * l + n) ≡ rowName rows l
 row-is rows l n e =
     let f : 24 * l + n - 24 * l ≡ length (rowName rows l) = omega arith in
-    rw f (take-up-to (drop (24 * l) rows) 24)
-
-up-to-byte : (b : ℕ) (x : List ℕ) → (b ≡ 0 → ⊥) → upToZero (b ∷ x) ≡ b ∷ upToZero x
-unfolding upToZero
-up-to-byte zero x h = absurd (h refl)
-up-to-byte (suc b) x h = refl
+    rw f (leading-first (drop (24 * l) rows) 24)
 
 -- what is left of a row from its byte i on
 abbrev pub restOf : List ℕ → ℕ → ℕ → List ℕ
-restOf rows l i = upToZero (take (24 - i) (drop (24 * l + i) rows))
+restOf rows l i = leading (take (24 - i) (drop (24 * l + i) rows))
 
 module _ (rows : List ℕ) (l i : ℕ) (fits : 24 * l + 24 ≤ length rows) where
   rest-cons : i < 24 → take (24 - i) (drop (24 * l + i) rows) ≡ getD rows (24 * l + i) 0 ∷ take (24 - (i + 1)) (drop (24 * l + (i + 1)) rows)
@@ -51,14 +38,13 @@ module _ (rows : List ℕ) (l i : ℕ) (fits : 24 * l + 24 ≤ length rows) wher
       rw (drop-cons rows (24 * l + i) 0, left-more h, f)
 
   pub rest-zero : i < 24 → getD rows (24 * l + i) 0 ≡ 0 → length (restOf rows l i) ≡ 0
-  unfolding upToZero
-  rest-zero h z = rw (rest-cons h, z)
+  rest-zero h z = rw (rest-cons h) (ap length (leading-stop _ _ z))
 
   pub rest-byte : i < 24 → (getD rows (24 * l + i) 0 ≡ 0 → ⊥) → length (restOf rows l i) ≡ suc (length (restOf rows l (i + 1)))
-  rest-byte h z = rw (rest-cons h) (ap length (up-to-byte _ _ z))
+  rest-byte h z = rw (rest-cons h) (ap length (leading-more _ _ z))
 
   pub rest-none : 24 ≤ i → length (restOf rows l i) ≡ 0
-  unfolding upToZero
+  unfolding leading
   rest-none h = rw (sub-eq-zero-of-le h)
 
 pub rest-whole : (rows : List ℕ) (l : ℕ) → restOf rows l 0 ≡ rowName rows l
@@ -67,7 +53,7 @@ rest-whole rows l = rw add-zero
 -- The lines of the names
 
 module _ (rows : List ℕ) (k l : ℕ) where
-  pub names-next : l < k → nameLines l (rowNames rows l (k - l)) ≡ nameLine l (rowName rows l) ++ nameLines (l + 1) (rowNames rows (l + 1) (k - (l + 1)))
+  names-next : l < k → nameLines l (rowNames rows l (k - l)) ≡ nameLine l (rowName rows l) ++ nameLines (l + 1) (rowNames rows (l + 1) (k - (l + 1)))
   unfolding nameLines rowNames
   names-next h = rw (left-more h, add-one l)
 
@@ -88,13 +74,6 @@ module _ (rows : List ℕ) (k l : ℕ) where
 
 -- Rows that hold names
 
-up-to-padding : (x : List ℕ) (n : ℕ) → noZero x ≡ true → upToZero (x ++ replicate n 0) ≡ x
-unfolding upToZero
-up-to-padding [] zero h = refl
-up-to-padding [] (suc n) h = refl
-up-to-padding (zero ∷ x) n h = absurd (let z : _≡_ {A = ℕ} 0 1 = cc in omega arith)
-up-to-padding (suc b ∷ x) n h = ap (suc b ∷_) (up-to-padding x n (simp (ne-eqb (suc b) 0 (λ e. omega arith)) at h))
-
 rows-from : (rows : List ℕ) (left l : ℕ) (names : List (List ℕ)) → length names ≡ left → ((i : ℕ) → i < left → rowName rows (l + i) ≡ getD names i []) → rowNames rows l left ≡ names
 unfolding rowNames
 rows-from rows zero l [] e h = refl
@@ -109,4 +88,5 @@ pub rows-hold : (names : List (List ℕ)) (rows : List ℕ) (k : ℕ) → length
 rows-hold names rows k e holds = rows-from rows k 0 names e (λ i b. ap (rowName rows) (zero-add i) ∙ name i (omega arith))
   where
     name : (i : ℕ) → i < length names → rowName rows i ≡ getD names i []
-    name i b = ap upToZero (holds i b .is) ∙ up-to-padding (getD names i []) (24 - length (getD names i [])) (name-without 0 (getD names i []) (omega arith) (holds i b .is-name))
+    name i b = ap leading (holds i b .is)
+        ∙ leading-padded (getD names i []) (24 - length (getD names i [])) (no-zero-at (getD names i []) (name-without 0 (getD names i []) (omega arith) (holds i b .is-name)))

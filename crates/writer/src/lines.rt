@@ -33,12 +33,12 @@ pub fn put_name(out: &mut [u8], at: usize, letter: usize, name: &[u8]) -> usize
     behind + 1
 }
 
-// A letter and three numbers: the line of a state or of a transition.
-pub fn put_columns(out: &mut [u8], at: usize, letter: u8, a: usize, b: usize, c: usize)
+// The byte `kind` and three numbers: the line of a state or of a transition.
+pub fn put_columns(out: &mut [u8], at: usize, kind: u8, a: usize, b: usize, c: usize)
     requires { ⌜ at + 11 ≤ length (now out) ⌝ }
-    ensures { λ _. ⌜ now (out .exit) ≡ sets (now (out .entry)) at (threeNumbers letter a b c []) ⌝ }
+    ensures { λ _. ⌜ now (out .exit) ≡ sets (now (out .entry)) at (threeNumbers kind a b c []) ⌝ }
 {
-    out[at] = letter;
+    out[at] = kind;
     text::put_column(out, at + 1, 3, a);
     text::put_column(out, at + 4, 3, b);
     text::put_column(out, at + 7, 3, c);

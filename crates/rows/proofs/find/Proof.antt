@@ -2,13 +2,13 @@
 use Prim.Native.Nat.{_-_, _<_}
 use mathlib.Core.Path.{_≡_}
 use native.Mathlib.Omega.{arith}
-use Rattle.rows.specs.IndexLaws.{Walk, walk-begins, walk-goes, walk-ends, walk-finds}
+use Rattle.rows.specs.IndexLaws.{ChainWalk, walk-begins, walk-goes, walk-ends, walk-finds}
 use borrow.Author.Needs.{needs}
 use Rattle.rows.proofs.find.Statement.{statement}
 use Rattle.rows.proofs.find.Tie as tie
 
 abbrev Inv-loop : tie.InvT-loop
-Inv-loop table m row h head link p₀ p = Walk table m row h p
+Inv-loop table m row h head link p₀ p = ChainWalk table m row h p
 
 abbrev μ-loop : tie.MeasureT-loop
 μ-loop table m row h head link p₀ p = p

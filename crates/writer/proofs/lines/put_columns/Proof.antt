@@ -45,7 +45,7 @@ returns : tie.Need-returns
 returns c =
     let a = c .before .before .before .before .before .before .before .before .before .before .before .before .before .args in
     rw (c .before .before .put-column3 .ensures, c .before .before .before .before .before .before .put-column2 .ensures, c .before .before .before .before .before .before .before .before .before .before .put-column .ensures)
-    (columns-stored (now (a .out)) (a .at) (a .letter) (a .a) (a .b) (a .c))
+    (columns-stored (now (a .out)) (a .at) (a .kind) (a .a) (a .b) (a .c))
 
 pub put-columns-spec : {M : Type 1} → statement M
 put-columns-spec =
