@@ -52,14 +52,17 @@ transitionLine t = 84 ∷ (column 3 (t .from) ++ (column 3 (t .letter) ++ (colum
 abbrev pub endLine : List ℕ
 endLine = endWord ++ (lf ∷ [])
 
+-- the lines of names, from letter l on
 unfoldable pub nameLines : ℕ → List (List ℕ) → List ℕ
 nameLines l [] = []
 nameLines l (x ∷ xs) = nameLine l x ++ nameLines (suc l) xs
 
+-- those of states, from state q on
 unfoldable pub stateLines : ℕ → List State → List ℕ
 stateLines q [] = []
 stateLines q (z ∷ zs) = stateLine q z ++ stateLines (suc q) zs
 
+-- and those of transitions
 unfoldable pub transitionLines : List Transition → List ℕ
 transitionLines [] = []
 transitionLines (t ∷ ts) = transitionLine t ++ transitionLines ts

@@ -20,6 +20,7 @@ unfoldable pub tableOf : List ℕ → List Transition → List ℕ
 tableOf table [] = table
 tableOf table (t ∷ ts) = tableOf (inserted table t) ts
 
+-- a sheet as numbers
 unfoldable pub numbers : Sheet → Automaton
 numbers σ = record {
   n = σ .n;

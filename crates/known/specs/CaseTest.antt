@@ -72,6 +72,7 @@ right c =
     not (ltb most (length (c .sheet)))
     && (not (ltb mostPlan (length (c .plan))) && rightFile (parse (c .sheet)) (c .plan) (c .room) (c .expected))
 
+-- each case of a table is as expected
 unfoldable pub allRight : List Case → Bool
 allRight [] = true
 allRight (c ∷ cs) = right c && allRight cs

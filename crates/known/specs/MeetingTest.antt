@@ -8,9 +8,11 @@ use Rattle.sets.specs.Sets.{bit}
 use Rattle.automaton.specs.Automaton.{Automaton, successorSet}
 use Rattle.known.specs.Below.{all, any}
 
+-- q is a member of a set
 abbrev pub isMember : ℕ → ℕ → Bool
 isMember x q = eqb (bit x q) 1
 
+-- q has a transition to r on letter l
 unfoldable pub isEdge : Automaton → ℕ → ℕ → ℕ → Bool
 isEdge A l q r = ltb l (A .k) && (ltb q (A .n) && isMember (successorSet A q l) r)
 
@@ -35,12 +37,14 @@ noneUpTo A m = all m (λ t. not (joinAt A t))
 unfoldable pub isFree : Automaton → Bool
 isFree A = noneUpTo A (A .n * (A .n + 1) / 2)
 
+-- x is a walk on a word
 unfoldable pub isWalk : Automaton → List ℕ → List ℕ → Bool
 isWalk A word x =
     eqb (length x) (suc (length word))
     && (isMember (A .initial) (getD x 0 0)
     && all (length word) (λ s. isEdge A (getD word s 0) (getD x s 0) (getD x (suc s) 0)))
 
+-- two walks on a word differ somewhere and end in one state
 unfoldable pub doMeet : Automaton → List ℕ → List ℕ → List ℕ → Bool
 doMeet A word one other =
     isWalk A word one
@@ -48,5 +52,6 @@ doMeet A word one other =
     && (any (suc (length word)) (λ s. not (eqb (getD one s 0) (getD other s 0)))
     && eqb (getD one (length word) 0) (getD other (length word) 0)))
 
+-- two walks meet, and on no shorter word do two
 unfoldable pub isShortest : Automaton → List ℕ → List ℕ → List ℕ → Bool
 isShortest A word one other = ltb (length word) 137 && (doMeet A word one other && noneUpTo A (length word - 1))

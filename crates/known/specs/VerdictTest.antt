@@ -30,13 +30,16 @@ isRepeat A w m c b = ltb (earlierOf A w m c b) b && all b (λ j. not (ltb (earli
 unfoldable pub leastEntered : Automaton → (ℕ → ℕ) → ℕ → ℕ → ℕ
 leastEntered A w t u = lowest (λ s. run A w s .colour) (suc t) (u - suc t)
 
+-- the answer goes by the least colour
 unfoldable pub isAnswer : ℕ → Answer → Bool
 isAnswer least Yes = eqb (least % 2) 0
 isAnswer least No = eqb (least % 2) 1
 
+-- v is the least colour that is entered after t and up to u
 unfoldable pub isLeast : Automaton → (ℕ → ℕ) → ℕ → ℕ → ℕ → Bool
 isLeast A w t u least = ltb t u && eqb (leastEntered A w t u) least
 
+-- a verdict is the definition's
 unfoldable pub isVerdict : Automaton → (ℕ → ℕ) → ℕ → ℕ → Verdict → Bool
 isVerdict A w m c z =
     isRepeat A w m c (z .passes)

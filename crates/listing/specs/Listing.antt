@@ -22,6 +22,7 @@ tupleLine n k tuples nexts t =
     ++ (columns 6 (λ i. getD tuples (17 * t + i) 0) 0 n
     ++ (columns 5 (λ l. getD nexts (8 * t + l) 0) 0 k ++ (lf ∷ [])))))
 
+-- the lines of the tuples from t on
 unfoldable pub tupleLines : ℕ → ℕ → List ℕ → List ℕ → ℕ → ℕ → List ℕ
 tupleLines n k tuples nexts t zero = []
 tupleLines n k tuples nexts t (suc left) = tupleLine n k tuples nexts t ++ tupleLines n k tuples nexts (suc t) left

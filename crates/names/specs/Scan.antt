@@ -15,6 +15,7 @@ widthOf a b c =
     choose (eqb a 0xC3) (choose (isUmlaut b) 2 0)
     (choose (ltb a 0x21) 0 (choose (ltb 0x7E a) 0 (choose (isDecomposed a b c) 3 1)))
 
+-- the same of the bytes at a place
 unfoldable pub widthAt : List ℕ → ℕ → ℕ
 widthAt s at = widthOf (getD s at 0) (getD s (at + 1) 0) (getD s (at + 2) 0)
 

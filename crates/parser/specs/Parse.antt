@@ -26,9 +26,11 @@ use Rattle.parser.specs.declared.TransitionLine.the-variants as T
 
 -- THE FIRST LINE
 
+-- n and k
 abbrev pub sizes : ℕ → ℕ → Sizes
 sizes n k = record { n = n; k = k }
 
+-- n is 1 to 16 and k 1 to 8
 abbrev pub sheetBounds : Bounds
 sheetBounds = record { least = 1; most = 16; low = 1; high = 8 }
 
@@ -73,6 +75,7 @@ flagsOf i r = choose (isBetween 0 1 i && isBetween 0 1 r) (S.Is i r) S.Bad
 unfoldable pub stateLineAt : List ℕ → ℕ → ℕ → StateLine
 stateLineAt s at q = choose (isNumbered s at 83 q) (withPair (pairAt s (at + 4)) flagsOf S.Bad) S.Bad
 
+-- what to do with flags that were read, and what where there are none
 abbrev pub withFlags : {A : Type 0} → StateLine → (ℕ → ℕ → A) → A → A
 withFlags (S.Is i r) go bad = go i r
 withFlags S.Bad go bad = bad
@@ -98,6 +101,7 @@ unfoldable pub transitionLineAt : List ℕ → ℕ → ℕ → ℕ → ℕ → T
 transitionLineAt s at n k least =
     withNumber (numberAt s (at + 1)) (λ from. withPair (pairAt s (at + 4)) (λ letter to. transitionOf n k least from letter to) T.Bad) T.Bad
 
+-- the same of a transition
 abbrev pub withTransition : {A : Type 0} → TransitionLine → (Transition → A) → A → A
 withTransition (T.Is from letter to) go bad = go (record { from = from; letter = letter; to = to })
 withTransition T.Bad go bad = bad
@@ -125,6 +129,7 @@ pub record Contents : Type 0 where
   pub names : List (List ℕ)
   pub table : List ℕ
 
+-- what was read in each phase, put together
 abbrev pub contents : Sizes → Named → Sets → List ℕ → Contents
 contents z y q table = record {
   n = z .n;
@@ -135,13 +140,16 @@ contents z y q table = record {
   table = table;
 }
 
+-- the phases behind the state lines
 abbrev pub afterStates : List ℕ → Sizes → Named → Sets → Phase Contents
 afterStates s z y q =
     andThen (transitionsAt s (z .n) (z .k) (q .line) (q .at) 0 (replicate 128 0) (length s + 1)) (λ table. passed (contents z y q table))
 
+-- those behind the name lines
 abbrev pub afterNames : List ℕ → Sizes → Named → Phase Contents
 afterNames s z y = andThen (statesAt s (y .line) (y .at) 0 0 0 (z .n)) (afterStates s z y)
 
+-- those behind the first line
 abbrev pub afterHead : List ℕ → Sizes → Phase Contents
 afterHead s z = andThen (namesAt s 2 12 [] (z .k)) (afterNames s z)
 

@@ -28,6 +28,7 @@ use Rattle.parser.specs.Rows.{HoldNames}
 use Rattle.format.specs.Numbers.{numbers}
 use Rattle.automaton.specs.Lent.{lentTable}
 
+-- a first line
 abbrev pub firstAnswer : Phase (ℕ × ℕ) → First
 firstAnswer (refused number line) = R.Refused (refusal number line)
 firstAnswer (passed (a, b)) = R.Are a b
@@ -52,6 +53,7 @@ abbrev pub FlagsFit : StateLine → Type 0
 FlagsFit (S.Is i r) = (i ≤ 1) × (r ≤ 1)
 FlagsFit S.Bad = Unit
 
+-- the state lines
 abbrev pub statesAnswer : Phase Sets → States
 statesAnswer (refused number line) = Q.Refused (refusal number line)
 statesAnswer (passed q) = Q.Are q
@@ -66,6 +68,7 @@ abbrev pub TransitionFits : TransitionLine → Type 0
 TransitionFits (T.Is from letter to) = (from < 16) × (letter < 8) × (to < 16)
 TransitionFits T.Bad = Unit
 
+-- the last line
 abbrev pub endAnswer : Phase (List ℕ) → End
 endAnswer (refused number line) = E.Refused (refusal number line)
 endAnswer (passed done) = E.Reached

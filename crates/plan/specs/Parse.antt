@@ -16,11 +16,13 @@ use Rattle.plan.specs.declared.LetterLine.{LetterLine}
 use Rattle.plan.specs.declared.LetterLine.the-variants as L
 use Rattle.plan.specs.Plan.{planWord}
 
+-- how many letters lead-in and cycle have
 abbrev pub lengths : ℕ → ℕ → Lengths
 lengths lead cycle = record { lead = lead; cycle = cycle }
 
 -- THE FIRST LINE
 
+-- "a lead-in of 0 to 200 letters and a cycle of 1 to 200"
 abbrev pub planBounds : Bounds
 planBounds = record { least = 0; most = 200; low = 1; high = 200 }
 
@@ -36,6 +38,7 @@ pub record Lettered : Type 0 where
   pub at : ℕ
   pub line : ℕ
 
+-- letters, and where the next line stands
 abbrev pub lettered : List ℕ → ℕ → ℕ → Lettered
 lettered letters at line = record { letters = letters; at = at; line = line }
 
@@ -49,6 +52,7 @@ unfoldable pub letterLineAt : List (List ℕ) → List ℕ → ℕ → LetterLin
 letterLineAt names p at =
     withEnding (nameEndAt p at) (λ e. choose (ltb (letterFrom names p at e) (length names)) (L.Is (letterFrom names p at e) e) L.Unknown) L.Bad
 
+-- what to do with a letter that was read, with an unknown name, and where there is no name
 abbrev pub withLetter : {A : Type 0} → LetterLine → (ℕ → ℕ → A) → A → A → A
 withLetter (L.Is l e) go unknown bad = go l e
 withLetter L.Unknown go unknown bad = unknown
@@ -74,12 +78,15 @@ pub record Contents : Type 0 where
   pub cycle : ℕ
   pub letters : List ℕ
 
+-- what was read in each phase, put together
 abbrev pub contents : Lengths → List ℕ → Contents
 contents z letters = record { lead = z .lead; cycle = z .cycle; letters = letters }
 
+-- the phases behind the first line
 abbrev pub afterHead : List (List ℕ) → List ℕ → Lengths → Phase Contents
 afterHead names p z =
     andThen (lettersAt names p 2 11 [] (z .lead + z .cycle)) (λ y. andThen (endOf p y) (λ letters. passed (contents z letters)))
 
+-- the whole file
 unfoldable pub planOf : List (List ℕ) → List ℕ → Phase Contents
 planOf names p = andThen (headOf p) (afterHead names p)

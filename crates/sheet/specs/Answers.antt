@@ -27,6 +27,7 @@ pub record LettersOf (s rows : List ℕ) (a : Numbers) : Type 0 where
   pub all : length (map compose (sheet .names)) ≡ a .k
   pub holds : HoldNames (map compose (sheet .names)) rows
 
+-- the answer of questions 2 to 9 with the names in rows
 abbrev pub RowsRead : List ℕ → List ℕ → File → Type 0
 RowsRead s rows (F.Refused r) = (number : ℕ) × (line : ℕ) × Faulty s number line × (r ≡ refusal number line)
 RowsRead s rows (F.Is a) = LettersOf s rows a
@@ -39,6 +40,7 @@ pub record Accepts (s t u rows : List ℕ) (v w : Tables) (a : Numbers) : Type 0
   pub table : u ≡ lentTable (numbers (letters .sheet) .table) t
   pub clear : w ≡ clearedTables v
 
+-- the answer of questions 2 to 10, from tables that are cleared
 abbrev pub ReadsCleared : List ℕ → List ℕ → List ℕ → List ℕ → Tables → Tables → Read → Type 0
 ReadsCleared s t u rows v w (R.Refused r) = Refuses s v w r × (u ≡ cleared t)
 ReadsCleared s t u rows v w (R.Is a) = Accepts s t u rows v w a

@@ -14,9 +14,11 @@ use Rattle.text.specs.declared.Number.the-variants.{Is, Bad}
 unfoldable pub digitOf : ℕ → ℕ
 digitOf b = choose (ltb b 48) 0 (choose (ltb b 58) (b - 48) 0)
 
+-- what three bytes come to, read as digits
 unfoldable pub valueOf : ℕ → ℕ → ℕ → ℕ
 valueOf a b c = digitOf a * 100 + digitOf b * 10 + digitOf c
 
+-- the number that three bytes are, if they are its writing
 unfoldable pub numberOf : ℕ → ℕ → ℕ → Number
 numberOf a b c =
     choose (eqb a (digitByte 2 (valueOf a b c)))

@@ -6,6 +6,7 @@ use lib.ListN.{getD}
 use lib.Dec.{eqb}
 use Rattle.text.specs.Choice.{choose}
 
+-- does a word stand at a place
 unfoldable pub startsAt : List ℕ → ℕ → List ℕ → Bool
 startsAt s at [] = true
 startsAt s at (b ∷ word) = eqb (getD s at 0) b && startsAt s (at + 1) word

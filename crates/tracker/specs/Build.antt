@@ -24,6 +24,7 @@ pub record Store : Type 0 where
 abbrev pub store : List ℕ → List ℕ → Store
 store tuples nexts = record { tuples = tuples; nexts = nexts }
 
+-- both tables cleared
 abbrev pub clearedStore : Store → Store
 clearedStore v = record { tuples = cleared (v .tuples); nexts = cleared (v .nexts) }
 
