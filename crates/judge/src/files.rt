@@ -18,7 +18,7 @@ use sheet::letters::read_rows;
 use tracker::Built;
 
 // Questions 12 to 14, and the verdict.
-pub fn judge_plan(s: &[u8], p: &[u8], tuples: &[u16], nexts: &[u16], count: usize) -> Outcome
+fn judge_plan(s: &[u8], p: &[u8], tuples: &[u16], nexts: &[u16], count: usize) -> Outcome
     requires { ⌜ (length (now p) ≤ mostPlan) × TablesFit (now tuples) (now nexts) count ⌝ }
     ensures { λ r. ⌜ ((σ : Sheet) → FileIs (now (s .entry)) σ → PlanJudged σ (now (p .entry)) (now (tuples .entry)) (now (nexts .entry)) count r) ⌝ }
 {
@@ -52,15 +52,7 @@ fn too_long(
         (tables (now (word .entry)) (now (one .entry)) (now (other .entry))) (tables (now (word .exit)) (now (one .exit)) (now (other .exit)))
         (store (now (tuples .entry)) (now (nexts .entry))) (store (now (tuples .exit)) (now (nexts .exit))) r ⌝ }
 {
-    if tracker::enough(
-        room,
-        table.len(),
-        tuples.len(),
-        nexts.len(),
-        word.len(),
-        one.len(),
-        other.len(),
-    ) {
+    if tracker::enough(room, table, tuples, nexts, word, one, other) {
         gate::clear(table);
         gate::clear(tuples);
         gate::clear(nexts);

@@ -3,7 +3,7 @@ ghost use mathlib.Core.Path.{_≡_};
 ghost use Rattle.judge.specs.Passes.{isYes};
 
 pub mod files;
-pub mod table;
+mod table;
 
 use gate::Refusal;
 

@@ -166,7 +166,7 @@ fn diaeresis_at(s: &[u8], i: usize, end: usize) -> bool
 }
 
 // The composed bytes of the stretch from `start` to `end`, from `at` on. The answer is how many they are.
-pub fn put_composed(s: &[u8], start: usize, end: usize, out: &mut [u8], at: usize) -> usize
+fn put_composed(s: &[u8], start: usize, end: usize, out: &mut [u8], at: usize) -> usize
     requires { ⌜ Stretches (now s) start end × (at + length (compose (stretch (now s) start end)) ≤ length (now out)) ⌝ }
     ensures { λ r. ⌜ (now (out .exit) ≡ sets (now (out .entry)) at (compose (stretch (now (s .entry)) start end)))
         × (r ≡ length (compose (stretch (now (s .entry)) start end))) × (r ≤ end - start) ⌝ }

@@ -2,8 +2,8 @@
 pub mod first_line;
 pub mod last_line;
 pub mod name_lines;
-pub mod state_lines;
-pub mod transition_lines;
+mod state_lines;
+mod transition_lines;
 pub mod whole_file;
 
 use automaton::Numbers;

@@ -1,5 +1,5 @@
 // The plan file, read into letters.
-pub mod name_lines;
+mod name_lines;
 pub mod whole_file;
 
 use gate::Refusal;

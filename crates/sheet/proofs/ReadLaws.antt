@@ -1,6 +1,6 @@
 -- From the file and the walk check to the answer of reading. Assumes nothing.
 use Prim.Native.Nat.{ℕ, _-_, _≤_}
-use mathlib.Core.Path.{_≡_, refl, sym, _∙_, ap, subst}
+use mathlib.Core.Path.{_≡_, sym, _∙_, ap, subst}
 use mathlib.Core.List.{List, _++_}
 use mathlib.Core.Logic._⊎_.{inr}
 use native.Mathlib.Omega.{arith}
@@ -13,6 +13,7 @@ use Rattle.automaton.specs.Automaton.{Automaton, automaton, Fits}
 use Rattle.automaton.specs.declared.Numbers.{Numbers}
 use Rattle.automaton.specs.Meeting.{Everywhere}
 use Rattle.automaton.specs.Lent.{Tables, tables, Long, clearedTables, lentTable, Lengths}
+use Rattle.walks.specs.CheckLaws.{meets-answered}
 use Rattle.meeting.specs.Answer.{Asked, Answered}
 use Rattle.format.specs.Numbers.{numbers}
 use Rattle.format.specs.NumbersLaws.{sheet-fits, numbers-length, read-is}
@@ -58,14 +59,7 @@ module _ (s t u rows : List ℕ) (a : Numbers) (h : FileAccepted s t u rows a) w
 
       pub meeting-refuses : (r ≡ 0 → ⊥) → (u′ : List ℕ) → u′ ≡ cleared t → ReadsCleared s t u′ rows v w (R.Refused (record { number = 10; line = 0; length = r }))
       meeting-refuses e u′ z = (
-        read.Refuses.meeting (h .sheet) (h .file)
-            (record {
-              number = refl;
-              line = refl;
-              some = omega arith;
-              witness = answered .witness (omega arith);
-              lengths = answered .lengths;
-            }),
+        read.Refuses.meeting (h .sheet) (h .file) (meets-answered answered e),
         z,
       )
 
@@ -95,12 +89,10 @@ answered-cleared s t u rows v w (R.Is a) long j =
       j .clear ∙ tables-twice v,
     )
 
-module _ (t : List ℕ) (v : Tables) (t′ word one other : List ℕ) (et : t′ ≡ cleared t) (ew : word ≡ cleared (v .word)) (eo : one ≡ cleared (v .one))
-    (er : other ≡ cleared (v .other)) (long : Lengths t v) where
-  -- the tables once they are cleared
-  pub ready : (128 ≤ length t′) × (t′ ≡ cleared t′) × Long (tables word one other) × (tables word one other ≡ clearedTables (tables word one other))
-  ready =
-      rw (et, ew, eo, er) (rw (length-cleared t) (long .cells), sym (cleared-twice t), long-cleared v (long .long), sym (tables-twice v))
+-- the tables once they are cleared
+module _ {t t′ : List ℕ} {v v′ : Tables} (et : t′ ≡ cleared t) (ev : v′ ≡ clearedTables v) (long : Lengths t v) where
+  pub ready : (128 ≤ length t′) × (t′ ≡ cleared t′) × Long v′ × (v′ ≡ clearedTables v′)
+  ready = rw (et, ev) (rw (length-cleared t) (long .cells), sym (cleared-twice t), long-cleared v (long .long), sym (tables-twice v))
 
-  pub reads : (s u rows : List ℕ) (w : Tables) (r : Read) → ReadsCleared s t′ u rows (tables word one other) w r → read.Reads s t u v w r
-  reads s u rows w r j = answered-cleared s t u rows v w r long (rw (et, ew, eo, er) at j)
+  pub reads : (s u rows : List ℕ) (w : Tables) (r : Read) → ReadsCleared s t′ u rows v′ w r → read.Reads s t u v w r
+  reads s u rows w r j = answered-cleared s t u rows v w r long (rw (et, ev) at j)

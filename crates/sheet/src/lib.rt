@@ -1,6 +1,6 @@
 // The sheet file: read, its names given and found.
 pub mod letters;
-pub mod reading;
+mod reading;
 
 ghost use Rattle.automaton.specs.Lent.{tables};
 ghost use Rattle.sheet.specs.Read.{Reads};
@@ -33,22 +33,12 @@ pub fn read_sheet(
     ensures { λ r. ⌜ Reads (now (sheet .entry)) (now (table .entry)) (now (table .exit))
         (tables (now (word .entry)) (now (one .entry)) (now (other .entry))) (tables (now (word .exit)) (now (one .exit)) (now (other .exit))) r ⌝ }
 {
-    let short = Refusal {
-        number: 1,
-        line: 0,
-        length: 0,
-    };
-    if table.len() < 128 {
-        return Read::Refused(short);
-    }
-    if word.len() < 136 {
-        return Read::Refused(short);
-    }
-    if one.len() < 137 {
-        return Read::Refused(short);
-    }
-    if other.len() < 137 {
-        return Read::Refused(short);
+    if !walks::long_enough(table, word, one, other) {
+        return Read::Refused(Refusal {
+            number: 1,
+            line: 0,
+            length: 0,
+        });
     }
     gate::clear(table);
     gate::clear(word);

@@ -2,11 +2,10 @@
 use Prim.Native.Nat.{ℕ, _-_}
 use mathlib.Core.Path.{_≡_, refl, sym, subst}
 use mathlib.Core.List.{List}
-use mathlib.Core.Bool.{Bool, true, false}
 use mathlib.Core.Logic.{inl, inr}
 use native.Mathlib.Omega.{arith}
-use lib.ListN.{length, take}
-use Rattle.gate.specs.Gate.{cleared, Decides}
+use lib.ListN.{take}
+use Rattle.gate.specs.Gate.{cleared}
 use Rattle.gate.specs.declared.Refusal.{Refusal}
 use Rattle.automaton.specs.Automaton.{Automaton, automaton, Fits, AreNumbers}
 use Rattle.automaton.specs.Lent.{Tables, clearedTables, lentTable}
@@ -21,31 +20,6 @@ use Rattle.automaton.specs.declared.Numbers.{Numbers}
 use Rattle.tracker.specs.declared.Tracker.{Tracker}
 use Rattle.tracker.specs.declared.Built.the-variants.{Refused, Is}
 use Rattle.tracker.specs.Build.{Store, clearedStore, Lent, Fitted, Tracks, BuildsNumbers, Builds}
-use Rattle.tracker.specs.Fill.{Enough}
-
--- QUESTION 1 by the tables' lengths
-module _ {answer : Bool} {room : ℕ} {t : List ℕ} {v : Tables} {f : Store}
-    (decided : Decides answer (Enough room (length t) (length (f .tuples)) (length (f .nexts)) (length (v .word)) (length (v .one)) (length (v .other)))) where
-  pub lent-enough : answer ≡ true → Lent room t v f
-  lent-enough y =
-      let e = decided .0 y in
-      record {
-        lengths = record { cells = e .for-table; long = record { word = e .for-word; one = e .for-one; other = e .for-other } };
-        store = record { some = e .some; most = e .most; tuples = e .for-tuples; nexts = e .for-nexts };
-      }
-
-  pub lent-short : answer ≡ false → Lent room t v f → ⊥
-  lent-short n l =
-      decided .1 n (record {
-        some = l .store .some;
-        most = l .store .most;
-        for-tuples = l .store .tuples;
-        for-nexts = l .store .nexts;
-        for-table = l .lengths .cells;
-        for-word = l .lengths .long .word;
-        for-one = l .lengths .long .one;
-        for-other = l .lengths .long .other;
-      })
 
 -- FROM NUMBERS
 pub numbers-refused : {A : Automaton} {room : ℕ} {v w : Tables} {f g : Store} {r : Refusal} → Lent room (A .table) v f

@@ -1,7 +1,7 @@
 -- The tuples of a tracker in the order in which they are found: "tuple by tuple, letters ascending". These definitions compute; that they
 -- give the numbering of Numbering.antt is a theorem of NumberingLaws.antt.
 use Prim.Native.Nat.{ℕ, zero, suc, _/_, _%_}
-use mathlib.Core.Bool.{Bool, true, false, _&&_}
+use mathlib.Core.Bool.{Bool, _&&_}
 use mathlib.Core.List.{List, [], _∷_, _++_}
 use lib.Dec.{eqb, ltb}
 use lib.ListN.{length}

@@ -65,14 +65,3 @@ pub record Filling (A : Automaton) (room : ℕ) (v : Store) : Type 0 where
 pub record Fills (A : Automaton) (room : ℕ) (v w : Store) (r : ℕ) : Type 0 where
   pub fitting : r ≤ room → Fitted A room v w r
   pub over : room < r → MoreThan A room
-
--- QUESTION 1 of building, on the lengths of the lent tables
-pub record Enough (room table tuples nexts word one other : ℕ) : Type 0 where
-  pub some : 1 ≤ room
-  pub most : room ≤ 1024
-  pub for-tuples : 17 * room ≤ tuples
-  pub for-nexts : 8 * room ≤ nexts
-  pub for-table : 128 ≤ table
-  pub for-word : 136 ≤ word
-  pub for-one : 137 ≤ one
-  pub for-other : 137 ≤ other

@@ -8,8 +8,7 @@ use walks::Checked;
 ghost use Rattle.automaton.specs.Automaton.{automaton, Fits};
 ghost use Rattle.gate.specs.Gate.{Decides};
 ghost use Rattle.automaton.specs.Lent.{tables};
-ghost use Rattle.tracker.specs.Build.{store, RoomFits, Tracks, BuildsNumbers, Builds};
-ghost use Rattle.tracker.specs.Fill.{Enough};
+ghost use Rattle.tracker.specs.Build.{store, RoomFits, Lent, Tracks, BuildsNumbers, Builds};
 
 // A tracker that was built: the sheet's numbers, and how many tuples the tables hold.
 pub struct Tracker {
@@ -22,17 +21,18 @@ pub enum Built {
     Is(Tracker),
 }
 
-// Question 1, by the lengths of the lent tables.
+// Question 1 of a call that takes a sheet and a room.
 pub fn enough(
     room: usize,
-    table: usize,
-    tuples: usize,
-    nexts: usize,
-    word: usize,
-    one: usize,
-    other: usize,
+    table: &[u16],
+    tuples: &[u16],
+    nexts: &[u16],
+    word: &[u16],
+    one: &[u16],
+    other: &[u16],
 ) -> bool
-    ensures { λ r. ⌜ Decides r (Enough room table tuples nexts word one other) ⌝ }
+    ensures { λ r. ⌜ Decides r (Lent room (now (table .entry)) (tables (now (word .entry)) (now (one .entry)) (now (other .entry)))
+        (store (now (tuples .entry)) (now (nexts .entry)))) ⌝ }
 {
     if room < 1 {
         return false;
@@ -40,25 +40,13 @@ pub fn enough(
     if 1024 < room {
         return false;
     }
-    if tuples < rows::CELLS * room {
+    if tuples.len() < rows::CELLS * room {
         return false;
     }
-    if nexts < 8 * room {
+    if nexts.len() < 8 * room {
         return false;
     }
-    if table < 128 {
-        return false;
-    }
-    if word < 136 {
-        return false;
-    }
-    if one < 137 {
-        return false;
-    }
-    if other < 137 {
-        return false;
-    }
-    true
+    walks::long_enough(table, word, one, other)
 }
 
 // Question 11 on an automaton that fits, in tables with any contents.
@@ -98,15 +86,7 @@ pub fn build_numbers(
         (tables (now (word .entry)) (now (one .entry)) (now (other .entry))) (tables (now (word .exit)) (now (one .exit)) (now (other .exit)))
         (store (now (tuples .entry)) (now (nexts .entry))) (store (now (tuples .exit)) (now (nexts .exit))) r ⌝ }
 {
-    if enough(
-        room,
-        table.len(),
-        tuples.len(),
-        nexts.len(),
-        word.len(),
-        one.len(),
-        other.len(),
-    ) {
+    if enough(room, table, tuples, nexts, word, one, other) {
         if let Checked::Refused(r) = walks::check(a, table, word, one, other) {
             filling::clear(tuples, nexts);
             return Built::Refused(r);
@@ -135,15 +115,7 @@ pub fn build(
         (tables (now (word .entry)) (now (one .entry)) (now (other .entry))) (tables (now (word .exit)) (now (one .exit)) (now (other .exit)))
         (store (now (tuples .entry)) (now (nexts .entry))) (store (now (tuples .exit)) (now (nexts .exit))) r ⌝ }
 {
-    if enough(
-        room,
-        table.len(),
-        tuples.len(),
-        nexts.len(),
-        word.len(),
-        one.len(),
-        other.len(),
-    ) {
+    if enough(room, table, tuples, nexts, word, one, other) {
         match sheet::read_sheet(sheet, table, word, one, other) {
             Read::Refused(r) => {
                 filling::clear(tuples, nexts);

@@ -8,7 +8,7 @@ use lib.ListN.{length}
 use Rattle.gate.specs.Gate.{Zero, cleared}
 use Rattle.gate.specs.GateLaws.{zero-cleared}
 use Rattle.automaton.specs.Automaton.{Automaton, Fits}
-use Rattle.automaton.specs.Lent.{Tables, tables, Lengths, clearedTables, NumbersRefuse}
+use Rattle.automaton.specs.Lent.{Tables, tables, Lengths, clearedTables, Meets, NumbersRefuse}
 use Rattle.automaton.specs.LentLaws.{lengths-cleared, meets-cleared}
 use Rattle.automaton.specs.Meeting.{Everywhere}
 use Rattle.meeting.specs.Answer.{Answered}
@@ -16,10 +16,10 @@ use Rattle.walks.specs.declared.Checked.{Checked}
 use Rattle.walks.specs.declared.Checked.the-variants.{Refused, Free}
 use Rattle.walks.specs.Check.{Checks, ChecksCleared}
 
-judged : (A : Automaton) (v w : Tables) (c : Checked) → Lengths (A .table) v → ChecksCleared A (clearedTables v) w c → Checks A v w c
-judged A v w (Refused r) l (inl ((n, f, e), z)) = inr (l, NumbersRefuse.unfit n f e z)
-judged A v w (Refused r) l (inr (f, m)) = inr (l, NumbersRefuse.meeting f (meets-cleared v m))
-judged A v w Free l (f, x, z) = (l, f, x, z)
+checks-cleared : (A : Automaton) (v w : Tables) (c : Checked) → Lengths (A .table) v → ChecksCleared A (clearedTables v) w c → Checks A v w c
+checks-cleared A v w (Refused r) l (inl ((n, f, e), z)) = inr (l, NumbersRefuse.unfit n f e z)
+checks-cleared A v w (Refused r) l (inr (f, m)) = inr (l, NumbersRefuse.meeting f (meets-cleared v m))
+checks-cleared A v w Free l (f, x, z) = (l, f, x, z)
 
 -- the tables once they are cleared
 module _ {v w : Tables} (e : w ≡ clearedTables v) where
@@ -27,11 +27,12 @@ module _ {v w : Tables} (e : w ≡ clearedTables v) where
   ready l = rw e (lengths-cleared v l, zero-cleared (v .word), zero-cleared (v .one), zero-cleared (v .other))
 
   pub checked : (A : Automaton) → Lengths (A .table) v → (after : Tables) (c : Checked) → ChecksCleared A w after c → Checks A v after c
-  checked A l after c j = judged A v after c l (rw e at j)
+  checked A l after c j = checks-cleared A v after c l (rw e at j)
 
-module _ {A : Automaton} {v w : Tables} {r : ℕ} (f : Fits A) (a : Answered A Everywhere v w r) where
-  pub judge-free : r ≡ 0 → ChecksCleared A v w Free
-  judge-free e = (f, a .free e, a .kept e)
+-- question 10 answered
+module _ {A : Automaton} {v w : Tables} {r : ℕ} (a : Answered A Everywhere v w r) where
+  pub meets-answered : (r ≡ 0 → ⊥) → Meets A v w (record { number = 10; line = 0; length = r })
+  meets-answered e = record { number = refl; line = refl; some = omega arith; witness = a .witness (omega arith); lengths = a .lengths }
 
-  pub judge-meets : (r ≡ 0 → ⊥) → ChecksCleared A v w (Refused (record { number = 10; line = 0; length = r }))
-  judge-meets e = inr (f, record { number = refl; line = refl; some = omega arith; witness = a .witness (omega arith); lengths = a .lengths })
+  pub free-answered : Fits A → r ≡ 0 → ChecksCleared A v w Free
+  free-answered f e = (f, a .free e, a .kept e)

@@ -1,5 +1,5 @@
 // The walk check: question 10, and the whole check of a sheet that is handed over as numbers.
-ghost use Rattle.gate.specs.Gate.{Zero};
+ghost use Rattle.gate.specs.Gate.{Zero, Decides};
 ghost use Rattle.automaton.specs.Automaton.{automaton};
 ghost use Rattle.automaton.specs.Meeting.{Everywhere};
 ghost use Rattle.automaton.specs.Lent.{tables, Lengths};
@@ -21,6 +21,25 @@ pub fn ask(a: Numbers, table: &[u16], word: &mut [u16], one: &mut [u16], other: 
     ensures { λ r. ⌜ Answered (automaton a (now (table .entry))) Everywhere (tables (now (word .entry)) (now (one .entry)) (now (other .entry))) (tables (now (word .exit)) (now (one .exit)) (now (other .exit))) r ⌝ }
 {
     meeting::search(a, table, 65535, word, one, other)
+}
+
+// Question 1 of a call that takes a sheet.
+pub fn long_enough(table: &[u16], word: &[u16], one: &[u16], other: &[u16]) -> bool
+    ensures { λ r. ⌜ Decides r (Lengths (now (table .entry)) (tables (now (word .entry)) (now (one .entry)) (now (other .entry)))) ⌝ }
+{
+    if table.len() < 128 {
+        return false;
+    }
+    if word.len() < 136 {
+        return false;
+    }
+    if one.len() < 137 {
+        return false;
+    }
+    if other.len() < 137 {
+        return false;
+    }
+    true
 }
 
 // Questions 4, 7, 8 and 10, in tables that are long enough and all zero.
@@ -64,22 +83,12 @@ pub fn check(
 ) -> Checked
     ensures { λ r. ⌜ Checks (automaton a (now (table .entry))) (tables (now (word .entry)) (now (one .entry)) (now (other .entry))) (tables (now (word .exit)) (now (one .exit)) (now (other .exit))) r ⌝ }
 {
-    let short = Refusal {
-        number: 1,
-        line: 0,
-        length: 0,
-    };
-    if table.len() < 128 {
-        return Checked::Refused(short);
-    }
-    if word.len() < 136 {
-        return Checked::Refused(short);
-    }
-    if one.len() < 137 {
-        return Checked::Refused(short);
-    }
-    if other.len() < 137 {
-        return Checked::Refused(short);
+    if !long_enough(table, word, one, other) {
+        return Checked::Refused(Refusal {
+            number: 1,
+            line: 0,
+            length: 0,
+        });
     }
     gate::clear(word);
     gate::clear(one);

@@ -8,10 +8,10 @@ ghost use Rattle.automaton.specs.Lent.{tables};
 ghost use Rattle.writer.specs.Write.{Writes, WritesNumbers};
 ghost use Rattle.writer.specs.Text.{rowsText, Writable, PutNamed, Asks};
 
-pub mod lines;
-pub mod name_lines;
-pub mod state_lines;
-pub mod transition_lines;
+mod lines;
+mod name_lines;
+mod state_lines;
+mod transition_lines;
 
 use automaton::Numbers;
 use gate::Refusal;

@@ -1,34 +1,57 @@
--- Each length is asked before a table is touched; then the tables are cleared and the other questions asked. Assumes nothing.
-use mathlib.Core.Path.{refl}
+-- The lengths are asked before a table is touched; then the tables are cleared and the other questions asked. Assumes nothing.
+use mathlib.Core.Path.{_≡_, refl}
 use mathlib.Core.Logic._⊎_.{inl}
-use native.Mathlib.Omega.{arith}
-use denote.Ref.{now}
-use Rattle.automaton.specs.Lent.{tables, Lengths}
-use Rattle.sheet.proofs.ReadLaws as laws
+use borrow.Author.Tests.{not-true, not-false}
+use Rattle.automaton.specs.Lent.{Tables, tables, Lengths, clearedTables}
+use Rattle.automaton.specs.LentLaws.{tables-cleared}
+use Rattle.sheet.proofs.ReadLaws.{ready, reads}
 use borrow.Author.Needs.{needs}
 use Rattle.sheet.proofs.read_sheet.Statement.{statement}
 use Rattle.sheet.proofs.read_sheet.Tie as tie
 
--- the tables are long enough
-long : (c : tie.Else4) →
-    let a = c .before .before .before .before .before .before .before .before .before .args in
-    Lengths (now (a .table)) (tables (now (a .word)) (now (a .one)) (now (a .other)))
-long c = record {
-  cells = omega (arith, c .before .before .before .if1 .left);
-  long = record { word = omega (arith, c .before .before .if2 .left); one = omega (arith, c .before .if3 .left); other = omega (arith, c .if4 .left) };
-}
+abbrev start : tie.After-long-enough → tie.Start
+start c = c .before .before .before .before .before .before .before .before .before .before
+
+abbrev lent : tie.Start → Tables
+lent s = tables (s .args .word .now) (s .args .one .now) (s .args .other .now)
+
+-- the states in which the tables are cleared, one by one
+abbrev one-cleared : tie.After-clear4 → tie.After-clear3
+one-cleared c = c .before .before .before .before
+
+abbrev word-cleared : tie.After-clear4 → tie.After-clear2
+word-cleared c = one-cleared c .before .before .before .before
+
+abbrev table-cleared : tie.After-clear4 → tie.After-clear
+table-cleared c = word-cleared c .before .before .before .before
+
+abbrev asked : tie.After-clear4 → tie.Else1
+asked c = table-cleared c .before .before
+
+enough : (c : tie.Else1) → Lengths (start (c .before) .args .table .now) (lent (start (c .before)))
+enough c = c .before .long-enough .ensures .0 (not-false _ (c .if1 .left))
+
+empty : (c : tie.After-clear4) →
+    tables (word-cleared c .clear2 .last .0) (one-cleared c .clear3 .last .0) (c .clear4 .last .0) ≡ clearedTables (lent (start (asked c .before)))
+empty c = tables-cleared (lent (start (asked c .before))) (word-cleared c .clear2 .ensures) (one-cleared c .clear3 .ensures) (c .clear4 .ensures)
+
+long-enough-requires : tie.Need-long-enough-requires
+long-enough-requires c κs = search needs
+
+same-length : tie.Need-same-length
+same-length c = search needs
+
+same-length-2 : tie.Need-same-length-2
+same-length-2 c = search needs
+
+same-length-3 : tie.Need-same-length-3
+same-length-3 c = search needs
+
+same-length-4 : tie.Need-same-length-4
+same-length-4 c = search needs
 
 returns : tie.Need-returns
-returns c = inl (λ q. (let h = q .cells in omega arith), refl, refl, refl)
-
-returns-2 : tie.Need-returns-2
-returns-2 c = inl (λ q. (let h = q .long .word in omega arith), refl, refl, refl)
-
-returns-3 : tie.Need-returns-3
-returns-3 c = inl (λ q. (let h = q .long .one in omega arith), refl, refl, refl)
-
-returns-4 : tie.Need-returns-4
-returns-4 c = inl (λ q. (let h = q .long .other in omega arith), refl, refl, refl)
+returns c = inl (c .before .long-enough .ensures .1 (not-true _ (c .if1 .taken)), refl, refl, refl)
 
 clear-requires : tie.Need-clear-requires
 clear-requires c κs = search needs
@@ -47,53 +70,48 @@ slice-aggregate-read-cleared c = search needs
 
 read-cleared-requires : tie.Need-read-cleared-requires
 read-cleared-requires c κs =
-    let a = c .before .before .before .before .before .before .before .before .before .before .before .before .before .before .before .before .before .before .before .before .before .before .before .before .before .before .before .before .before .before .args in
-    let r =
-    laws.ready (now (a .table)) (tables (now (a .word)) (now (a .one)) (now (a .other)))
-    (c .before .before .before .before .before .before .before .before .before .before .before .before .before .before .before .before .before .before .before .clear .last .0) (c .before .before .before .before .before .before .before .before .before .before .before .before .before .before .before .clear2 .last .0) (c .before .before .before .before .before .before .before .before .before .before .before .clear3 .last .0) (c .before .before .before .before .before .before .before .clear4 .last .0)
-    (c .before .before .before .before .before .before .before .before .before .before .before .before .before .before .before .before .before .before .before .clear .ensures) (c .before .before .before .before .before .before .before .before .before .before .before .before .before .before .before .clear2 .ensures) (c .before .before .before .before .before .before .before .before .before .before .before .clear3 .ensures) (c .before .before .before .before .before .before .before .clear4 .ensures)
-    (long (c .before .before .before .before .before .before .before .before .before .before .before .before .before .before .before .before .before .before .before .before .before)) in
+    let k = c .before .before .before .before .before .before .before in
+    let r = ready (table-cleared k .clear .ensures) (empty k) (enough (asked k)) in
     (r .0, r .1, r .2, r .3, search needs)
 
-same-length : tie.Need-same-length
-same-length c = search needs
+same-length-5 : tie.Need-same-length-5
+same-length-5 c = search needs
 
-same-length-2 : tie.Need-same-length-2
-same-length-2 c = search needs
+same-length-6 : tie.Need-same-length-6
+same-length-6 c = search needs
 
-same-length-3 : tie.Need-same-length-3
-same-length-3 c = search needs
+same-length-7 : tie.Need-same-length-7
+same-length-7 c = search needs
 
-same-length-4 : tie.Need-same-length-4
-same-length-4 c = search needs
+same-length-8 : tie.Need-same-length-8
+same-length-8 c = search needs
 
-returns-5 : tie.Need-returns-5
-returns-5 c =
-    let a = c .before .before .before .before .before .before .before .before .before .before .before .before .before .before .before .before .before .before .before .before .before .before .before .before .before .before .before .before .before .before .before .before .before .before .before .before .before .before .before .before .args in
-    let g = c .before .before .before .before .before .before .before .before .before .read-cleared in
-    laws.reads (now (a .table)) (tables (now (a .word)) (now (a .one)) (now (a .other)))
-    (c .before .before .before .before .before .before .before .before .before .before .before .before .before .before .before .before .before .before .before .before .before .before .before .before .before .before .before .before .before .clear .last .0) (c .before .before .before .before .before .before .before .before .before .before .before .before .before .before .before .before .before .before .before .before .before .before .before .before .before .clear2 .last .0) (c .before .before .before .before .before .before .before .before .before .before .before .before .before .before .before .before .before .before .before .before .before .clear3 .last .0) (c .before .before .before .before .before .before .before .before .before .before .before .before .before .before .before .before .before .clear4 .last .0)
-    (c .before .before .before .before .before .before .before .before .before .before .before .before .before .before .before .before .before .before .before .before .before .before .before .before .before .before .before .before .before .clear .ensures) (c .before .before .before .before .before .before .before .before .before .before .before .before .before .before .before .before .before .before .before .before .before .before .before .before .before .clear2 .ensures) (c .before .before .before .before .before .before .before .before .before .before .before .before .before .before .before .before .before .before .before .before .before .clear3 .ensures) (c .before .before .before .before .before .before .before .before .before .before .before .before .before .before .before .before .before .clear4 .ensures)
-    (long (c .before .before .before .before .before .before .before .before .before .before .before .before .before .before .before .before .before .before .before .before .before .before .before .before .before .before .before .before .before .before .before))
-    (now (a .sheet)) (g .last .1 .0) (g .last .1 .1 .0)
+returns-2 : tie.Need-returns-2
+returns-2 c =
+    let read = c .before .before .before .before .before .before .before .before .before in
+    let k = read .before .before .before .before .before .before .before .before in
+    let g = read .read-cleared in
+    reads (table-cleared k .clear .ensures) (empty k) (enough (asked k)) (start (asked k .before) .args .sheet .now) (g .last .1 .0) (g .last .1 .1 .0)
     (tables (g .last .1 .1 .1 .0) (g .last .1 .1 .1 .1 .0) (g .last .1 .1 .1 .1 .1 .0)) (g .result) (g .ensures)
 
 pub read-sheet-spec : {M : Type 1} → statement M
 read-sheet-spec =
     tie.close
     (tie.spec
+    long-enough-requires
+    same-length
+    same-length-2
+    same-length-3
+    same-length-4
     returns
-    returns-2
-    returns-3
-    returns-4
     clear-requires
     clear-requires-2
     clear-requires-3
     clear-requires-4
     slice-aggregate-read-cleared
     read-cleared-requires
-    same-length
-    same-length-2
-    same-length-3
-    same-length-4
-    returns-5)
+    same-length-5
+    same-length-6
+    same-length-7
+    same-length-8
+    returns-2)

@@ -9,14 +9,14 @@ use Rattle.sheet.specs.Read.{Reads}
 use Rattle.sheet.specs.declared.Read.{Read}
 use Rattle.sheet.specs.declared.Read.the-variants.{Is}
 use Rattle.tracker.specs.Build.{store, Lent, Builds}
-use Rattle.tracker.specs.BuildLaws.{lent-enough, lent-short, read-fits, file-refused, file-over, file-is}
+use Rattle.tracker.specs.BuildLaws.{read-fits, file-refused, file-over, file-is}
 use borrow.Author.Needs.{needs}
 use Rattle.tracker.proofs.build.Statement.{statement}
 use Rattle.tracker.proofs.build.Tie as tie
 
 -- the start, from behind reading, and what is handed over
 abbrev begun : tie.After-read-sheet → tie.Start
-begun c = c .before .before .before .before .before .before .before .before .before .before .before .before .before .before
+begun c = c .before .before .before .before .before .before .before .before .before .before .before .before .before .before .before .before .before .before .before .before
 
 abbrev witness : tie.After-read-sheet → Tables
 witness c = let a = begun c .args in tables (a .word .now) (a .one .now) (a .other .now)
@@ -24,7 +24,7 @@ witness c = let a = begun c .args in tables (a .word .now) (a .one .now) (a .oth
 lent : (c : tie.After-read-sheet) →
     let a = begun c .args in
     Lent (a .room) (a .table .now) (witness c) (store (a .tuples .now) (a .nexts .now))
-lent c = let granted = c .before .before .before .before .before in lent-enough (granted .before .enough .ensures) (granted .if1 .taken)
+lent c = let granted = c .before .before .before .before .before in granted .before .enough .ensures .0 (granted .if1 .taken)
 
 abbrev left : tie.After-read-sheet → Tables
 left c = let w = c .read-sheet .last .1 .1 in tables (w .0) (w .1 .0) (w .1 .1 .0)
@@ -154,8 +154,26 @@ returns-3 c =
     let told = tracked .before .before .before .before .before in
     rw (c .enum-told2 .given .1) (file-is (lent (behind told)) (accepted told) (rw (c .enum-told2 .given .1) at (tracked .track .ensures)))
 
+same-length-19 : tie.Need-same-length-19
+same-length-19 c = search needs
+
+same-length-20 : tie.Need-same-length-20
+same-length-20 c = search needs
+
+same-length-21 : tie.Need-same-length-21
+same-length-21 c = search needs
+
+same-length-22 : tie.Need-same-length-22
+same-length-22 c = search needs
+
+same-length-23 : tie.Need-same-length-23
+same-length-23 c = search needs
+
+same-length-24 : tie.Need-same-length-24
+same-length-24 c = search needs
+
 returns-4 : tie.Need-returns-4
-returns-4 c = Builds.short (lent-short (c .before .enough .ensures) (c .if1 .left)) refl refl refl refl
+returns-4 c = Builds.short (c .before .enough .ensures .1 (c .if1 .left)) refl refl refl refl
 
 pub build-spec : {M : Type 1} → statement M
 build-spec =
@@ -193,4 +211,10 @@ build-spec =
     same-length-17
     same-length-18
     returns-3
+    same-length-19
+    same-length-20
+    same-length-21
+    same-length-22
+    same-length-23
+    same-length-24
     returns-4)

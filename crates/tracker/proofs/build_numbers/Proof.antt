@@ -6,14 +6,14 @@ use Rattle.walks.specs.Check.{Checks}
 use Rattle.walks.specs.declared.Checked.{Checked}
 use Rattle.walks.specs.declared.Checked.the-variants.{Free}
 use Rattle.tracker.specs.Build.{store, Lent, BuildsNumbers}
-use Rattle.tracker.specs.BuildLaws.{lent-enough, lent-short, numbers-refused}
+use Rattle.tracker.specs.BuildLaws.{numbers-refused}
 use borrow.Author.Needs.{needs}
 use Rattle.tracker.proofs.build_numbers.Statement.{statement}
 use Rattle.tracker.proofs.build_numbers.Tie as tie
 
 -- the start, from behind the check, and what is handed over
 abbrev begun : tie.After-check → tie.Start
-begun c = c .before .before .before .before .before .before .before .before .before .before .before .before
+begun c = c .before .before .before .before .before .before .before .before .before .before .before .before .before .before .before .before .before
 
 abbrev witness : tie.After-check → Tables
 witness c = let a = begun c .args in tables (a .word .now) (a .one .now) (a .other .now)
@@ -21,7 +21,7 @@ witness c = let a = begun c .args in tables (a .word .now) (a .one .now) (a .oth
 lent : (c : tie.After-check) →
     let a = begun c .args in
     Lent (a .room) (a .table .now) (witness c) (store (a .tuples .now) (a .nexts .now))
-lent c = let granted = c .before .before .before .before in lent-enough (granted .before .enough .ensures) (granted .if1 .taken)
+lent c = let granted = c .before .before .before .before in granted .before .enough .ensures .0 (granted .if1 .taken)
 
 abbrev Checked-as : tie.After-check → Checked → Type 0
 Checked-as c x =
@@ -100,8 +100,23 @@ returns-2 c =
     let (l, fits, free, cleared) = accepted told in
     BuildsNumbers.asked (lent (behind told)) fits free cleared (tracked .track .ensures)
 
+same-length-11 : tie.Need-same-length-11
+same-length-11 c = search needs
+
+same-length-12 : tie.Need-same-length-12
+same-length-12 c = search needs
+
+same-length-13 : tie.Need-same-length-13
+same-length-13 c = search needs
+
+same-length-14 : tie.Need-same-length-14
+same-length-14 c = search needs
+
+same-length-15 : tie.Need-same-length-15
+same-length-15 c = search needs
+
 returns-3 : tie.Need-returns-3
-returns-3 c = BuildsNumbers.short (lent-short (c .before .enough .ensures) (c .if1 .left)) refl refl refl
+returns-3 c = BuildsNumbers.short (c .before .enough .ensures .1 (c .if1 .left)) refl refl refl
 
 pub build-numbers-spec : {M : Type 1} → statement M
 build-numbers-spec =
@@ -125,4 +140,9 @@ build-numbers-spec =
     same-length-9
     same-length-10
     returns-2
+    same-length-11
+    same-length-12
+    same-length-13
+    same-length-14
+    same-length-15
     returns-3)

@@ -1,42 +1,37 @@
--- Each test that fails denies its part. Assumes nothing.
+-- Each test that fails denies its part; the rest is the sheet's lengths. Assumes nothing.
 use native.Mathlib.Omega.{arith}
-use Rattle.gate.specs.GateLaws.{decides-yes, decides-no}
+use Rattle.gate.specs.GateLaws.{decides-no}
 use borrow.Author.Needs.{needs}
 use Rattle.tracker.proofs.enough.Statement.{statement}
 use Rattle.tracker.proofs.enough.Tie as tie
 
 returns : tie.Need-returns
-returns c = decides-no (λ h. omega arith)
+returns c = decides-no (λ l. let z = l .store .some in omega arith)
 
 returns-2 : tie.Need-returns-2
-returns-2 c = decides-no (λ h. omega arith)
+returns-2 c = decides-no (λ l. let z = l .store .most in omega arith)
 
 mul-if3 : tie.Need-mul-if3
 mul-if3 c = search needs
 
 returns-3 : tie.Need-returns-3
-returns-3 c = decides-no (λ h. omega arith)
+returns-3 c = decides-no (λ l. let z = l .store .tuples in omega arith)
 
 mul-if4 : tie.Need-mul-if4
 mul-if4 c = search needs
 
 returns-4 : tie.Need-returns-4
-returns-4 c = decides-no (λ h. omega arith)
+returns-4 c = decides-no (λ l. let z = l .store .nexts in omega arith)
+
+long-enough-requires : tie.Need-long-enough-requires
+long-enough-requires c κs = search needs
 
 returns-5 : tie.Need-returns-5
-returns-5 c = decides-no (λ h. omega arith)
-
-returns-6 : tie.Need-returns-6
-returns-6 c = decides-no (λ h. omega arith)
-
-returns-7 : tie.Need-returns-7
-returns-7 c = decides-no (λ h. omega arith)
-
-returns-8 : tie.Need-returns-8
-returns-8 c = decides-no (λ h. omega arith)
-
-returns-9 : tie.Need-returns-9
-returns-9 c = decides-yes (omega arith)
+returns-5 c =
+    let long = c .long-enough .ensures in (
+      λ y. record { lengths = long .0 y; store = record { some = omega arith; most = omega arith; tuples = omega arith; nexts = omega arith } },
+      λ n l. long .1 n (l .lengths),
+    )
 
 pub enough-spec : {M : Type 1} → statement M
 enough-spec =
@@ -48,8 +43,5 @@ enough-spec =
     returns-3
     mul-if4
     returns-4
-    returns-5
-    returns-6
-    returns-7
-    returns-8
-    returns-9)
+    long-enough-requires
+    returns-5)

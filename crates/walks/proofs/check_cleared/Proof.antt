@@ -1,8 +1,8 @@
 -- The questions in their order; each answer is what its call ensures. Assumes nothing.
 use mathlib.Core.Path.{refl}
-use mathlib.Core.Logic.{inl}
+use mathlib.Core.Logic.{inl, inr}
 use Rattle.automaton.specs.Automaton.{automaton, Fits}
-use Rattle.walks.specs.CheckLaws.{judge-free, judge-meets}
+use Rattle.walks.specs.CheckLaws.{free-answered, meets-answered}
 use borrow.Author.Needs.{needs}
 use Rattle.walks.proofs.check_cleared.Statement.{statement}
 use Rattle.walks.proofs.check_cleared.Tie as tie
@@ -46,7 +46,7 @@ same-length-3 c = search needs
 returns-2 : tie.Need-returns-2
 returns-2 c =
     let g = asked (c .before) in
-    judge-free (fits (g .before .before .before .before)) (g .ask .ensures) (c .if2 .taken)
+    free-answered (g .ask .ensures) (fits (g .before .before .before .before)) (c .if2 .taken)
 
 same-length-4 : tie.Need-same-length-4
 same-length-4 c = search needs
@@ -60,7 +60,7 @@ same-length-6 c = search needs
 returns-3 : tie.Need-returns-3
 returns-3 c =
     let g = asked (c .before) in
-    judge-meets (fits (g .before .before .before .before)) (g .ask .ensures) (c .if2 .left)
+    inr (fits (g .before .before .before .before), meets-answered (g .ask .ensures) (c .if2 .left))
 
 pub check-cleared-spec : {M : Type 1} → statement M
 check-cleared-spec =

@@ -4,7 +4,6 @@ use mathlib.Core.Logic.{inl, inr}
 use Rattle.automaton.specs.LentLaws.{tables-cleared}
 use Rattle.automaton.specs.Lent.{tables}
 use Rattle.tracker.specs.Build.{store}
-use Rattle.tracker.specs.BuildLaws.{lent-enough, lent-short}
 use Rattle.judge.specs.VerdictLaws.{store-cleared}
 use borrow.Author.Needs.{needs}
 use Rattle.judge.proofs.files.too_long.Statement.{statement}
@@ -58,17 +57,35 @@ returns c =
     let second = third .before .before .before .before in
     let first = second .before .before .before .before in
     let granted = first .before .before in
-    let a = granted .before .before .before .before .before .before .before .before .args in
+    let a = granted .before .before .before .before .before .before .before .before .before .before .before .before .before .before .args in
     inr (
-      lent-enough (granted .before .enough .ensures) (granted .if1 .taken),
+      granted .before .enough .ensures .0 (granted .if1 .taken),
       refl,
       first .clear .ensures,
       tables-cleared (tables (a .word .now) (a .one .now) (a .other .now)) (fourth .clear4 .ensures) (fifth .clear5 .ensures) (sixth .clear6 .ensures),
       store-cleared (store (a .tuples .now) (a .nexts .now)) _ _ (second .clear2 .ensures) (third .clear3 .ensures),
     )
 
+same-length-7 : tie.Need-same-length-7
+same-length-7 c = search needs
+
+same-length-8 : tie.Need-same-length-8
+same-length-8 c = search needs
+
+same-length-9 : tie.Need-same-length-9
+same-length-9 c = search needs
+
+same-length-10 : tie.Need-same-length-10
+same-length-10 c = search needs
+
+same-length-11 : tie.Need-same-length-11
+same-length-11 c = search needs
+
+same-length-12 : tie.Need-same-length-12
+same-length-12 c = search needs
+
 returns-2 : tie.Need-returns-2
-returns-2 c = inl (lent-short (c .before .enough .ensures) (c .if1 .left), refl, refl, refl, refl)
+returns-2 c = inl (c .before .enough .ensures .1 (c .if1 .left), refl, refl, refl, refl)
 
 pub too-long-spec : {M : Type 1} → statement M
 too-long-spec =
@@ -88,4 +105,10 @@ too-long-spec =
     same-length-5
     same-length-6
     returns
+    same-length-7
+    same-length-8
+    same-length-9
+    same-length-10
+    same-length-11
+    same-length-12
     returns-2)
