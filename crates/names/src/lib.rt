@@ -1,9 +1,9 @@
 // The names of letters: where one ends, and the bytes that it composes to.
 ghost use mathlib.Core.Path.{_≡_};
-ghost use mathlib.Core.Bool.{true};
 ghost use Prim.Native.Nat.{_+_, _-_, _<_, _≤_, _^_};
 ghost use lib.ListN.{length};
 ghost use lib.Seq.{sets};
+ghost use Rattle.gate.specs.Gate.{Decides};
 ghost use Rattle.text.specs.Bytes.{stretch};
 ghost use Rattle.names.specs.Name.{oneOf, isUmlaut, isVowel, isDecomposed, umlautOf, IsName, compose};
 ghost use Rattle.names.specs.Scan.{widthOf, partsEnd, nameEndAt, nameFits};
@@ -139,7 +139,7 @@ pub fn name_end(s: &[u8], start: usize) -> Ending
 
 // Whether a slice is a name, with nothing behind it.
 pub fn is_name(name: &[u8]) -> bool
-    ensures { λ r. ⌜ (r ≡ true → IsName (now (name .entry))) × (IsName (now (name .entry)) → r ≡ true) ⌝ }
+    ensures { λ r. ⌜ Decides r (IsName (now (name .entry))) ⌝ }
 {
     let n = name.len();
     if n < 1 {
@@ -203,8 +203,7 @@ pub fn compose_into(s: &[u8], start: usize, end: usize, rows: &mut [u8], at: usi
 // Whether the rows at a and at b are equal.
 pub fn same_row(rows: &[u8], a: usize, b: usize) -> bool
     requires { ⌜ (a + 24 ≤ length (now rows)) × (b + 24 ≤ length (now rows)) ⌝ }
-    ensures { λ r. ⌜ (r ≡ true → row (now (rows .entry)) a ≡ row (now (rows .entry)) b)
-        × (row (now (rows .entry)) a ≡ row (now (rows .entry)) b → r ≡ true) ⌝ }
+    ensures { λ r. ⌜ Decides r (row (now (rows .entry)) a ≡ row (now (rows .entry)) b) ⌝ }
 {
     for i in 0..24usize {
         if rows[a + i] != rows[b + i] {

@@ -1,9 +1,9 @@
 -- `names::same_row` meets its contract: the cells passed are the same, `SameUpTo`. Assumes nothing.
 use Prim.Native.Nat.{_-_}
-use mathlib.Core.Path.{refl, sym, _∙_}
-use mathlib.Core.Bool.{false≢true}
+use mathlib.Core.Path.{sym, _∙_}
 use native.Mathlib.Omega.{arith}
 use denote.Ref.{now}
+use Rattle.gate.specs.GateLaws.{decides-yes, decides-no}
 use Rattle.text.specs.CellsLaws.{part-length, part-at, SameUpTo, same-none, same-more, same-all, same-cell}
 use Rattle.names.specs.Row.{row}
 use borrow.Author.Needs.{needs}
@@ -34,10 +34,8 @@ shared-slice-read-if1-2 c = search needs
 returns : tie.Need-returns Inv-loop μ-loop
 returns c =
     let i = c .before .before .before .before .loop .i in
-    let a = c .before .before .before .before .before .args in (
-      λ e. absurd (false≢true e),
-      λ e. absurd (c .if1 .taken (same-cell (now (a .rows)) (a .a) 24 (row (now (a .rows)) (a .b)) e i (omega arith) ∙ part-at (now (a .rows)) (a .b) 24 i (omega arith))),
-    )
+    let a = c .before .before .before .before .before .args in
+    decides-no (λ e. c .if1 .taken (same-cell (now (a .rows)) (a .a) 24 (row (now (a .rows)) (a .b)) e i (omega arith) ∙ part-at (now (a .rows)) (a .b) 24 i (omega arith)))
 
 add-i : tie.Need-add-i Inv-loop μ-loop
 add-i c = search needs
@@ -54,7 +52,7 @@ loop-again c =
 returns-2 : tie.Need-returns-2 Inv-loop μ-loop
 returns-2 c =
     let a = c .before .before .args in
-    (λ e. same-all (c .before .loop .inv) (omega arith) (omega arith) (part-length (now (a .rows)) (a .b) 24 (omega arith)), λ e. refl)
+    decides-yes (same-all (c .before .loop .inv) (omega arith) (omega arith) (part-length (now (a .rows)) (a .b) 24 (omega arith)))
 
 pub same-row-spec : {M : Type 1} → statement M
 same-row-spec =

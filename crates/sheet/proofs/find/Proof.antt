@@ -1,6 +1,5 @@
 -- The file is refused, or read and the name looked up in the rows of its letters. Assumes nothing.
-use mathlib.Core.Path.{_≡_, refl, sym, _∙_}
-use mathlib.Core.Bool.{true≢false}
+use mathlib.Core.Path.{_≡_, refl}
 use mathlib.Core.List.{map}
 use mathlib.Core.Logic._⊎_.{inl, inr}
 use native.Mathlib.Omega.{arith}
@@ -55,7 +54,7 @@ returns c =
       h .sheet,
       h .file,
       no-name h (now (c .before .before .before .before .before .before .before .before .before .before .args .name))
-          (λ is. true≢false (sym (c .before .is-name .ensures .1 is) ∙ not-true _ (c .if1 .taken))),
+          (c .before .is-name .ensures .1 (not-true _ (c .if1 .taken))),
       refl,
     )
 

@@ -1,7 +1,6 @@
 -- The loop's invariant: no row passed is like row `count`. Assumes nothing.
 use Prim.Native.Nat.{ℕ, _-_, _*_, _≤_, _<_}
-use mathlib.Core.Path.{_≡_, refl, sym, _∙_}
-use mathlib.Core.Bool.{true≢false}
+use mathlib.Core.Path.{_≡_, refl}
 use native.Mathlib.Omega.{arith}
 use borrow.Author.Count.{below-more}
 use Rattle.names.specs.Row.{row}
@@ -41,7 +40,7 @@ loop-less c = search needs
 loop-again : tie.Need-loop-again Inv-loop μ-loop
 loop-again c =
     let l = c .before .before .before .loop in
-    (search needs, below-more _ (l .l) (l .inv .1) (λ e. true≢false (sym (c .before .same-row .ensures .1 e) ∙ c .if1 .left)))
+    (search needs, below-more _ (l .l) (l .inv .1) (c .before .same-row .ensures .1 (c .if1 .left)))
 
 returns-2 : tie.Need-returns-2 Inv-loop μ-loop
 returns-2 c =
