@@ -22,7 +22,7 @@ use Rattle.judge.specs.Verdict.{Sound}
 use Rattle.judge.specs.TableRun.{LeastOf}
 use Rattle.judge.specs.LeastLaws.{least-down, least-lowest}
 
--- the colours colourEntered after t and up to u, by the letter that enters them
+-- the colours entered after t and up to u, by the letter that enters them
 entered-least : (A : Automaton) (w : ℕ → ℕ) (t u v : ℕ) → LeastColour A w t u v → LeastOf (colourEntered A w) t u v
 entered-least A w t u v h =
     least-down (λ s. run A w s .colour) t u v

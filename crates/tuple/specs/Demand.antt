@@ -1,4 +1,4 @@
--- The verdict is right: the least colour colourEntered without end is even exactly if the sheet passes the word. Assumes nothing.
+-- The verdict is right: the least colour entered without end is even exactly if the sheet passes the word. Assumes nothing.
 use Prim.Native.Nat.{ℕ, zero, suc, _+_, _%_, _≤_, _<_}
 use mathlib.Core.Path.{_≡_, sym, subst, ap, _∙_}
 use mathlib.Core.Logic.{_↔_}
@@ -87,7 +87,7 @@ module _ {A : Automaton} (fits : Fits A) (Counts : ℕ → Type 0) (count : (w x
       let e : suc (t + suc d) ≡ suc t + suc d = omega arith in
       ap (λ v. run A w v .colour) e ∙ ap (λ u. u .colour) (run-repeats A w T d word again (suc t) (omega arith))
 
-  -- The word and the tuples repeat from T on with period d + 1: the least colour colourEntered after T, up to and with T + d + 1, is even
+  -- The word and the tuples repeat from T on with period d + 1: the least colour entered after T, up to and with T + d + 1, is even
   -- exactly if the sheet passes the word.
   pub demand-counts : (T d : ℕ) → ((t : ℕ) → T ≤ t → w (t + suc d) ≡ w t) → run A w (T + suc d) ≡ run A w T
       → (lowest (colourEntered A w) T d % 2 ≡ 0) ↔ Passes A w
@@ -98,7 +98,7 @@ module _ {A : Automaton} (fits : Fits A) (Counts : ℕ → Type 0) (count : (w x
       let p = passes-both A w in
       (λ e. p .0 (r .0 e), λ h. r .1 (p .1 h))
 
-  -- Any endless word, with the premise LPO: there is a least colour colourEntered without end, and it is even exactly if the sheet passes the word.
+  -- Any endless word, with the premise LPO: there is a least colour entered without end, and it is even exactly if the sheet passes the word.
   pub least-colour : LPO → (c : ℕ) × Least (colourEntered A w) c
   least-colour lpo = least lpo (is-run fits w letters) (λ t. edge-dec A (w t)) (λ t j q. member-dec (setAt (run A w t .sets) j) q)
 

@@ -10,7 +10,7 @@ use Rattle.automaton.specs.Automaton.{Automaton, Edge}
 use Rattle.automaton.specs.Successors.{successorsOf}
 use Rattle.tuple.specs.Colour.{neutral, marked, emptied, dead}
 
--- "A tuple is n sets, the non-empty ones first, and the colour of the step that colourEntered it." Listed are the non-empty sets: their
+-- "A tuple is n sets, the non-empty ones first, and the colour of the step that entered it." Listed are the non-empty sets: their
 -- count is the list's length, and each place behind them is empty. "Tuples are equal when sets and colour are."
 pub record Tuple : Type 0 where
   pub sets : List ℕ
@@ -125,7 +125,7 @@ unfoldable pub run : Automaton → (ℕ → ℕ) → ℕ → Tuple
 run A w zero = first A
 run A w (suc t) = next A (w t) (run A w t)
 
--- the colour colourEntered on letter t: that of the step from tuple t to tuple t + 1
+-- the colour entered on letter t: that of the step from tuple t to tuple t + 1
 abbrev pub colourEntered : Automaton → (ℕ → ℕ) → ℕ → ℕ
 colourEntered A w t = run A w (suc t) .colour
 
