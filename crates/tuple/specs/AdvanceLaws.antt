@@ -7,7 +7,7 @@ use native.Mathlib.Numerals.{add-one}
 use lib.ListN.{length, getD, set, take, drop, length-map}
 use lib.Seq.{take-suc, drop-cons, getD-at, set-at, length-take-le}
 use Rattle.automaton.specs.Successors.{successorsOf}
-use Rattle.tuple.specs.Row.{setCells}
+use Rattle.tuple.specs.Row.{setCells, setsOf}
 use Rattle.text.specs.Search.{leading}
 use Rattle.text.specs.SearchLaws.{leading-stop, leading-more}
 use Rattle.tuple.specs.Parts.{Advanced}
@@ -15,7 +15,7 @@ use Rattle.tuple.specs.UnionLaws.{behind-cons, behind-end}
 
 -- the first i cells are sets, and replaced
 pub record Advancing (table : List ℕ) (l : ℕ) (cells result : List ℕ) (i : ℕ) : Type 0 where
-  pub leads : leading (take setCells cells) ≡ take i cells ++ leading (drop i (take setCells cells))
+  pub leads : setsOf cells ≡ take i cells ++ leading (drop i (take setCells cells))
   pub replaced : result ≡ map (successorsOf table l) (take i cells) ++ drop i cells
 
 module _ (table : List ℕ) (l : ℕ) (cells : List ℕ) (long : setCells < length cells) where
@@ -36,7 +36,7 @@ module _ (table : List ℕ) (l : ℕ) (cells : List ℕ) (long : setCells < leng
 
     stopped : i ≤ setCells → leading (drop i (take setCells cells)) ≡ [] → Advanced table l cells result i
     stopped h e =
-        let all : leading (take setCells cells) ≡ take i cells = a .leads ∙ rw (e, append-nil) in
+        let all : setsOf cells ≡ take i cells = a .leads ∙ rw (e, append-nil) in
         record { counted = rw all (sym (length-take-le i cells (omega arith))); replaced = rw all (a .replaced) }
 
     pub advance-stop : i < setCells → getD result i 0 ≡ 0 → Advanced table l cells result i

@@ -2,7 +2,7 @@
 use Prim.Native.Nat.{ℕ, zero, suc, _+_, _≤_, _<_, min}
 use mathlib.Core.Path.{_≡_, refl, _∙_}
 use mathlib.Core.Logic.{_⊎_, inl, inr}
-use mathlib.Core.Bool.{Bool, true, false, _&&_}
+use mathlib.Core.Bool.{Bool, true, false}
 use mathlib.Core.List.{List, [], _∷_}
 use native.Mathlib.Omega.{arith}
 use native.Mathlib.Decide.{decLe}
@@ -12,12 +12,8 @@ use Rattle.sets.specs.TestLaws.{none-of, empty-of}
 use Rattle.theory.specs.Run.{Some, None}
 use Rattle.tuple.specs.Colour.{neutral, marked, emptied, dead}
 use Rattle.sets.specs.Sets.{isEmpty}
-use Rattle.tuple.specs.Step.{Place, colourAt, least, deadOr, statesAt, colourOf}
+use Rattle.tuple.specs.Step.{Place, isEmptied, colourAt, least, deadOr, statesAt, colourOf}
 use Rattle.tuple.specs.PassLaws.{After, Marked, and-l, and-r, and-i}
-
--- is the place i, with set and mark after its turn, emptied, where p sets were non-empty before the step
-abbrev isEmptied : ℕ → ℕ → Place → Bool
-isEmptied p i x = isEmpty (x .states) && ltb i p
 
 -- The colour of one place
 
@@ -37,7 +33,7 @@ colour-gone n i false false f h = absurd h
 least-mark : (n p i : ℕ) (w : List Place) (j : ℕ) → Marked w j → least n p i w ≤ marked (i + j)
 unfolding least
 least-mark n p i [] j h = absurd h
-least-mark n p i (x ∷ w) zero h = omega (arith, colour-mark n i (x .mark) (isEmptied p i x) h)
+least-mark n p i (x ∷ w) zero h = omega (arith, colour-mark n i (x .mark) (isEmptied p i (x .states)) h)
 least-mark n p i (x ∷ w) (suc j) h = omega (arith, least-mark n p (suc i) w j h)
 
 least-gone : (n p i : ℕ) (w : List Place) (j : ℕ) → j < length w → (Marked w j → ⊥) → None (After w j) → i + j < p
@@ -45,8 +41,8 @@ least-gone : (n p i : ℕ) (w : List Place) (j : ℕ) → j < length w → (Mark
 unfolding least
 least-gone n p i [] j k f h l = absurd (omega arith)
 least-gone n p i (x ∷ w) zero k f h l =
-    let e : T (isEmptied p i x) = and-i (isEmpty (x .states)) (ltb i p) (rw (empty-of (x .states) h) tt) (lt→ltb i p (omega arith)) in
-    omega (arith, colour-gone n i (x .mark) (isEmptied p i x) f e)
+    let e : T (isEmptied p i (x .states)) = and-i (isEmpty (x .states)) (ltb i p) (rw (empty-of (x .states) h) tt) (lt→ltb i p (omega arith)) in
+    omega (arith, colour-gone n i (x .mark) (isEmptied p i (x .states)) f e)
 least-gone n p i (x ∷ w) (suc j) k f h l = omega (arith, least-gone n p (suc i) w j (omega arith) f h (omega arith))
 
 pub least-top : (n p i : ℕ) (w : List Place) → least n p i w ≤ neutral n
@@ -61,11 +57,11 @@ data Source (n p i : ℕ) (w : List Place) (c : ℕ) : Type 0 where
   from-gone : (j : ℕ) → None (After w j) → i + j < p → c ≡ emptied (i + j) → Source n p i w c
   from-none : c ≡ neutral n → Source n p i w c
 
-source-here : (n p i : ℕ) (x : Place) (w : List Place) (c : ℕ) → c ≡ colourAt n i (x .mark) (isEmptied p i x) → Source n p i (x ∷ w) c
+source-here : (n p i : ℕ) (x : Place) (w : List Place) (c : ℕ) → c ≡ colourAt n i (x .mark) (isEmptied p i (x .states)) → Source n p i (x ∷ w) c
 unfolding colourAt
-source-here n p i x w c = by (x .mark) (isEmptied p i x) (λ t. t) (λ t. t)
+source-here n p i x w c = by (x .mark) (isEmptied p i (x .states)) (λ t. t) (λ t. t)
   where
-    by : (m e : Bool) → (T m → T (x .mark)) → (T e → T (isEmptied p i x)) → c ≡ colourAt n i m e → Source n p i (x ∷ w) c
+    by : (m e : Bool) → (T m → T (x .mark)) → (T e → T (isEmptied p i (x .states))) → c ≡ colourAt n i m e → Source n p i (x ∷ w) c
     by true e f g h = from-mark 0 (f tt) (omega arith)
     by false true f g h =
         let l = ltb→lt i p (and-r (isEmpty (x .states)) (ltb i p) (g tt)) in
@@ -75,10 +71,10 @@ source-here n p i x w c = by (x .mark) (isEmptied p i x) (λ t. t) (λ t. t)
 least-source : (n p i : ℕ) (w : List Place) → Source n p i w (least n p i w)
 unfolding least
 least-source n p i [] = from-none refl
-least-source n p i (x ∷ w) = by (decLe (colourAt n i (x .mark) (isEmptied p i x)) (least n p (suc i) w)) (least-source n p (suc i) w)
+least-source n p i (x ∷ w) = by (decLe (colourAt n i (x .mark) (isEmptied p i (x .states))) (least n p (suc i) w)) (least-source n p (suc i) w)
   where
-    by : {d : ℕ} → Dec (colourAt n i (x .mark) (isEmptied p i x) ≤ d) → Source n p (suc i) w d
-        → Source n p i (x ∷ w) (min (colourAt n i (x .mark) (isEmptied p i x)) d)
+    by : {d : ℕ} → Dec (colourAt n i (x .mark) (isEmptied p i (x .states)) ≤ d) → Source n p (suc i) w d
+        → Source n p i (x ∷ w) (min (colourAt n i (x .mark) (isEmptied p i (x .states))) d)
     by (yes l) s = source-here n p i x w _ (omega arith)
     by (no l) (from-mark j k e) = from-mark (suc j) k (omega arith)
     by (no l) (from-gone j z k e) = from-gone (suc j) z (omega arith) (omega arith)

@@ -2,15 +2,15 @@
 -- Assumes nothing.
 use Prim.Native.Nat.{ℕ, zero, suc, _+_, _≤_, min}
 use mathlib.Core.Path.{_≡_, refl, sym, ap, ap₂, _∙_}
-use mathlib.Core.Bool.{Bool, true, false, not, _&&_}
+use mathlib.Core.Bool.{Bool, true, false}
 use mathlib.Core.List.{List, [], _∷_, _++_}
 use native.Mathlib.Omega.{arith}
 use borrow.Author.Tests.{le-ltb}
 use lib.Dec.{ltb}
 use lib.ListN.{length, replicate}
-use Rattle.sets.specs.Sets.{unionOf, minusOf, isWithin, isEmpty}
+use Rattle.sets.specs.Sets.{unionOf, minusOf, isEmpty}
 use Rattle.sets.specs.SetLaws.{union-zero, zero-minus}
-use Rattle.tuple.specs.Step.{unionAll, isMarked, minusEach, removed, Place, place, turns, pass, colourAt, least, deadOr, colourOf, unlessEmpty, closed, closeUp}
+use Rattle.tuple.specs.Step.{unionAll, isMarked, minusEach, removed, Place, place, turns, pass, isEmptied, colourAt, least, deadOr, colourOf, unlessEmpty, closed, closeUp}
 use Rattle.tuple.specs.PassLaws.{removed-length, pass-cons, turns-length}
 
 -- the places with k empty ones behind them
@@ -40,9 +40,8 @@ removed-padded true k x l = go l
     go [] = minus-zeros k x
     go (y ∷ l) = ap (λ (t : List ℕ). minusOf y x ∷ t) (go l)
 
-marked-padded : (k x : ℕ) (l : List ℕ) → isMarked x (padded k l) ≡ isMarked x l
-unfolding isMarked
-marked-padded k x l = ap (λ (u : ℕ). not (isEmpty x) && isWithin x u) (union-padded k l)
+marked-padded : (k x : ℕ) (l : List ℕ) → isMarked x (unionAll (padded k l)) ≡ isMarked x (unionAll l)
+marked-padded k x l = ap (isMarked x) (union-padded k l)
 
 pass-zeros : (k : ℕ) → pass (replicate k 0) ≡ replicate k (place 0 false)
 unfolding pass turns isMarked removed
@@ -56,7 +55,7 @@ pass-padded k zero [] h = pass-zeros k
 pass-padded k zero (x ∷ l) h = absurd (omega arith)
 pass-padded k (suc f) [] h = pass-zeros k
 pass-padded k (suc f) (x ∷ l) h =
-    let m = isMarked x l in
+    let m = isMarked x (unionAll l) in
     pass-cons x (padded k l)
     ∙ ap (λ (b : Bool). place x b ∷ pass (removed b x (padded k l))) (marked-padded k x l)
     ∙ ap (λ (r : List ℕ). place x m ∷ pass r) (removed-padded m k x l)
@@ -75,7 +74,7 @@ least-padded n p i zero [] h = refl
 least-padded n p i (suc k) [] h =
     let e : ltb i p ≡ false = le-ltb i p (omega arith) in
     rw (e, least-padded n p (suc i) k [] (omega arith)) (omega arith)
-least-padded n p i k (x ∷ w) h = ap (min (colourAt n i (x .mark) (isEmpty (x .states) && ltb i p))) (least-padded n p (suc i) k w (omega arith))
+least-padded n p i k (x ∷ w) h = ap (min (colourAt n i (x .mark) (isEmptied p i (x .states)))) (least-padded n p (suc i) k w (omega arith))
 
 -- the sets and the colour of the step are those of the places alone
 pub sets-padded : (k : ℕ) (l : List ℕ) → closeUp (pass (padded k l)) ≡ closeUp (pass l)

@@ -24,7 +24,7 @@ union-each o [] = sym (zero-minus o)
 union-each o (x ∷ l) = ap (unionOf (minusOf x o)) (union-each o l) ∙ union-minus x (unionAll l) o
 
 marked-left : (x o : ℕ) (l : List ℕ)
-    → isMarked (minusOf x o) (minusEach o l) ≡ (not (isEmpty (minusOf x o)) && isWithin (minusOf x o) (unionAll l))
+    → isMarked (minusOf x o) (unionAll (minusEach o l)) ≡ isMarked (minusOf x o) (unionAll l)
 unfolding isMarked
 marked-left x o l =
     ap (λ (b : Bool). not (isEmpty (minusOf x o)) && b) (ap (isWithin (minusOf x o)) (union-each o l) ∙ within-left x (unionAll l) o)
@@ -35,8 +35,8 @@ removed-left true x o l = minus-each o x l
 removed-left false x o l = refl
 
 -- one turn: o is removed from x and the places behind it
-pub pass-turn : (x o : ℕ) (m : Bool) (l : List ℕ) → m ≡ (not (isEmpty (minusOf x o)) && isWithin (minusOf x o) (unionAll l))
+pub pass-turn : (x o : ℕ) (m : Bool) (l : List ℕ) → m ≡ isMarked (minusOf x o) (unionAll l)
     → pass (minusEach o (x ∷ l)) ≡ place (minusOf x o) m ∷ pass (minusEach (outOf m o (minusOf x o)) l)
 pass-turn x o m l e =
-    let k : isMarked (minusOf x o) (minusEach o l) ≡ m = marked-left x o l ∙ sym e in
+    let k : isMarked (minusOf x o) (unionAll (minusEach o l)) ≡ m = marked-left x o l ∙ sym e in
     pass-cons (minusOf x o) (minusEach o l) ∙ rw (k, removed-left m (minusOf x o) o l)

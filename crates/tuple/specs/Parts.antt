@@ -9,7 +9,7 @@ use Rattle.sets.specs.Sets.{unionOf}
 use Rattle.automaton.specs.Automaton.{Automaton}
 use Rattle.automaton.specs.Successors.{successorsOf}
 use Rattle.tuple.specs.Step.{places, unionAll, least, pass, colourOf, closeUp}
-use Rattle.tuple.specs.Row.{setCells}
+use Rattle.tuple.specs.Row.{setCells, setsOf}
 use Rattle.text.specs.Search.{leading}
 
 -- what is removed from all later places, after the turn of a place with set x
@@ -19,8 +19,8 @@ outOf false out x = out
 
 -- the leading sets of the cells are replaced by their successors, and counted
 pub record Advanced (table : List ℕ) (l : ℕ) (cells result : List ℕ) (count : ℕ) : Type 0 where
-  pub counted : count ≡ length (leading (take setCells cells))
-  pub replaced : result ≡ map (successorsOf table l) (leading (take setCells cells)) ++ drop count cells
+  pub counted : count ≡ length (setsOf cells)
+  pub replaced : result ≡ map (successorsOf table l) (setsOf cells) ++ drop count cells
 
 -- cell j of later has the members of the places behind j, of the first count places
 abbrev pub Unions : ℕ → List ℕ → List ℕ → Type 0
@@ -34,8 +34,8 @@ pub record Swept (n p count : ℕ) (cells result : List ℕ) (colour : ℕ) : Ty
 
 -- points 1 and 2: the places before the marking pass, p of them with successors
 pub record Placed (A : Automaton) (l : ℕ) (cells result : List ℕ) (p : ℕ) : Type 0 where
-  pub counted : p ≡ length (leading (take setCells cells))
-  pub places-put : result ≡ places A l (leading (take setCells cells)) ++ drop (p + 1) cells
+  pub counted : p ≡ length (setsOf cells)
+  pub places-put : result ≡ places A l (setsOf cells) ++ drop (p + 1) cells
 
 -- points 3 to 5 over the first p + 1 places, and the colour in the last cell
 abbrev pub settled : ℕ → ℕ → List ℕ → List ℕ

@@ -94,25 +94,25 @@ removed-length false x l = refl
 
 -- the places behind x after its turn
 abbrev rest : ℕ → List ℕ → List ℕ
-rest x l = removed (isMarked x l) x l
+rest x l = removed (isMarked x (unionAll l)) x l
 
 rest-in : (x : ℕ) (l : List ℕ) (j r : ℕ) → In (rest x l) j r → In l j r
-rest-in x l = removed-in (isMarked x l) x l
+rest-in x l = removed-in (isMarked x (unionAll l)) x l
 
-rest-out : (x : ℕ) (l : List ℕ) (j r : ℕ) → T (isMarked x l) → In (rest x l) j r → Member x r → ⊥
-rest-out x l = removed-out (isMarked x l) x l
+rest-out : (x : ℕ) (l : List ℕ) (j r : ℕ) → T (isMarked x (unionAll l)) → In (rest x l) j r → Member x r → ⊥
+rest-out x l = removed-out (isMarked x (unionAll l)) x l
 
-rest-keep : (x : ℕ) (l : List ℕ) (j r : ℕ) → In l j r → In (rest x l) j r ⊎ (T (isMarked x l) × Member x r)
-rest-keep x l = removed-keep (isMarked x l) x l
+rest-keep : (x : ℕ) (l : List ℕ) (j r : ℕ) → In l j r → In (rest x l) j r ⊎ (T (isMarked x (unionAll l)) × Member x r)
+rest-keep x l = removed-keep (isMarked x (unionAll l)) x l
 
 rest-length : (x : ℕ) (l : List ℕ) → length (rest x l) ≡ length l
-rest-length x l = removed-length (isMarked x l) x l
+rest-length x l = removed-length (isMarked x (unionAll l)) x l
 
 -- The pass, place by place
 
-pub pass-cons : (x : ℕ) (l : List ℕ) → pass (x ∷ l) ≡ place x (isMarked x l) ∷ pass (removed (isMarked x l) x l)
+pub pass-cons : (x : ℕ) (l : List ℕ) → pass (x ∷ l) ≡ place x (isMarked x (unionAll l)) ∷ pass (removed (isMarked x (unionAll l)) x l)
 unfolding pass turns
-pass-cons x l = ap (λ (k : ℕ). place x (isMarked x l) ∷ turns k (rest x l)) (sym (rest-length x l))
+pass-cons x l = ap (λ (k : ℕ). place x (isMarked x (unionAll l)) ∷ turns k (rest x l)) (sym (rest-length x l))
 
 -- F3: the pass adds nothing
 pub kept : (k : ℕ) (l : List ℕ) (j r : ℕ) → After (turns k l) j r → In l j r
@@ -132,7 +132,7 @@ gone (suc k) [] f j r h = inl h
 gone (suc k) (x ∷ l) f zero r h = inl h
 gone (suc k) (x ∷ l) f (suc j) r h = by (rest-keep x l j r h) (λ a. gone k (rest x l) (let e = rest-length x l in omega arith) j r a)
   where
-    by : In (rest x l) j r ⊎ (T (isMarked x l) × Member x r)
+    by : In (rest x l) j r ⊎ (T (isMarked x (unionAll l)) × Member x r)
         → (In (rest x l) j r → After (turns k (rest x l)) j r ⊎ ((i : ℕ) × (i < j) × Marked (turns k (rest x l)) i × After (turns k (rest x l)) i r))
         → After (turns (suc k) (x ∷ l)) (suc j) r ⊎ ((i : ℕ) × (i < suc j) × Marked (turns (suc k) (x ∷ l)) i × After (turns (suc k) (x ∷ l)) i r)
     by (inr (a, b)) ih = inr (0, omega arith, a, b)
@@ -184,13 +184,13 @@ own (suc k) (x ∷ l) zero r w = by (two (isWithin x (unionAll l)))
     full : T (not (isEmpty x))
     full = not-T (isEmpty x) (λ e. none-of x e r w)
 
-    priv : (y : ℕ) → (has-l : (j : ℕ) → In (rest x l) j y → ⊥) → (j : ℕ) → 0 < j → After (place x (isMarked x l) ∷ turns k (rest x l)) j y
+    priv : (y : ℕ) → (has-l : (j : ℕ) → In (rest x l) j y → ⊥) → (j : ℕ) → 0 < j → After (place x (isMarked x (unionAll l)) ∷ turns k (rest x l)) j y
         → ⊥
     priv y f zero m v = omega arith
     priv y f (suc j) m v = f j (kept k (rest x l) j y v)
 
     by : T (isWithin x (unionAll l)) ⊎ T (not (isWithin x (unionAll l)))
-        → (y : ℕ) × Member x y × ((j : ℕ) → 0 < j → After (place x (isMarked x l) ∷ turns k (rest x l)) j y → ⊥)
+        → (y : ℕ) × Member x y × ((j : ℕ) → 0 < j → After (place x (isMarked x (unionAll l)) ∷ turns k (rest x l)) j y → ⊥)
     by (inl e) = (r, w, priv r (λ j v. rest-out x l j r (and-i (not (isEmpty x)) (isWithin x (unionAll l)) full e) v w))
     by (inr e) = let (y, a, b) = outside x (unionAll l) e in (y, a, priv y (λ j v. b (union-all-of l j y (rest-in x l j y v))))
 

@@ -15,9 +15,13 @@ setCells = 16
 unfoldable pub row : Tuple → List ℕ
 row u = u .sets ++ (replicate (setCells - length (u .sets)) 0 ++ (u .colour ∷ []))
 
--- the tuple of a row: its sets are those before the first empty one
+-- the sets of a row, those before the first empty one
+abbrev pub setsOf : List ℕ → List ℕ
+setsOf cells = leading (take setCells cells)
+
+-- the tuple of a row
 unfoldable pub tupleOf : List ℕ → Tuple
-tupleOf cells = record { sets = leading (take setCells cells); colour = getD cells setCells 0 }
+tupleOf cells = record { sets = setsOf cells; colour = getD cells setCells 0 }
 
 -- what a step asks: the numbers fit, the letter is one of the sheet's, and the cells are the row of a tuple
 pub record Steps (A : Automaton) (l : ℕ) (cells : List ℕ) : Type 0 where

@@ -6,10 +6,9 @@ use native.Mathlib.Omega.{arith}
 use lib.ListN.{length, getD, take, replicate, length-append, length-replicate, List·getD-append}
 use lib.Seq.{take-at, getD-at}
 use Rattle.automaton.specs.Automaton.{Automaton, Fits}
-use Rattle.text.specs.Search.{leading}
 use Rattle.text.specs.SearchLaws.{leading-padded}
 use Rattle.tuple.specs.Step.{Tuple, setAt, Formed}
-use Rattle.tuple.specs.Row.{setCells, row, tupleOf, Steps}
+use Rattle.tuple.specs.Row.{setCells, setsOf, row, tupleOf, Steps}
 
 -- Rows
 
@@ -49,7 +48,7 @@ module _ (u : Tuple) (few : length (u .sets) ≤ setCells) where
   tuple-row : ((i : ℕ) → i < length (u .sets) → setAt (u .sets) i ≡ 0 → ⊥) → tupleOf (row u) ≡ u
   unfolding tupleOf
   tuple-row full =
-      let s : leading (take setCells (row u)) ≡ u .sets = rw row-front (leading-padded (u .sets) (setCells - length (u .sets)) full) in
+      let s : setsOf (row u) ≡ u .sets = rw row-front (leading-padded (u .sets) (setCells - length (u .sets)) full) in
       rw (s, row-colour)
 
 -- Tuples as steps enter them

@@ -43,9 +43,9 @@ unfoldable pub unionAll : List ℕ → ℕ
 unionAll [] = 0
 unionAll (x ∷ later) = unionOf x (unionAll later)
 
--- 3. "place i is marked if its set is non-empty and each member lies in some later place"
-unfoldable pub isMarked : ℕ → List ℕ → Bool
-isMarked x later = not (isEmpty x) && isWithin x (unionAll later)
+-- 3. "place i is marked if its set is non-empty and each member lies in some later place", where later has the members of those
+unfoldable pub isMarked : ℕ → ℕ → Bool
+isMarked x later = not (isEmpty x) && isWithin x later
 
 -- x removed from each of these places
 abbrev pub minusEach : ℕ → List ℕ → List ℕ
@@ -68,23 +68,29 @@ place x m = record { states = x; mark = m }
 unfoldable pub turns : ℕ → List ℕ → List Place
 turns zero sets = []
 turns (suc k) [] = []
-turns (suc k) (x ∷ later) = place x (isMarked x later) ∷ turns k (removed (isMarked x later) x later)
+turns (suc k) (x ∷ later) =
+    let m = isMarked x (unionAll later) in
+    place x m ∷ turns k (removed m x later)
 
 -- the marking pass over all places
 unfoldable pub pass : List ℕ → List Place
 pass sets = turns (length sets) sets
 
--- 4. the colour of place i: is it marked, is it emptied
+-- 4. is place i, with set x now, "non-empty before the step and empty now"? The first p places were non-empty before the step.
+abbrev pub isEmptied : ℕ → ℕ → ℕ → Bool
+isEmptied p i x = isEmpty x && ltb i p
+
+-- the colour of place i: is it marked, is it emptied
 unfoldable pub colourAt : ℕ → ℕ → Bool → Bool → ℕ
 colourAt n i true e = marked i
 colourAt n i false true = emptied i
 colourAt n i false false = neutral n
 
 -- "the least of 2i+2 for marked i and 2i+1 for each i non-empty before the step and empty now; 2n+1 if there is none", over the
--- places from i on. The first p places were non-empty before the step. A marked or emptied place has a colour below the neutral one.
+-- places from i on. A marked or emptied place has a colour below the neutral one.
 unfoldable pub least : ℕ → ℕ → ℕ → List Place → ℕ
 least n p i [] = neutral n
-least n p i (x ∷ later) = min (colourAt n i (x .mark) (isEmpty (x .states) && ltb i p)) (least n p (suc i) later)
+least n p i (x ∷ later) = min (colourAt n i (x .mark) (isEmptied p i (x .states))) (least n p (suc i) later)
 
 unfoldable pub deadOr : Bool → ℕ → ℕ
 deadOr true c = dead

@@ -15,8 +15,7 @@ use Rattle.tuple.specs.PassLaws.{turns-length}
 use Rattle.tuple.specs.CloseLaws.{closeUp-length}
 use Rattle.tuple.specs.PlaceLaws.{places-length}
 use Rattle.tuple.specs.TupleLaws.{next-formed}
-use Rattle.tuple.specs.Row.{setCells, row, tupleOf, Steps}
-use Rattle.text.specs.Search.{leading}
+use Rattle.tuple.specs.Row.{setCells, setsOf, row, tupleOf, Steps}
 use Rattle.tuple.specs.RowLaws.{row-length, row-set}
 use Rattle.text.specs.SearchLaws.{leading-length}
 use Rattle.tuple.specs.Parts.{Advanced, Swept, Placed, settled}
@@ -52,14 +51,14 @@ settle-done n p cells result c h swept =
     rw (swept .closes, swept .coloured, z)
 
 module _ (A : Automaton) (l : ℕ) (cells : List ℕ) (steps : Steps A l cells) where
-  few : length (leading (take setCells cells)) ≤ setCells
+  few : length (setsOf cells) ≤ setCells
   few = let a = leading-length (take setCells cells) in let b = length-take setCells cells in omega arith
 
   pub cells-length : length cells ≡ setCells + 1
   unfolding tupleOf
   cells-length = ap length (steps .is-row) ∙ row-length (tupleOf cells) few
 
-  first-cell : getD cells 0 0 ≡ setAt (leading (take setCells cells)) 0
+  first-cell : getD cells 0 0 ≡ setAt (setsOf cells) 0
   unfolding tupleOf
   first-cell = ap (λ (z : List ℕ). getD z 0 0) (steps .is-row) ∙ row-set (tupleOf cells) few 0 (omega arith)
 
@@ -67,18 +66,18 @@ module _ (A : Automaton) (l : ℕ) (cells : List ℕ) (steps : Steps A l cells) 
     pub count-few : p ≤ setCells
     count-few = let a = advanced .counted in let b = few in omega arith
 
-    new-first : getD w 0 0 ≡ successorsOf (A .table) l (setAt (leading (take setCells cells)) 0)
-    new-first = ap (λ (z : List ℕ). getD z 0 0) (advanced .replaced) ∙ by (leading (take setCells cells)) (advanced .counted) first-cell
+    new-first : getD w 0 0 ≡ successorsOf (A .table) l (setAt (setsOf cells) 0)
+    new-first = ap (λ (z : List ℕ). getD z 0 0) (advanced .replaced) ∙ by (setsOf cells) (advanced .counted) first-cell
       where
         by : (s : List ℕ) → p ≡ length s → getD cells 0 0 ≡ setAt s 0
             → getD (map (successorsOf (A .table) l) s ++ drop p cells) 0 0 ≡ successorsOf (A .table) l (setAt s 0)
         by [] e f = rw e (f ∙ sym (successors-empty (A .table) l))
         by (x ∷ s) e f = refl
 
-    put : set w p (interOf (getD w 0 0) (A .recurring)) ≡ places A l (leading (take setCells cells)) ++ drop (p + 1) cells
+    put : set w p (interOf (getD w 0 0) (A .recurring)) ≡ places A l (setsOf cells) ++ drop (p + 1) cells
     unfolding places
     put =
-        let s = leading (take setCells cells) in
+        let s = setsOf cells in
         let f = successorsOf (A .table) l in
         let n : length (map f s) ≡ p = length-map s f ∙ sym (advanced .counted) in
         let r : interOf (getD w 0 0) (A .recurring) ≡ recurrent A l (setAt s 0) = ap (λ (z : ℕ). interOf z (A .recurring)) new-first in
@@ -94,13 +93,13 @@ module _ (A : Automaton) (l : ℕ) (cells : List ℕ) (steps : Steps A l cells) 
 
   module _ {w : List ℕ} {p : ℕ} (placed : Placed A l cells w p) where
     abbrev before : List ℕ
-    before = places A l (leading (take setCells cells))
+    before = places A l (setsOf cells)
 
     pub placed-few : p ≤ setCells
     placed-few = let a = placed .counted in let b = few in omega arith
 
     before-length : length before ≡ p + 1
-    before-length = places-length A l (leading (take setCells cells)) ∙ omega (arith, placed .counted)
+    before-length = places-length A l (setsOf cells) ∙ omega (arith, placed .counted)
 
     before-take : take (p + 1) w ≡ before
     before-take = ap (take (p + 1)) (placed .places-put) ∙ take-at before (drop (p + 1) cells) (p + 1) before-length
@@ -137,9 +136,9 @@ module _ (A : Automaton) (l : ℕ) (cells : List ℕ) (steps : Steps A l cells) 
     rest : drop (p + 1) cells ≡ drop 1 (replicate (setCells - p) 0 ++ (tupleOf cells .colour ∷ []))
     unfolding row tupleOf
     rest =
-        let s = leading (take setCells cells) in
-        let e : p + 1 ≡ length (leading (take setCells cells)) + 1 = omega (arith, placed .counted) in
-        let f : length (leading (take setCells cells)) ≡ p = sym (placed .counted) in
+        let s = setsOf cells in
+        let e : p + 1 ≡ length s + 1 = omega (arith, placed .counted) in
+        let f : length s ≡ p = sym (placed .counted) in
         ap₂ (λ (n : ℕ) (z : List ℕ). drop n z) e (steps .is-row)
         ∙ drop-append-add s (replicate (setCells - length s) 0 ++ (tupleOf cells .colour ∷ [])) 1
         ∙ rw f

@@ -1,18 +1,17 @@
 -- The loop of the marking pass, which closes up as it goes. Assumes nothing.
 use Prim.Native.Nat.{ℕ, zero, suc, _+_, _-_, _≤_, _<_, min}
 use mathlib.Core.Path.{_≡_, refl, sym, ap, ap₂, _∙_}
-use mathlib.Core.Bool.{Bool, not, _&&_}
+use mathlib.Core.Bool.{Bool}
 use mathlib.Core.Logic.{_⊎_, inl, inr}
 use mathlib.Core.List.{List, [], _∷_, _++_, append-assoc, append-nil}
 use native.Mathlib.Omega.{arith}
 use native.Mathlib.Numerals.{add-one}
 use borrow.Author.Tests.{eq-eqb, ne-eqb}
-use lib.Dec.{ltb}
 use lib.ListN.{length, getD, set, take, drop, replicate, length-append, length-replicate, length-drop}
 use lib.Seq.{drop-cons, getD-at, set-at}
-use Rattle.sets.specs.Sets.{minusOf, isWithin, isEmpty}
+use Rattle.sets.specs.Sets.{minusOf}
 use Rattle.tuple.specs.Colour.{neutral}
-use Rattle.tuple.specs.Step.{unionAll, minusEach, Place, place, turns, pass, colourAt, least, unlessEmpty, closed, closeUp}
+use Rattle.tuple.specs.Step.{unionAll, isMarked, minusEach, Place, place, turns, pass, isEmptied, colourAt, least, unlessEmpty, closed, closeUp}
 use Rattle.tuple.specs.ColourLaws.{least-top}
 use Rattle.tuple.specs.Parts.{outOf, Swept}
 use Rattle.tuple.specs.UnionLaws.{behind-cons, behind-end}
@@ -97,8 +96,8 @@ module _ (n p count : ℕ) (cells : List ℕ) (long : count ≤ length cells) wh
 
     -- the turn of place i, whose set is x after what marked places remove
     module _ (x c' o' u k : ℕ) (m : Bool) (h : i < count) (left : x ≡ minusOf (getD result i 0) o)
-        (later : u ≡ unionAll (drop (suc i) (take count cells))) (mark : m ≡ (not (isEmpty x) && isWithin x u))
-        (colour-here : k ≡ colourAt n i m (isEmpty x && ltb i p)) (least-so-far : c' ≡ min c k) (out : o' ≡ outOf m o x) where
+        (later : u ≡ unionAll (drop (suc i) (take count cells))) (mark : m ≡ isMarked x u)
+        (colour-here : k ≡ colourAt n i m (isEmptied p i x)) (least-so-far : c' ≡ min c k) (out : o' ≡ outOf m o x) where
       left' : x ≡ minusOf (getD cells i 0) o
       left' = left ∙ ap (λ (z : ℕ). minusOf z o) (sweep-read h)
 
@@ -106,7 +105,7 @@ module _ (n p count : ℕ) (cells : List ℕ) (long : count ≤ length cells) wh
       turned =
           let l = drop (suc i) (take count cells) in
           let y = minusOf (getD cells i 0) o in
-          let k : m ≡ (not (isEmpty y) && isWithin y (unionAll l)) = rw (← left', ← later) mark in
+          let k : m ≡ isMarked y (unionAll l) = rw (← left', ← later) mark in
           ap (λ (z : List ℕ). pass (minusEach o z)) (behind-cons cells count long i h)
           ∙ pass-turn (getD cells i 0) o m l k
           ∙ rw (add-one, out, left')
@@ -117,7 +116,7 @@ module _ (n p count : ℕ) (cells : List ℕ) (long : count ≤ length cells) wh
           let l = least n p (suc i) (pass (left-of count cells o' (suc i))) in
           s .colour
           ∙ ap (λ (w : List Place). min c (least n p i w)) turned
-          ∙ rw (add-one, least-so-far, colour-here) (min-assoc c (colourAt n i m (isEmpty x && ltb i p)) l)
+          ∙ rw (add-one, least-so-far, colour-here) (min-assoc c (colourAt n i m (isEmptied p i x)) l)
 
       most-turned : c' ≤ neutral n
       most-turned = let a = s .most in omega arith

@@ -1,14 +1,12 @@
 // One step of the tuple, on its row of 17 cells: 16 sets, the non-empty ones first, and the colour.
 use automaton::Numbers;
 ghost use mathlib.Core.Path.{_≡_};
-ghost use mathlib.Core.Bool.{not, _&&_};
 ghost use Prim.Native.Nat.{_+_, _≤_, _<_, min};
-ghost use lib.Dec.{ltb};
 ghost use lib.ListN.{length};
-ghost use Rattle.sets.specs.Sets.{interOf, isWithin, isEmpty};
+ghost use Rattle.sets.specs.Sets.{interOf, isEmpty};
 ghost use Rattle.automaton.specs.Automaton.{automaton};
 ghost use Rattle.tuple.specs.Colour.{neutral, marked, emptied};
-ghost use Rattle.tuple.specs.Step.{colourAt, deadOr, next};
+ghost use Rattle.tuple.specs.Step.{isMarked, isEmptied, colourAt, deadOr, next};
 ghost use Rattle.tuple.specs.Parts.{outOf, Advanced, Unions, Swept, Placed, settled};
 ghost use Rattle.tuple.specs.Row.{row, tupleOf, Steps};
 
@@ -60,7 +58,7 @@ fn dead_or(first: u16, colour: Colour) -> Colour
 // The colour of place i with set x after its turn: marked, or one of the first p places and empty now, or neither.
 fn colour_at(n: usize, i: usize, p: usize, x: u16, mark: bool) -> Colour
     requires { ⌜ (n ≤ 16) × (i ≤ 16) ⌝ }
-    ensures { λ r. ⌜ r .0 ≡ colourAt n i mark (isEmpty x && ltb i p) ⌝ }
+    ensures { λ r. ⌜ r .0 ≡ colourAt n i mark (isEmptied p i x) ⌝ }
 {
     if mark {
         return Colour::marked(i);
@@ -75,7 +73,7 @@ fn colour_at(n: usize, i: usize, p: usize, x: u16, mark: bool) -> Colour
 
 // Is a place with set x marked, where the later places have the members given?
 fn is_marked(x: u16, later: u16) -> bool
-    ensures { λ r. ⌜ r ≡ (not (isEmpty x) && isWithin x later) ⌝ }
+    ensures { λ r. ⌜ r ≡ isMarked x later ⌝ }
 {
     if x == 0 {
         return false;
