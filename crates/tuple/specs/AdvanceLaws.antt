@@ -5,25 +5,21 @@ use mathlib.Core.List.{List, [], _∷_, _++_, map, append-assoc, append-nil}
 use native.Mathlib.Omega.{arith}
 use native.Mathlib.Numerals.{add-one}
 use lib.ListN.{length, getD, set, take, drop, length-map}
-use lib.Seq.{take-suc, drop-cons, getD-at, set-at, length-take-le}
+use lib.Seq.{take-suc, drop-cons, getD-at, set-at, length-take-le, slice, slice-empty, slice-cons}
 use Rattle.automaton.specs.Successors.{successorsOf}
 use Rattle.tuple.specs.Row.{setCells, setsOf}
 use Rattle.text.specs.Search.{leading}
 use Rattle.text.specs.SearchLaws.{leading-stop, leading-more}
 use Rattle.tuple.specs.Parts.{Advanced}
-use Rattle.tuple.specs.UnionLaws.{behind-cons, behind-end}
 
 -- the first i cells are sets, and replaced
 pub record Advancing (table : List ℕ) (l : ℕ) (cells result : List ℕ) (i : ℕ) : Type 0 where
-  pub leads : setsOf cells ≡ take i cells ++ leading (drop i (take setCells cells))
+  pub leads : setsOf cells ≡ take i cells ++ leading (slice i setCells cells)
   pub replaced : result ≡ map (successorsOf table l) (take i cells) ++ drop i cells
 
 module _ (table : List ℕ) (l : ℕ) (cells : List ℕ) (long : setCells < length cells) where
   pub advance-none : Advancing table l cells cells 0
   advance-none = record { leads = refl; replaced = refl }
-
-  next-cell : (i : ℕ) → i < setCells → drop i (take setCells cells) ≡ getD cells i 0 ∷ drop (suc i) (take setCells cells)
-  next-cell = behind-cons cells setCells (omega arith)
 
   module _ {result : List ℕ} {i : ℕ} (a : Advancing table l cells result i) where
     front : i ≤ setCells → length (map (successorsOf table l) (take i cells)) ≡ i
@@ -34,20 +30,19 @@ module _ (table : List ℕ) (l : ℕ) (cells : List ℕ) (long : setCells < leng
         rw (a .replaced, drop-cons cells i 0 (omega arith))
         (getD-at (map (successorsOf table l) (take i cells)) (getD cells i 0) (drop (suc i) cells) 0 i (front (omega arith)))
 
-    stopped : i ≤ setCells → leading (drop i (take setCells cells)) ≡ [] → Advanced table l cells result i
+    stopped : i ≤ setCells → leading (slice i setCells cells) ≡ [] → Advanced table l cells result i
     stopped h e =
         let all : setsOf cells ≡ take i cells = a .leads ∙ rw (e, append-nil) in
         record { counted = rw all (sym (length-take-le i cells (omega arith))); replaced = rw all (a .replaced) }
 
     pub advance-stop : i < setCells → getD result i 0 ≡ 0 → Advanced table l cells result i
     advance-stop h e =
-        stopped (omega arith)
-        (rw (next-cell i h) (leading-stop (getD cells i 0) (drop (suc i) (take setCells cells)) (sym (advance-read h) ∙ e)))
+        let c = slice-cons i setCells cells 0 h (omega arith) in
+        stopped (omega arith) (rw c (leading-stop (getD cells i 0) (slice (suc i) setCells cells) (sym (advance-read h) ∙ e)))
 
     pub advance-end : i ≡ setCells → Advanced table l cells result i
     unfolding leading
-    advance-end e =
-        stopped (omega arith) (rw (behind-end cells setCells (omega arith) i (omega arith)))
+    advance-end e = stopped (omega arith) (rw (e, slice-empty setCells cells))
 
     snoc : (s : List ℕ) (x : ℕ) (r : List ℕ)
         → map (successorsOf table l) s ++ (successorsOf table l x ∷ r) ≡ map (successorsOf table l) (s ++ (x ∷ [])) ++ r
@@ -67,9 +62,10 @@ module _ (table : List ℕ) (l : ℕ) (cells : List ℕ) (long : setCells < leng
     advance-more h n =
         let x = getD cells i 0 in
         let m : x ≡ 0 → ⊥ = λ e. n (advance-read h ∙ e) in
+        let c = slice-cons i setCells cells 0 h (omega arith) in
         record {
           leads =
               a .leads
-              ∙ rw (next-cell i h, leading-more x (drop (suc i) (take setCells cells)) m, add-one, take-suc cells i 0 (omega arith), append-assoc);
+              ∙ rw (c, leading-more x (slice (suc i) setCells cells) m, add-one, take-suc cells i 0 (omega arith), append-assoc);
           replaced = replaced-more h (getD result i 0) (advance-read h);
         }

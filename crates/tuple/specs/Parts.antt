@@ -5,6 +5,7 @@ use mathlib.Core.Path.{_≡_}
 use mathlib.Core.Bool.{Bool, true, false}
 use mathlib.Core.List.{List, _++_, map}
 use lib.ListN.{length, getD, set, take, drop, replicate}
+use lib.Seq.{slice}
 use Rattle.sets.specs.Sets.{unionOf}
 use Rattle.automaton.specs.Automaton.{Automaton}
 use Rattle.automaton.specs.Successors.{successorsOf}
@@ -24,7 +25,7 @@ pub record Advanced (table : List ℕ) (l : ℕ) (cells result : List ℕ) (coun
 
 -- cell j of later has the members of the places behind j, of the first count places
 abbrev pub Unions : ℕ → List ℕ → List ℕ → Type 0
-Unions count cells later = (j : ℕ) → j < count → getD later j 0 ≡ unionAll (drop (suc j) (take count cells))
+Unions count cells later = (j : ℕ) → j < count → getD later j 0 ≡ unionAll (slice (suc j) count cells)
 
 -- the first count places are closed up after the pass, and zeros fill them up; with the least colour, where p sets were non-empty before
 pub record Swept (n p count : ℕ) (cells result : List ℕ) (colour : ℕ) : Type 0 where

@@ -6,6 +6,7 @@ use native.Mathlib.Omega.{arith}
 use lib.ListN.{length, getD, take, replicate, length-append, length-replicate, List·getD-append}
 use lib.Seq.{take-at, getD-at}
 use Rattle.automaton.specs.Automaton.{Automaton, Fits}
+use Rattle.gate.specs.GateLaws.{zeros}
 use Rattle.text.specs.SearchLaws.{leading-padded}
 use Rattle.tuple.specs.Step.{Tuple, setAt, Formed}
 use Rattle.tuple.specs.Row.{setCells, setsOf, row, tupleOf, Steps}
@@ -13,36 +14,34 @@ use Rattle.tuple.specs.Row.{setCells, setsOf, row, tupleOf, Steps}
 -- Rows
 
 zeros-behind : (sets : List ℕ) (k i : ℕ) → getD (sets ++ replicate k 0) i 0 ≡ getD sets i 0
-zeros-behind [] zero i = refl
-zeros-behind [] (suc k) zero = refl
-zeros-behind [] (suc k) (suc i) = zeros-behind [] k i
+zeros-behind [] k i = zeros k i
 zeros-behind (x ∷ sets) k zero = refl
 zeros-behind (x ∷ sets) k (suc i) = zeros-behind sets k i
 
 module _ (u : Tuple) (few : length (u .sets) ≤ setCells) where
-  abbrev zeros : List ℕ
-  zeros = replicate (setCells - length (u .sets)) 0
+  abbrev padding : List ℕ
+  padding = replicate (setCells - length (u .sets)) 0
 
-  row-split : row u ≡ (u .sets ++ zeros) ++ (u .colour ∷ [])
+  row-split : row u ≡ (u .sets ++ padding) ++ (u .colour ∷ [])
   unfolding row
-  row-split = sym (append-assoc (u .sets) zeros (u .colour ∷ []))
+  row-split = sym (append-assoc (u .sets) padding (u .colour ∷ []))
 
-  front-length : length (u .sets ++ zeros) ≡ setCells
+  front-length : length (u .sets ++ padding) ≡ setCells
   front-length = simp (length-append, length-replicate) (omega arith)
 
   pub row-length : length (row u) ≡ setCells + 1
-  row-length = ap length row-split ∙ length-append (u .sets ++ zeros) (u .colour ∷ []) ∙ omega (arith, front-length)
+  row-length = ap length row-split ∙ length-append (u .sets ++ padding) (u .colour ∷ []) ∙ omega (arith, front-length)
 
   pub row-colour : getD (row u) setCells 0 ≡ u .colour
-  row-colour = rw row-split (getD-at (u .sets ++ zeros) (u .colour) [] 0 setCells front-length)
+  row-colour = rw row-split (getD-at (u .sets ++ padding) (u .colour) [] 0 setCells front-length)
 
-  row-front : take setCells (row u) ≡ u .sets ++ zeros
-  row-front = rw row-split (take-at (u .sets ++ zeros) (u .colour ∷ []) setCells front-length)
+  row-front : take setCells (row u) ≡ u .sets ++ padding
+  row-front = rw row-split (take-at (u .sets ++ padding) (u .colour ∷ []) setCells front-length)
 
   pub row-set : (i : ℕ) → i < setCells → getD (row u) i 0 ≡ setAt (u .sets) i
   row-set i h =
       rw row-split
-      (List·getD-append (u .sets ++ zeros) (u .colour ∷ []) 0 i (omega (arith, front-length))
+      (List·getD-append (u .sets ++ padding) (u .colour ∷ []) 0 i (omega (arith, front-length))
       ∙ zeros-behind (u .sets) (setCells - length (u .sets)) i)
 
   tuple-row : ((i : ℕ) → i < length (u .sets) → setAt (u .sets) i ≡ 0 → ⊥) → tupleOf (row u) ≡ u

@@ -8,13 +8,12 @@ use native.Mathlib.Omega.{arith}
 use native.Mathlib.Numerals.{add-one}
 use borrow.Author.Tests.{eq-eqb, ne-eqb}
 use lib.ListN.{length, getD, set, take, drop, replicate, length-append, length-replicate, length-drop}
-use lib.Seq.{drop-cons, getD-at, set-at}
+use lib.Seq.{drop-cons, getD-at, set-at, slice, slice-empty, slice-cons}
 use Rattle.sets.specs.Sets.{minusOf}
 use Rattle.tuple.specs.Colour.{neutral}
 use Rattle.tuple.specs.Step.{unionAll, isMarked, minusEach, Place, place, turns, pass, isEmptied, colourAt, least, unlessEmpty, closed, closeUp}
 use Rattle.tuple.specs.ColourLaws.{least-top}
 use Rattle.tuple.specs.Parts.{outOf, Swept}
-use Rattle.tuple.specs.UnionLaws.{behind-cons, behind-end}
 use Rattle.tuple.specs.GatherLaws.{minus-each-none, pass-turn}
 
 close-empty : (x : ℕ) (m : Bool) (w : List Place) → x ≡ 0 → closeUp (place x m ∷ w) ≡ closeUp w
@@ -34,7 +33,7 @@ min-assoc a b c = omega arith
 
 -- what is left of the places from i on, where o is removed
 abbrev left-of : ℕ → List ℕ → ℕ → ℕ → List ℕ
-left-of count cells o i = minusEach o (drop i (take count cells))
+left-of count cells o i = minusEach o (slice i count cells)
 
 -- the state of the loop before the turn of place i: done are the j sets closed up so far, o is what is removed from the places left
 pub record Sweeping (n p count : ℕ) (cells result : List ℕ) (c o j i : ℕ) : Type 0 where
@@ -96,17 +95,17 @@ module _ (n p count : ℕ) (cells : List ℕ) (long : count ≤ length cells) wh
 
     -- the turn of place i, whose set is x after what marked places remove
     module _ (x c' o' u k : ℕ) (m : Bool) (h : i < count) (left : x ≡ minusOf (getD result i 0) o)
-        (later : u ≡ unionAll (drop (suc i) (take count cells))) (mark : m ≡ isMarked x u)
+        (later : u ≡ unionAll (slice (suc i) count cells)) (mark : m ≡ isMarked x u)
         (colour-here : k ≡ colourAt n i m (isEmptied p i x)) (least-so-far : c' ≡ min c k) (out : o' ≡ outOf m o x) where
       left' : x ≡ minusOf (getD cells i 0) o
       left' = left ∙ ap (λ (z : ℕ). minusOf z o) (sweep-read h)
 
       turned : pass (left-of count cells o i) ≡ place x m ∷ pass (left-of count cells o' (i + 1))
       turned =
-          let l = drop (suc i) (take count cells) in
+          let l = slice (suc i) count cells in
           let y = minusOf (getD cells i 0) o in
           let k : m ≡ isMarked y (unionAll l) = rw (← left', ← later) mark in
-          ap (λ (z : List ℕ). pass (minusEach o z)) (behind-cons cells count long i h)
+          ap (λ (z : List ℕ). pass (minusEach o z)) (slice-cons i count cells 0 h long)
           ∙ pass-turn (getD cells i 0) o m l k
           ∙ rw (add-one, out, left')
 
@@ -166,7 +165,7 @@ module _ (n p count : ℕ) (cells : List ℕ) (long : count ≤ length cells) wh
     pub sweep-end : i ≡ count → Swept n p count cells result c
     unfolding pass turns closeUp closed least
     sweep-end e =
-        let b : drop i (take count cells) ≡ [] = behind-end cells count long i (omega arith) in
+        let b : slice i count cells ≡ [] = rw e (slice-empty count cells) in
         let d : closeUp (pass (take count cells)) ≡ s .done = s .sets ∙ rw (b, append-nil) in
         let k : s .gaps ≡ count - length (s .done) = omega (arith, s .kept, s .passed) in
         record {

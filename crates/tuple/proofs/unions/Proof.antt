@@ -1,11 +1,12 @@
 -- From the last place on: the cells passed have the members of the places behind them. Assumes nothing.
-use Prim.Native.Nat.{ℕ, suc, _≤_, _<_}
+use Prim.Native.Nat.{_≤_}
 use mathlib.Core.Path.{_≡_, refl, sym, _∙_}
 use native.Mathlib.Omega.{arith}
 use denote.Ref.{now}
-use lib.ListN.{length, getD, take, drop, length-set}
+use lib.ListN.{length, length-set}
+use lib.Seq.{slice}
 use Rattle.tuple.specs.Step.{unionAll}
-use Rattle.tuple.specs.UnionLaws.{unions-none, unions-more, unions-set}
+use Rattle.tuple.specs.UnionLaws.{UnionsFrom, unions-none, unions-more, unions-set}
 use borrow.Author.Needs.{needs}
 use Rattle.tuple.proofs.unions.Statement.{statement}
 use Rattle.tuple.proofs.unions.Tie as tie
@@ -15,8 +16,8 @@ Inv-loop w count later₀ all₀ i₀ later all i =
     (i ≤ count)
     × (count ≤ length w)
     × (length later ≡ length later₀)
-    × (all ≡ unionAll (drop i (take count w)))
-    × ((j : ℕ) → i ≤ j → j < count → getD later j 0 ≡ unionAll (drop (suc j) (take count w)))
+    × (all ≡ unionAll (slice i count w))
+    × UnionsFrom i count w later
 
 abbrev μ-loop : tie.MeasureT-loop
 μ-loop w count later₀ all₀ i₀ later all i = i
@@ -24,7 +25,7 @@ abbrev μ-loop : tie.MeasureT-loop
 loop-holds : tie.Need-loop-holds Inv-loop μ-loop
 loop-holds c =
     let g = c .before .before .args in
-    (omega arith, omega arith, refl, sym (unions-none (now (g .w)) (g .count) (omega arith)), λ j a b. absurd (omega arith))
+    (omega arith, omega arith, refl, sym (unions-none (now (g .w)) (g .count)), λ j a b. absurd (omega arith))
 
 sub-i : tie.Need-sub-i Inv-loop μ-loop
 sub-i c = search needs
@@ -54,8 +55,8 @@ loop-again c =
       omega arith,
       omega arith,
       simp length-set (l .inv .2),
-      c .union .ensures ∙ unions-more (now (g .w)) (g .count) (omega arith) (l .i) (l .all) (omega arith) (omega arith) (l .inv .3),
-      unions-set (now (g .w)) (g .count) (omega arith) (l .i) (l .all) (l .later) (omega arith) (omega arith) (l .inv .3) (l .inv .4),
+      c .union .ensures ∙ unions-more (now (g .w)) (g .count) (l .i) (l .all) (omega arith) (omega arith) (omega arith) (l .inv .3),
+      unions-set (now (g .w)) (g .count) (l .i) (l .all) (l .later) (omega arith) (omega arith) (l .inv .3) (l .inv .4),
     )
 
 same-length : tie.Need-same-length Inv-loop μ-loop
