@@ -105,11 +105,6 @@ unfolding closeUp closed
 full [] j h = absurd (omega arith)
 full (x ∷ w) j h = cons-full (isEmpty (x .states)) (x .states) (closeUp w) (some-of (x .states)) (full w) j h
 
-pub front : (l : List ℕ) (j r : ℕ) → In l j r → j < length l
-front [] j r h = absurd (no-member r h)
-front (x ∷ l) zero r h = omega arith
-front (x ∷ l) (suc j) r h = let a = front l j r h in omega arith
-
 cons-length : (b : Bool) (x : ℕ) (l : List ℕ) → length (unlessEmpty b x l) ≤ suc (length l)
 unfolding unlessEmpty
 cons-length true x l = omega arith

@@ -23,6 +23,12 @@ After w j r = Member (statesAt w j) r
 abbrev pub Marked : List Place → ℕ → Type 0
 Marked w j = T (getD w j (place 0 false) .mark)
 
+-- there is such a place
+pub front : (l : List ℕ) (j r : ℕ) → In l j r → j < length l
+front [] j r h = absurd (no-member r h)
+front (x ∷ l) zero r h = omega arith
+front (x ∷ l) (suc j) r h = let a = front l j r h in omega arith
+
 -- Tests
 
 pub and-l : (a b : Bool) → T (a && b) → T a

@@ -1,19 +1,20 @@
 -- The places before the marking pass: facts F1 and F2 of the theory. Assumes nothing.
-use Prim.Native.Nat.{ℕ, zero, suc, _≤_, _<_}
-use mathlib.Core.Path.{_≡_, refl, sym, subst, _∙_}
+use Prim.Native.Nat.{ℕ, suc, _≤_, _<_}
+use mathlib.Core.Path.{_≡_, sym, subst, ap, _∙_}
 use mathlib.Core.Logic.{Dec·and}
-use mathlib.Core.List.{List, [], _∷_, _++_, map}
+use mathlib.Core.List.{List, [], _∷_, map}
 use native.Mathlib.Omega.{arith}
 use native.Mathlib.Decide.{decLt}
-use lib.ListN.{length, length-append, length-map}
+use lib.ListN.{length, getD, length-append, length-map, List·getD-append, List·getD-map}
+use lib.Seq.{getD-at}
 use Rattle.sets.specs.Sets.{Member}
-use Rattle.sets.specs.SetLaws.{member-dec, no-member, inter-in, inter-of}
+use Rattle.sets.specs.SetLaws.{member-dec, inter-in, inter-of}
 use Rattle.automaton.specs.Automaton.{Automaton, Edge, Fits}
 use Rattle.automaton.specs.Successors.{successorsOf}
 use Rattle.automaton.specs.EdgeLaws.{edge-dec, edge-state}
-use Rattle.automaton.specs.SuccessorLaws.{successors-edge}
+use Rattle.automaton.specs.SuccessorLaws.{successors-edge, successors-empty}
 use Rattle.tuple.specs.Step.{setAt, recurrent, Recurrent, places}
-use Rattle.tuple.specs.PassLaws.{In}
+use Rattle.tuple.specs.PassLaws.{In, front}
 
 pub recurrent-dec : (A : Automaton) (l q r : ℕ) → Dec (Recurrent A l q r)
 recurrent-dec A l q r = by (Dec·and (edge-dec A l q r) (member-dec (A .recurring) r))
@@ -21,6 +22,12 @@ recurrent-dec A l q r = by (Dec·and (edge-dec A l q r) (member-dec (A .recurrin
     by : Dec (Edge A l q r × Member (A .recurring) r) → Dec (Recurrent A l q r)
     by (yes (a, b)) = yes (record { edge = a; into = b })
     by (no f) = no (λ e. f (e .edge, e .into))
+
+pub places-length : (A : Automaton) (l : ℕ) (sets : List ℕ) → length (places A l sets) ≡ suc (length sets)
+unfolding places
+places-length A l sets =
+    length-append (map (successorsOf (A .table) l) sets) (recurrent A l (setAt sets 0) ∷ [])
+    ∙ omega (arith, length-map sets (successorsOf (A .table) l))
 
 module _ {A : Automaton} (fits : Fits A) where
   module _ (l : ℕ) (letter : l < A .k) where
@@ -40,32 +47,27 @@ module _ {A : Automaton} (fits : Fits A) where
         (q, c, record { edge = e; into = b })
 
     -- F1: the successors of each set
-    pub places-old : (sets : List ℕ) (j q r : ℕ) → In sets j q → Edge A l q r → In (places A l sets) j r
+    places-below : (sets : List ℕ) (j : ℕ) → j < length sets → setAt (places A l sets) j ≡ successorsOf (A .table) l (setAt sets j)
     unfolding places
-    places-old sets j q r h e = go sets (recurrent A l (setAt sets 0) ∷ []) j h
-      where
-        go : (s z : List ℕ) (j : ℕ) → In s j q → In (map (successorsOf (A .table) l) s ++ z) j r
-        go [] z j h = absurd (no-member q h)
-        go (x ∷ s) z zero h = edges-of x q r h e
-        go (x ∷ s) z (suc j) h = go s z j h
+    places-below sets j h =
+        let f = successorsOf (A .table) l in
+        List·getD-append (map f sets) (recurrent A l (setAt sets 0) ∷ []) 0 j (rw (length-map sets f) h)
+        ∙ ap (getD (map f sets) j) (sym (successors-empty (A .table) l))
+        ∙ List·getD-map f sets j 0
+
+    pub places-old : (sets : List ℕ) (j q r : ℕ) → In sets j q → Edge A l q r → In (places A l sets) j r
+    places-old sets j q r h e =
+        subst (λ (x : ℕ). Member x r) (sym (places-below sets j (front sets j q h))) (edges-of (setAt sets j) q r h e)
 
     pub places-old⁻ : (sets : List ℕ) (j r : ℕ) → j < length sets → In (places A l sets) j r → (q : ℕ) × In sets j q × Edge A l q r
-    unfolding places
-    places-old⁻ sets j r k h = go sets (recurrent A l (setAt sets 0) ∷ []) j k h
-      where
-        go : (s z : List ℕ) (j : ℕ) → j < length s → In (map (successorsOf (A .table) l) s ++ z) j r → (q : ℕ) × In s j q × Edge A l q r
-        go [] z j k h = absurd (omega arith)
-        go (x ∷ s) z zero k h = edges-in x r h
-        go (x ∷ s) z (suc j) k h = go s z j (omega arith) h
+    places-old⁻ sets j r k h = edges-in (setAt sets j) r (subst (λ (x : ℕ). Member x r) (places-below sets j k) h)
 
     -- F2: the new set at place p
     places-at : (sets : List ℕ) → setAt (places A l sets) (length sets) ≡ recurrent A l (setAt sets 0)
     unfolding places
-    places-at sets = go sets (recurrent A l (setAt sets 0))
-      where
-        go : (s : List ℕ) (z : ℕ) → setAt (map (successorsOf (A .table) l) s ++ (z ∷ [])) (length s) ≡ z
-        go [] z = refl
-        go (x ∷ s) z = go s z
+    places-at sets =
+        let f = successorsOf (A .table) l in
+        getD-at (map f sets) (recurrent A l (setAt sets 0)) [] 0 (length sets) (length-map sets f)
 
     pub places-new : (sets : List ℕ) (q r : ℕ) → In sets 0 q → Recurrent A l q r → In (places A l sets) (length sets) r
     places-new sets q r h e = subst (λ (x : ℕ). Member x r) (sym (places-at sets)) (recurrent-of (setAt sets 0) q r h e)
@@ -74,14 +76,7 @@ module _ {A : Automaton} (fits : Fits A) where
     places-new⁻ sets r h = recurrent-in (setAt sets 0) r (subst (λ (x : ℕ). Member x r) (places-at sets) h)
 
     pub places-none : (sets : List ℕ) (j r : ℕ) → In (places A l sets) j r → j ≤ length sets
-    unfolding places
-    places-none sets j r h = go sets (recurrent A l (setAt sets 0)) j h
-      where
-        go : (s : List ℕ) (z j : ℕ) → In (map (successorsOf (A .table) l) s ++ (z ∷ [])) j r → j ≤ length s
-        go [] z zero h = omega arith
-        go [] z (suc j) h = absurd (no-member r h)
-        go (x ∷ s) z zero h = omega arith
-        go (x ∷ s) z (suc j) h = let a = go s z j h in omega arith
+    places-none sets j r h = omega (arith, front (places A l sets) j r h, places-length A l sets)
 
     -- each state in a place is the target of a transition
     pub places-state : (sets : List ℕ) (j r : ℕ) → In (places A l sets) j r → r < A .n
@@ -94,9 +89,3 @@ module _ {A : Automaton} (fits : Fits A) where
             let d : j ≡ length sets = omega arith in
             let (q, a, e) = places-new⁻ sets r (subst (λ (z : ℕ). In (places A l sets) z r) d h) in
             edge-state A fits l q r (e .edge)
-
-pub places-length : (A : Automaton) (l : ℕ) (sets : List ℕ) → length (places A l sets) ≡ suc (length sets)
-unfolding places
-places-length A l sets =
-    length-append (map (successorsOf (A .table) l) sets) (recurrent A l (setAt sets 0) ∷ [])
-    ∙ omega (arith, length-map sets (successorsOf (A .table) l))
