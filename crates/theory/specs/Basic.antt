@@ -3,12 +3,25 @@ use Prim.Native.Nat.{ℕ, zero, suc, _+_, _*_, _≤_, _<_}
 use mathlib.Core.Path.{_≡_}
 use mathlib.Core.Logic.{_⊎_, inl, inr}
 use native.Mathlib.Omega.{arith}
-use native.Mathlib.Decide.{decLe, decLt, ℕ-discrete}
+use native.Mathlib.Decide.{decLe, decLt, le-ind}
 use Rattle.finite.specs.Finite.{glue, glue-lt, glue-ge, joined, trace}
 use Rattle.theory.specs.Run.{Some, None, Run, Path}
 
 pub at-place : (X : ℕ → ℕ → ℕ → Type 0) {t j k q : ℕ} → j ≡ k → X t j q → X t k q
 at-place X {t} {j} {k} {q} e x = rw (← e) x
+
+-- L3: ranks. A count that goes up by one at each non-empty place, and only there
+module _ {X : ℕ → ℕ → Type 0} {rank : ℕ → ℕ} (dec : (j : ℕ) → Some (X j) ⊎ None (X j))
+    (some : (j : ℕ) → Some (X j) → rank (suc j) ≡ suc (rank j)) (none : (j : ℕ) → None (X j) → rank (suc j) ≡ rank j) where
+  rank-next : (j : ℕ) → (rank j ≤ rank (suc j)) × (rank (suc j) ≤ suc (rank j))
+  rank-next j = by (dec j)
+    where
+      by : Some (X j) ⊎ None (X j) → (rank j ≤ rank (suc j)) × (rank (suc j) ≤ suc (rank j))
+      by (inl s) = let e = some j s in omega arith
+      by (inr s) = let e = none j s in omega arith
+
+  pub rank-mono : (i j : ℕ) → i ≤ j → rank i ≤ rank j
+  rank-mono i j l = le-ind (λ j. rank i ≤ rank j) (omega arith) (λ j m h. omega (arith, rank-next j)) j l
 
 module _ {n : ℕ} {E M S U W : ℕ → ℕ → ℕ → Type 0} {K : ℕ → ℕ → Type 0} {p col : ℕ → ℕ} {rank : ℕ → ℕ → ℕ}
     (R : Run n E M S U W K p col rank) where
@@ -21,12 +34,15 @@ module _ {n : ℕ} {E M S U W : ℕ → ℕ → ℕ → Type 0} {K : ℕ → ℕ
       by (no l) = inr (R .new⁻ t r (at-place U (let m : j ≤ p t = R .none t j r u in omega arith) u))
 
   -- L1: set 0 loses nothing
-  zero-step : (t q r : ℕ) → S t 0 q → E t q r → S (suc t) 0 r
-  zero-step t q r s e = by (R .gone t 0 r (R .old t 0 q r s e))
+  zero-kept : (t q r : ℕ) → S t 0 q → E t q r → W t 0 r
+  zero-kept t q r s e = by (R .gone t 0 r (R .old t 0 q r s e))
     where
-      by : W t 0 r ⊎ ((i : ℕ) × (i < 0) × K t i × W t i r) → S (suc t) 0 r
-      by (inl v) = at-place S (R .rank-zero t) (R .move t 0 r v)
+      by : W t 0 r ⊎ ((i : ℕ) × (i < 0) × K t i × W t i r) → W t 0 r
+      by (inl w) = w
       by (inr (i, l, k, v)) = absurd (omega arith)
+
+  zero-step : (t q r : ℕ) → S t 0 q → E t q r → S (suc t) 0 r
+  zero-step t q r s e = at-place S (R .rank-zero t) (R .move t 0 r (zero-kept t q r s e))
 
   pred-of : (t : ℕ) → ((k q : ℕ) → S t k q → S t 0 q) → (k r : ℕ) → S (suc t) k r → (q : ℕ) × S t 0 q × E t q r
   pred-of t sub0 k r s = let (j, e, v) = R .move⁻ t k r s in by j (origin t j r (R .kept t j r v))
@@ -62,48 +78,29 @@ module _ {n : ℕ} {E M S U W : ℕ → ℕ → ℕ → Type 0} {K : ℕ → ℕ
       let start : glue x f A 0 ≡ x 0 = glue-lt x f A 0 l in
       (glue x f A, rw start first, glue-ge x f A, λ u more. joined E x f A u e goes more)
 
-  -- L3: ranks
+  -- the ranks of each step
+  rank-step : (t j : ℕ) → (rank t j ≤ rank t (suc j)) × (rank t (suc j) ≤ suc (rank t j))
+  rank-step t = rank-next (R .dec t) (R .rank-some t) (R .rank-none t)
+
   pub rank-le : (t j : ℕ) → rank t j ≤ j
   rank-le t zero = let e = R .rank-zero t in omega arith
-  rank-le t (suc j) = by (rank-le t j) (R .dec t j)
-    where
-      by : rank t j ≤ j → Some (W t j) ⊎ None (W t j) → rank t (suc j) ≤ suc j
-      by l (inl s) = let e = R .rank-some t j s in omega arith
-      by l (inr s) = let e = R .rank-none t j s in omega arith
+  rank-le t (suc j) = omega (arith, rank-le t j, rank-step t j)
 
-  pub rank-full : (t i : ℕ) → ((j : ℕ) → j < i → Some (W t j)) → rank t i ≡ i
-  rank-full t zero h = R .rank-zero t
-  rank-full t (suc i) h = let a = rank-full t i (λ j l. h j (omega arith)) in let b = R .rank-some t i (h i (omega arith)) in omega arith
-
-  rank-step : (t j : ℕ) → (rank t j ≤ rank t (suc j)) × (rank t (suc j) ≤ suc (rank t j))
-  rank-step t j = by (R .dec t j)
-    where
-      by : Some (W t j) ⊎ None (W t j) → (rank t j ≤ rank t (suc j)) × (rank t (suc j) ≤ suc (rank t j))
-      by (inl s) = let e = R .rank-some t j s in omega arith
-      by (inr s) = let e = R .rank-none t j s in omega arith
-
-  rank-up : (t i j : ℕ) → i ≤ j → rank t i ≤ rank t j
-  rank-up t i zero l = let e : i ≡ 0 = omega arith in rw e (omega arith)
-  rank-up t i (suc j) l = by (decLe i j) (λ m. rank-up t i j m)
-    where
-      by : Dec (i ≤ j) → (i ≤ j → rank t i ≤ rank t j) → rank t i ≤ rank t (suc j)
-      by (yes m) ih = let a = ih m in omega (arith, rank-step t j)
-      by (no m) ih = let e : i ≡ suc j = omega arith in rw e (omega arith)
-
-  -- an empty place moves all later ones down
-  pub rank-gap : (t i j : ℕ) → None (W t i) → i < j → rank t j < j
-  rank-gap t i zero h l = absurd (omega arith)
-  rank-gap t i (suc j) h l = by (ℕ-discrete i j) (λ m. rank-gap t i j h m)
-    where
-      by : Dec (i ≡ j) → (i < j → rank t j < j) → rank t (suc j) < suc j
-      by (yes e) ih = let h' : None (W t j) = rw e at h in let a = R .rank-none t j h' in omega (arith, rank-le t j)
-      by (no e) ih = let a = ih (omega arith) in omega (arith, rank-step t j)
-
+  -- all of the first i places are non-empty
   abbrev pub Fulls : ℕ → ℕ → Type 0
   Fulls t i = (j : ℕ) → j < i → Some (W t j)
 
+  pub rank-full : (t i : ℕ) → Fulls t i → rank t i ≡ i
+  rank-full t zero h = R .rank-zero t
+  rank-full t (suc i) h = let a = rank-full t i (λ j l. h j (omega arith)) in let b = R .rank-some t i (h i (omega arith)) in omega arith
+
+  -- an empty place moves all later ones down
+  pub rank-gap : (t i j : ℕ) → None (W t i) → i < j → rank t j < j
+  rank-gap t i j h l =
+      le-ind (λ j. rank t j < j) (omega (arith, R .rank-none t i h, rank-le t i)) (λ j m x. omega (arith, rank-step t j)) j l
+
   pub rank-ge : (t i j : ℕ) → Fulls t i → i ≤ j → i ≤ rank t j
-  rank-ge t i j h l = let a = rank-full t i h in let b = rank-up t i j l in omega arith
+  rank-ge t i j h l = let a = rank-full t i h in let b = rank-mono (R .dec t) (R .rank-some t) (R .rank-none t) i j l in omega arith
 
   -- L4: what a bound on the colour says of the places below i: they hold, and none of them is marked
   pub holds : (t i : ℕ) → 2 * i ≤ col t → i ≤ p t → Fulls t i
@@ -129,10 +126,10 @@ module _ {n : ℕ} {E M S U W : ℕ → ℕ → ℕ → Type 0} {K : ℕ → ℕ
           by2 (no z) = absurd (unmarked t i j c (omega arith) x)
 
   -- p does not fall below i
-  pub p-keeps : (t i : ℕ) → 2 * i + 1 ≤ col t → i ≤ p t → i ≤ p (suc t)
+  pub p-keeps : (t i : ℕ) → 2 * i ≤ col t → i ≤ p t → i ≤ p (suc t)
   p-keeps t zero c l = omega arith
   p-keeps t (suc i) c l =
-      let h : Fulls t (suc i) = holds t (suc i) (omega arith) l in
+      let h : Fulls t (suc i) = holds t (suc i) c l in
       let (r, w) = h i (omega arith) in
       let s = R .move t i r w in
       let e = rank-full t i (λ j m. h j (omega arith)) in
@@ -141,12 +138,7 @@ module _ {n : ℕ} {E M S U W : ℕ → ℕ → ℕ → Type 0} {K : ℕ → ℕ
 
   -- a path is in set 0 at every time
   pub in-zero : (ξ : ℕ → ℕ) → Path E S ξ → (t : ℕ) → S t 0 (ξ t)
-  in-zero ξ h zero = h .starts
-  in-zero ξ h (suc t) = zero-step t (ξ t) (ξ (suc t)) (in-zero ξ h t) (h .goes t)
+  in-zero ξ h t = reaches t ξ (h .starts) (λ s l. h .goes s)
 
   pub zero-stays : (ξ : ℕ → ℕ) → Path E S ξ → (t : ℕ) → None (W t 0) → ⊥
-  zero-stays ξ h t z = by (R .gone t 0 (ξ (suc t)) (R .old t 0 (ξ t) (ξ (suc t)) (in-zero ξ h t) (h .goes t)))
-    where
-      by : W t 0 (ξ (suc t)) ⊎ ((i : ℕ) × (i < 0) × K t i × W t i (ξ (suc t))) → ⊥
-      by (inl w) = z (ξ (suc t)) w
-      by (inr (i, l, k, v)) = omega arith
+  zero-stays ξ h t z = z (ξ (suc t)) (zero-kept t (ξ t) (ξ (suc t)) (in-zero ξ h t) (h .goes t))

@@ -6,7 +6,7 @@ use native.Mathlib.Omega.{arith}
 use native.Mathlib.Decide.{decLt, ℕ-discrete, le-ind}
 use Rattle.finite.specs.Finite.{trace}
 use Rattle.theory.specs.Run.{Run, Path, Often}
-use Rattle.theory.specs.Basic.{at-place, origin, inside, rank-le, rank-full, Fulls, rank-ge, holds, keeps}
+use Rattle.theory.specs.Basic.{at-place, origin, inside, rank-le, rank-full, Fulls, rank-ge, holds, keeps, p-keeps}
 
 -- what section 3 grants: a path that is in place i at some time from T on, if no colour from T on is below 2i + 2 and place i is marked
 -- again and again
@@ -41,11 +41,7 @@ module _ {n : ℕ} {E M S U W : ℕ → ℕ → ℕ → Type 0} {K : ℕ → ℕ
             by2 (no x) = let m = rank-ge R t (suc i) j (fulls t a l) (omega arith) in omega arith
 
     front-keeps : (t : ℕ) → T ≤ t → i < p t → i < p (suc t)
-    front-keeps t a l =
-        let (r, w) = fulls t a l i (omega arith) in
-        let e = rank-here t a l in
-        let f = R .front (suc t) (rank t i) r (R .move t i r w) in
-        omega arith
+    front-keeps t a l = p-keeps R t (suc i) (let d = c t a in omega arith) l
 
     -- L7: the states of place i go on into place i, and come from there
     flow : (t q r : ℕ) → T ≤ t → S t i q → E t q r → S (suc t) i r

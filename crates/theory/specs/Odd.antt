@@ -6,66 +6,61 @@ use mathlib.Core.Logic.{_⊎_, inl, inr}
 use native.Mathlib.Omega.{arith}
 use native.Mathlib.Decide.{ℕ-discrete, le-ind}
 use Rattle.theory.specs.Run.{None, Run, Path, Often}
-use Rattle.theory.specs.Basic.{rank-le, rank-gap, Fulls, rank-ge, holds, keeps, p-keeps, in-zero, zero-stays}
+use Rattle.theory.specs.Basic.{rank-le, rank-gap, rank-ge, holds, keeps, p-keeps, in-zero, zero-stays}
 
 module _ {n : ℕ} {E M S U W : ℕ → ℕ → ℕ → Type 0} {K : ℕ → ℕ → Type 0} {p col : ℕ → ℕ} {rank : ℕ → ℕ → ℕ}
     (R : Run n E M S U W K p col rank) where
-  -- (a) one step of a path that is in a place from i on: its place does not rise, and falls where place i is emptied
-  advance : (t i k q r : ℕ) → 2 * i + 1 ≤ col t → i ≤ k → S t k q → E t q r → (k' : ℕ) × (i ≤ k') × (k' ≤ k) × S (suc t) k' r
-  advance t i k q r c l s e =
-      let f : k < p t = R .front t k q s in
-      let (j, a, b, w) = keeps R t i k r c l (R .old t k q r s e) in
-      let h : Fulls R t i = holds R t i (omega arith) (omega arith) in
-      (rank t j, rank-ge R t i j h a, (let m = rank-le R t j in omega arith), R .move t j r w)
-
-  descend : (t i k q r : ℕ) → 2 * i + 1 ≤ col t → i ≤ k → None (W t i) → S t k q → E t q r → (k' : ℕ) × (i ≤ k') × (k' < k) × S (suc t) k' r
-  descend t i k q r c l z s e =
-      let f : k < p t = R .front t k q s in
-      let (j, a, b, w) = keeps R t i k r c l (R .old t k q r s e) in
-      let h : Fulls R t i = holds R t i (omega arith) (omega arith) in
-      (rank t j, rank-ge R t i j h a, low j a b w (ℕ-discrete i j), R .move t j r w)
+  -- (a) a state in a place from i on comes to one from i on: its place does not rise, and falls where place i is emptied
+  lands : (t i k r : ℕ) → 2 * i + 1 ≤ col t → i ≤ k → i ≤ p t → U t k r
+      → (k' : ℕ) × (i ≤ k') × (k' ≤ k) × (None (W t i) → k' < k) × S (suc t) k' r
+  lands t i k r c l f u =
+      let (j, a, b, w) = keeps R t i k r c l u in
+      let m = rank-le R t j in
+      (rank t j, rank-ge R t i j (holds R t i (omega arith) f) a, omega arith, λ z. low j a b w z (ℕ-discrete i j), R .move t j r w)
     where
-      low : (j : ℕ) → i ≤ j → j ≤ k → W t j r → Dec (i ≡ j) → rank t j < k
-      low j a b w (yes x) = absurd (z r (rw (← x) at w))
-      low j a b w (no x) = let m = rank-gap R t i j z (omega arith) in omega arith
+      low : (j : ℕ) → i ≤ j → j ≤ k → W t j r → None (W t i) → Dec (i ≡ j) → rank t j < k
+      low j a b w z (yes x) = absurd (z r (rw (← x) at w))
+      low j a b w z (no x) = let m = rank-gap R t i j z (omega arith) in omega arith
+
+  -- one step of a path
+  advance : (t i k q r : ℕ) → 2 * i + 1 ≤ col t → i ≤ k → S t k q → E t q r
+      → (k' : ℕ) × (i ≤ k') × (k' ≤ k) × (None (W t i) → k' < k) × S (suc t) k' r
+  advance t i k q r c l s e = lands t i k r c l (let f = R .front t k q s in omega arith) (R .old t k q r s e)
 
   -- a path under colours from 2i + 1 on
   module _ (i T : ℕ) (c : (t : ℕ) → T ≤ t → 2 * i + 1 ≤ col t) (ξ : ℕ → ℕ) (h : Path E S ξ) where
     carry : (t k : ℕ) → T ≤ t → i ≤ k → S t k (ξ t) → (u : ℕ) → t ≤ u → (k' : ℕ) × (i ≤ k') × (k' ≤ k) × S u k' (ξ u)
     carry t k a l s u m = le-ind (λ v. (k' : ℕ) × (i ≤ k') × (k' ≤ k) × S v k' (ξ v)) (k, l, omega arith, s)
         (λ v x (k', y, z, w).
-        let (k'', y', z', w') = advance v i k' (ξ v) (ξ (suc v)) (c v (omega arith)) y w (h .goes v) in
+        let (k'', y', z', less, w') = advance v i k' (ξ v) (ξ (suc v)) (c v (omega arith)) y w (h .goes v) in
         (k'', y', omega arith, w')) u m
 
     -- (d) place i is emptied again and again: the place of the path falls without end
-    sink : ((t : ℕ) → (u : ℕ) × (t ≤ u) × None (W u i)) → (f t k : ℕ) → T ≤ t → i ≤ k → k ≤ i + f → S t k (ξ t) → ⊥
-    sink empties zero t k a l b s =
-        let (u, m, z) = empties t in
-        let (k', y, x, w) = carry t k a l s u m in
-        let (k'', y', x', w') = descend u i k' (ξ u) (ξ (suc u)) (c u (omega arith)) y z w (h .goes u) in omega arith
+    sink : ((t : ℕ) → (u : ℕ) × (t ≤ u) × None (W u i)) → (f t k : ℕ) → T ≤ t → i ≤ k → k < i + f → S t k (ξ t) → ⊥
+    sink empties zero t k a l b s = omega arith
     sink empties (suc f) t k a l b s =
         let (u, m, z) = empties t in
         let (k', y, x, w) = carry t k a l s u m in
-        let (k'', y', x', w') = descend u i k' (ξ u) (ξ (suc u)) (c u (omega arith)) y z w (h .goes u) in
+        let (k'', y', x', less, w') = advance u i k' (ξ u) (ξ (suc u)) (c u (omega arith)) y w (h .goes u) in
+        let d = less z in
         sink empties f (suc u) k'' (omega arith) y' (omega arith) w'
 
     -- (b) the count of non-empty sets does not fall below i
     p-carry : (t : ℕ) → T ≤ t → i ≤ p t → (u : ℕ) → t ≤ u → i ≤ p u
-    p-carry t a l u m = le-ind (λ v. i ≤ p v) l (λ v x y. p-keeps R v i (c v (omega arith)) y) u m
+    p-carry t a l u m = le-ind (λ v. i ≤ p v) l (λ v x y. p-keeps R v i (let d = c v (omega arith) in omega arith) y) u m
 
     -- (c) at a recurrent transition the path enters a place from i on
     enter : (u : ℕ) → T ≤ u → i ≤ p u → M u (ξ u) (ξ (suc u)) → (k : ℕ) × (i ≤ k) × (k ≤ p u) × S (suc u) k (ξ (suc u))
     enter u a l x =
-        let (j, y, z, w) = keeps R u i (p u) (ξ (suc u)) (c u a) l (R .new u (ξ u) (ξ (suc u)) (in-zero R ξ h u) x) in
-        let g : Fulls R u i = holds R u i (let d = c u a in omega arith) l in
-        (rank u j, rank-ge R u i j g y, (let m = rank-le R u j in omega arith), R .move u j (ξ (suc u)) w)
+        let (k, y, y', less, s) = lands u i (p u) (ξ (suc u)) (c u a) l l (R .new u (ξ u) (ξ (suc u)) (in-zero R ξ h u) x) in
+        (k, y, y', s)
 
     no-emptied : Often M ξ → ((t : ℕ) → (u : ℕ) × (t ≤ u) × None (W u i) × (i < p u)) → ⊥
     no-emptied o empties =
         let (u₀, a, z, l) = empties T in
         let (u, b, x) = o u₀ in
         let (k, y, y', s) = enter u (omega arith) (p-carry u₀ a (omega arith) u (omega arith)) x in
-        sink (λ t. let (v, d, e, g) = empties t in (v, d, e)) k (suc u) k (omega arith) y (omega arith) s
+        sink (λ t. let (v, d, e, g) = empties t in (v, d, e)) (suc k) (suc u) k (omega arith) y (omega arith) s
 
   module _ (T : ℕ) (c : (t : ℕ) → T ≤ t → 2 * n + 1 ≤ col t) (ξ : ℕ → ℕ) (h : Path E S ξ) (o : Often M ξ) where
     -- (e) only the neutral colour: the count of non-empty sets grows at every recurrent transition

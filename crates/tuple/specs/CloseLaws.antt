@@ -13,6 +13,7 @@ use Rattle.sets.specs.SetLaws.{no-member}
 use Rattle.sets.specs.TestLaws.{some-of, none-of, empty-of, full-of}
 use Rattle.finite.specs.Finite.{pigeon-rel}
 use Rattle.theory.specs.Run.{Some, None}
+use Rattle.theory.specs.Basic.{rank-mono}
 use Rattle.tuple.specs.Step.{unlessEmpty, closed, closeUp, Place, statesAt, turns}
 use Rattle.tuple.specs.PassLaws.{In, After, two, kept, own}
 
@@ -25,11 +26,6 @@ bump-suc : (b : Bool) (c : ℕ) → bump b (suc c) ≡ suc (bump b c)
 unfolding bump
 bump-suc true c = refl
 bump-suc false c = refl
-
-bump-mono : (b : Bool) (c d : ℕ) → c ≤ d → bump b c ≤ bump b d
-unfolding bump
-bump-mono true c d l = l
-bump-mono false c d l = omega arith
 
 -- the count of non-empty places below j
 unfoldable pub rank : ℕ → List Place → ℕ
@@ -56,13 +52,6 @@ rank-none zero [] h = refl
 rank-none (suc j) [] h = refl
 rank-none zero (x ∷ w) h = rw (empty-of (x .states) h)
 rank-none (suc j) (x ∷ w) h = ap (bump (isEmpty (x .states))) (rank-none j w h)
-
-rank-mono : (i j : ℕ) (w : List Place) → i ≤ j → rank i w ≤ rank j w
-unfolding rank
-rank-mono zero j w l = omega arith
-rank-mono (suc i) zero w l = absurd (omega arith)
-rank-mono (suc i) (suc j) [] l = omega arith
-rank-mono (suc i) (suc j) (x ∷ w) l = bump-mono (isEmpty (x .states)) (rank i w) (rank j w) (rank-mono i j w (omega arith))
 
 cons-bump : (b : Bool) (x : ℕ) (l : List ℕ) (k r : ℕ) → In l k r → In (unlessEmpty b x l) (bump b k) r
 unfolding bump unlessEmpty
@@ -134,7 +123,10 @@ room n k l small = by (decLe (length (closeUp (turns k l))) n)
       where
         by2 : Dec (i < j) → ⊥
         by2 (yes q) = y j q z
-        by2 (no q) = let s = rank-mono j i (turns k l) (omega arith) in omega arith
+        by2 (no q) =
+            let w = turns k l in
+            let s = rank-mono (dec-place w) (λ j. rank-some j w) (λ j. rank-none j w) j i (omega arith) in
+            omega arith
 
     by : Dec (length (closeUp (turns k l)) ≤ n) → length (closeUp (turns k l)) ≤ n
     by (yes m) = m
