@@ -1,7 +1,7 @@
 -- What the questions 4, 7 and 8 grant: transitions lie within n and k, and so do the states of walks. Assumes nothing.
 use Prim.Native.Nat.{ℕ, zero, suc, _+_, _*_, _/_, _%_, _≤_, _<_}
 use mathlib.Core.Path.{_≡_, subst}
-use mathlib.Core.Logic.{Dec·and}
+use mathlib.Core.Logic.{Dec·and, Dec·of-iff}
 use native.Mathlib.Omega.{arith}
 use native.Mathlib.Decide.{decLt}
 use Rattle.sets.specs.Sets.{Member}
@@ -10,11 +10,10 @@ use Rattle.automaton.specs.Automaton.{Automaton, Edge, Fits, successorSe
 use Rattle.automaton.specs.Meeting.{Walk}
 
 pub edge-dec : (A : Automaton) (l q r : ℕ) → Dec (Edge A l q r)
-edge-dec A l q r = by (Dec·and (decLt l (A .k)) (Dec·and (decLt q (A .n)) (member-dec (successorSet A q l) r)))
-  where
-    by : Dec ((l < A .k) × ((q < A .n) × Member (successorSet A q l) r)) → Dec (Edge A l q r)
-    by (yes (a, (b, c))) = yes (record { letter = a; from = b; to = c })
-    by (no f) = no (λ e. f (e .letter, (e .from, e .to)))
+edge-dec A l q r =
+    Dec·of-iff
+    (λ (a, (b, c)). record { letter = a; from = b; to = c }, λ e. (e .letter, (e .from, e .to)))
+    (Dec·and (decLt l (A .k)) (Dec·and (decLt q (A .n)) (member-dec (successorSet A q l) r)))
 
 -- a member of a cell is a transition
 pub edge-of : (A : Automaton) → Fits A → (l q r : ℕ) → l < 8 → Member (successorSet A q l) r → Edge A l q r

@@ -1,11 +1,10 @@
 -- docs/THEORY.md, section 3 (ii): for any endless word, with the premise LPO, there is a path through place i, and a least colour entered without end.
 use Prim.Native.Nat.{ℕ, zero, suc, _+_, _*_, _-_, _≤_, _<_}
 use mathlib.Core.Path.{_≡_, refl, sym, subst}
-use mathlib.Core.Logic.{_⊎_, inl, inr, Dec·and}
+use mathlib.Core.Logic.{_⊎_, inl, inr, Dec·and, Dec·not, Dec·not-not}
 use native.Mathlib.Omega.{arith}
 use native.Mathlib.Decide.{ℕ-discrete}
-use mathlib.Core.Bool.{Bool, true, false}
-use lib.Dec.{T}
+use mathlib.Core.Bool.{Bool, true, decide, decide-iff}
 use Rattle.finite.specs.Finite.{find}
 use Rattle.theory.specs.Run.{Run, Path, Least}
 use Rattle.theory.specs.Basic.{inside, lead-in}
@@ -13,30 +12,16 @@ use Rattle.theory.specs.Even.{Through, path-inside}
 
 -- an endless row of yes and no either holds a yes or holds none
 pub LPO : Type 0
-LPO = (f : ℕ → Bool) → ((k : ℕ) × T (f k)) ⊎ ((k : ℕ) → T (f k) → ⊥)
-
-bool : {P : Type 0} → Dec P → Bool
-bool (yes x) = true
-bool (no x) = false
-
-bool-yes : {P : Type 0} (d : Dec P) → T (bool d) → P
-unfolding bool
-bool-yes (yes x) h = x
-bool-yes (no x) h = absurd h
-
-bool-of : {P : Type 0} (d : Dec P) → P → T (bool d)
-unfolding bool
-bool-of (yes x) h = tt
-bool-of (no x) h = absurd (x h)
+LPO = (f : ℕ → Bool) → ((k : ℕ) × (f k ≡ true)) ⊎ ((k : ℕ) → f k ≡ true → ⊥)
 
 -- the same for a row of decidable statements
 lpo : LPO → (P : ℕ → Type 0) → ((k : ℕ) → Dec (P k)) → ((k : ℕ) × P k) ⊎ ((k : ℕ) → P k → ⊥)
 unfolding LPO
-lpo h P d = by (h (λ k. bool (d k)))
+lpo h P d = by (h (λ k. decide (d k)))
   where
-    by : ((k : ℕ) × T (bool (d k))) ⊎ ((k : ℕ) → T (bool (d k)) → ⊥) → ((k : ℕ) × P k) ⊎ ((k : ℕ) → P k → ⊥)
-    by (inl (k, x)) = inl (k, bool-yes (d k) x)
-    by (inr x) = inr (λ k y. x k (bool-of (d k) y))
+    by : ((k : ℕ) × (decide (d k) ≡ true)) ⊎ ((k : ℕ) → decide (d k) ≡ true → ⊥) → ((k : ℕ) × P k) ⊎ ((k : ℕ) → P k → ⊥)
+    by (inl (k, x)) = inl (k, decide-iff (d k) .0 x)
+    by (inr x) = inr (λ k y. x k (decide-iff (d k) .1 y))
 
 -- bounds for each of n things: one bound for all
 bound : (n : ℕ) (Q : ℕ → ℕ → Type 0) → ((r d e : ℕ) → d ≤ e → Q r d → Q r e) → ((r : ℕ) → r < n → (d : ℕ) × Q r d)
@@ -76,19 +61,11 @@ module _ (h : LPO) (n : ℕ) (E : ℕ → ℕ → ℕ → Type 0) (decE : (t q r
   Forever t q = (d : ℕ) → Alive d t q
 
   forever? : (t q : ℕ) → Forever t q ⊎ ((d : ℕ) × (Alive d t q → ⊥))
-  forever? t q = by (lpo h (λ d. Alive d t q → ⊥) (λ d. neg (decAlive d t q)))
+  forever? t q = by (lpo h (λ d. Alive d t q → ⊥) (λ d. Dec·not (decAlive d t q)))
     where
-      neg : {X : Type 0} → Dec X → Dec (X → ⊥)
-      neg (yes x) = no (λ f. f x)
-      neg (no x) = yes x
-
-      pos : (d : ℕ) → ((Alive d t q → ⊥) → ⊥) → Dec (Alive d t q) → Alive d t q
-      pos d f (yes x) = x
-      pos d f (no x) = absurd (f x)
-
       by : ((d : ℕ) × (Alive d t q → ⊥)) ⊎ ((d : ℕ) → (Alive d t q → ⊥) → ⊥) → Forever t q ⊎ ((d : ℕ) × (Alive d t q → ⊥))
       by (inl x) = inr x
-      by (inr x) = inl (λ d. pos d (x d) (decAlive d t q))
+      by (inr x) = inl (λ d. Dec·not-not (decAlive d t q) .0 (x d))
 
   -- of finitely many states, some of which is alive for each d, one is alive for ever
   some-forever : (t : ℕ) (Z : ℕ → Type 0) → ((q : ℕ) → Dec (Z q)) → ((d : ℕ) → (q : ℕ) × (q < n) × Z q × Alive d t q)

@@ -1,7 +1,7 @@
 -- The places before the marking pass: facts F1 and F2 of the theory. Assumes nothing.
 use Prim.Native.Nat.{ℕ, suc, _≤_, _<_}
 use mathlib.Core.Path.{_≡_, sym, subst, ap, _∙_}
-use mathlib.Core.Logic.{Dec·and}
+use mathlib.Core.Logic.{Dec·and, Dec·of-iff}
 use mathlib.Core.List.{List, [], _∷_, map}
 use native.Mathlib.Omega.{arith}
 use native.Mathlib.Decide.{decLt}
@@ -17,11 +17,8 @@ use Rattle.tuple.specs.Step.{setAt, recurrent, Recurrent, places}
 use Rattle.tuple.specs.PassLaws.{In, front}
 
 pub recurrent-dec : (A : Automaton) (l q r : ℕ) → Dec (Recurrent A l q r)
-recurrent-dec A l q r = by (Dec·and (edge-dec A l q r) (member-dec (A .recurring) r))
-  where
-    by : Dec (Edge A l q r × Member (A .recurring) r) → Dec (Recurrent A l q r)
-    by (yes (a, b)) = yes (record { edge = a; into = b })
-    by (no f) = no (λ e. f (e .edge, e .into))
+recurrent-dec A l q r =
+    Dec·of-iff (λ (a, b). record { edge = a; into = b }, λ e. (e .edge, e .into)) (Dec·and (edge-dec A l q r) (member-dec (A .recurring) r))
 
 pub places-length : (A : Automaton) (l : ℕ) (sets : List ℕ) → length (places A l sets) ≡ suc (length sets)
 unfolding places
