@@ -50,7 +50,7 @@ settle-done n p cells result c h swept =
     sym (getD-take (p + 1) cells 0 0 (omega arith)) ∙ sym (pass-first (take (p + 1) cells)) in
     rw (swept .closes, swept .coloured, z)
 
-module _ (A : Automaton) (l : ℕ) (cells : List ℕ) (steps : Steps A l cells) where
+module _ {A : Automaton} {l : ℕ} {cells : List ℕ} (steps : Steps A l cells) where
   few : length (setsOf cells) ≤ setCells
   few = let a = leading-length (take setCells cells) in let b = length-take setCells cells in omega arith
 

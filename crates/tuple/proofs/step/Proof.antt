@@ -1,7 +1,5 @@
 -- Points 1 and 2, then points 3 to 5. Assumes nothing.
 use mathlib.Core.Path.{_∙_}
-use denote.Ref.{now}
-use Rattle.automaton.specs.Automaton.{automaton}
 use Rattle.tuple.specs.StepLaws.{cells-length, placed-few, step-done}
 use borrow.Author.Needs.{needs}
 use Rattle.tuple.proofs.step.Statement.{statement}
@@ -12,21 +10,17 @@ place-sets-requires c κs = search needs
 
 settle-requires : tie.Need-settle-requires
 settle-requires c κs =
-    let g = c .before .before .before .before .before .before .before .args in
-    let A = automaton (g .a) (now (g .table)) in
     let s = c .before .before .before .before .before .before .before .pre in
     let v = c .before .before .before .place-sets in
-    (s .fits .range .1, placed-few A (g .letter) (now (g .w)) s (v .ensures), v .kept .1 .1 .1 .0 ∙ cells-length A (g .letter) (now (g .w)) s)
+    (s .fits .range .1, placed-few s (v .ensures), v .kept .1 .1 .1 .0 ∙ cells-length s)
 
 same-length : tie.Need-same-length
 same-length c = search needs
 
 returns : tie.Need-returns
 returns c =
-    let g = c .before .before .before .before .before .before .before .before .before .before .args in
-    let A = automaton (g .a) (now (g .table)) in
     let s = c .before .before .before .before .before .before .before .before .before .before .pre in
-    c .before .before .settle .ensures ∙ step-done A (g .letter) (now (g .w)) s (c .before .before .before .before .before .before .place-sets .ensures)
+    c .before .before .settle .ensures ∙ step-done s (c .before .before .before .before .before .before .place-sets .ensures)
 
 pub step-spec : {M : Type 1} → statement M
 step-spec = tie.close (tie.spec place-sets-requires settle-requires same-length returns)
