@@ -110,7 +110,7 @@ module _ {n : ℕ} {E M S U W : ℕ → ℕ → ℕ → Type 0} {K : ℕ → ℕ
       by (inl s) = s
       by (inr s) = absurd (let a = R .col-gone t j (omega arith) s in omega arith)
 
-  pub unmarked : (t i j : ℕ) → 2 * i + 1 ≤ col t → j < i → K t j → ⊥
+  unmarked : (t i j : ℕ) → 2 * i + 1 ≤ col t → j < i → K t j → ⊥
   unmarked t i j c l k = let a = R .col-mark t j k in omega arith
 
   -- L5: a state in a place from i on stays in one from i on, not later

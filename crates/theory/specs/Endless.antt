@@ -6,9 +6,9 @@ use native.Mathlib.Omega.{arith}
 use native.Mathlib.Decide.{ℕ-discrete}
 use mathlib.Core.Bool.{Bool, true, decide, decide-iff}
 use Rattle.finite.specs.Finite.{find}
-use Rattle.theory.specs.Run.{Run, Path, Least}
+use Rattle.theory.specs.Run.{Run, Path, Through, Least}
 use Rattle.theory.specs.Basic.{inside, lead-in}
-use Rattle.theory.specs.Even.{Through, path-inside}
+use Rattle.theory.specs.Even.{path-inside}
 
 -- an endless row of yes and no either holds a yes or holds none
 pub LPO : Type 0

@@ -8,13 +8,6 @@ use Rattle.finite.specs.Finite.{trace}
 use Rattle.theory.specs.Run.{Run, Path, Often}
 use Rattle.theory.specs.Basic.{at-place, origin, inside, rank-le, rank-full, Fulls, rank-ge, holds, keeps, p-keeps}
 
--- what section 3 grants: a path that is in place i at some time from T on, if no colour from T on is below 2i + 2 and place i is marked
--- again and again
-abbrev pub Through : (E S : ℕ → ℕ → ℕ → Type 0) (K : ℕ → ℕ → Type 0) (col : ℕ → ℕ) → Type 0
-Through E S K col =
-    (i T : ℕ) → ((t : ℕ) → T ≤ t → 2 * i + 2 ≤ col t) → ((t : ℕ) → (u : ℕ) × (t ≤ u) × K u i)
-    → (ξ : ℕ → ℕ) × (A : ℕ) × Path E S ξ × (T ≤ A) × S A i (ξ A)
-
 module _ {n : ℕ} {E M S U W : ℕ → ℕ → ℕ → Type 0} {K : ℕ → ℕ → Type 0} {p col : ℕ → ℕ} {rank : ℕ → ℕ → ℕ}
     (R : Run n E M S U W K p col rank) where
   -- place i under colours from 2i + 2 on: it is never emptied, and no place before it is marked
@@ -81,7 +74,7 @@ module _ {n : ℕ} {E M S U W : ℕ → ℕ → ℕ → Type 0} {K : ℕ → ℕ
 
     -- the one place where meeting walks matter: no other state of set 0 steps to the next state of ξ
     module _ (ξ : ℕ → ℕ) (h : Path E S ξ) (alone : (t q : ℕ) → S t 0 q → E t q (ξ (suc t)) → q ≡ ξ t) where
-      -- L9: from behind no place, over a transition that is not recurrent, into no place behind i
+      -- L9: from a state in no place behind i, over a transition that is not recurrent, into no place behind i
       off-step : (t : ℕ) → Off t (ξ t) → (M t (ξ t) (ξ (suc t)) → ⊥) → (j : ℕ) → i < j → U t j (ξ (suc t)) → ⊥
       off-step t off nm j l u = by (origin R t j (ξ (suc t)) u)
         where

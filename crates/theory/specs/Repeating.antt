@@ -4,9 +4,9 @@ use mathlib.Core.Path.{_≡_, sym, _∙_, ap}
 use native.Mathlib.Omega.{arith}
 use native.Mathlib.Nat.{mul-le-mul-right}
 use Rattle.finite.specs.Finite.{pigeon, loop, shift}
-use Rattle.theory.specs.Run.{Run, Path}
+use Rattle.theory.specs.Run.{Run, Path, Through}
 use Rattle.theory.specs.Basic.{inside, lead-in}
-use Rattle.theory.specs.Even.{Through, path-inside}
+use Rattle.theory.specs.Even.{path-inside}
 
 module _ {n : ℕ} {E M S U W : ℕ → ℕ → ℕ → Type 0} {K : ℕ → ℕ → Type 0} {p col : ℕ → ℕ} {rank : ℕ → ℕ → ℕ}
     (R : Run n E M S U W K p col rank) where

@@ -63,6 +63,13 @@ Often M ξ = (t : ℕ) → (u : ℕ) × (t < u) × M u (ξ u) (ξ (suc u))
 abbrev pub Alone : (E S : ℕ → ℕ → ℕ → Type 0) → Type 0
 Alone E S = (ξ : ℕ → ℕ) → Path E S ξ → (t q : ℕ) → S t 0 q → E t q (ξ (suc t)) → q ≡ ξ t
 
+-- what section 3 grants: a path that is in place i at some time from T on, if no colour from T on is below 2i + 2 and place i is marked
+-- again and again
+abbrev pub Through : (E S : ℕ → ℕ → ℕ → Type 0) (K : ℕ → ℕ → Type 0) (col : ℕ → ℕ) → Type 0
+Through E S K col =
+    (i T : ℕ) → ((t : ℕ) → T ≤ t → 2 * i + 2 ≤ col t) → ((t : ℕ) → (u : ℕ) × (t ≤ u) × K u i)
+    → (ξ : ℕ → ℕ) × (A : ℕ) × Path E S ξ × (T ≤ A) × S A i (ξ A)
+
 -- c is the least colour entered without end
 pub record Least (col : ℕ → ℕ) (c : ℕ) : Type 0 where
   pub often : (t : ℕ) → (u : ℕ) × (t ≤ u) × (col u ≡ c)

@@ -5,14 +5,14 @@ use mathlib.Core.Logic.{_↔_}
 use native.Mathlib.Omega.{arith}
 use native.Mathlib.Decide.{ℕ-discrete}
 use Rattle.finite.specs.Finite.{lowest, low, often}
-use Rattle.theory.specs.Run.{Run, Path, Often, Alone, Least}
+use Rattle.theory.specs.Run.{Run, Path, Often, Alone, Through, Least}
 use Rattle.theory.specs.Odd.{never-odd}
-use Rattle.theory.specs.Even.{Through, marks}
+use Rattle.theory.specs.Even.{marks}
 use Rattle.theory.specs.Repeating.{through}
 use Rattle.theory.specs.Endless.{LPO, through as through-endless}
 
 -- a sequence of colours that repeats: the least of one repetition is the least entered without end
-pub least-repeating : (col : ℕ → ℕ) (T d : ℕ) → ((t : ℕ) → T ≤ t → col (t + suc d) ≡ col t) → Least col (lowest col T d)
+least-repeating : (col : ℕ → ℕ) (T d : ℕ) → ((t : ℕ) → T ≤ t → col (t + suc d) ≡ col t) → Least col (lowest col T d)
 least-repeating col T d again = record { often = often col T d again; from = T; low = low col T d again }
 
 module _ {n : ℕ} {E M S U W : ℕ → ℕ → ℕ → Type 0} {K : ℕ → ℕ → Type 0} {p col : ℕ → ℕ} {rank : ℕ → ℕ → ℕ}

@@ -29,10 +29,10 @@ run-repeats A w T d word again t l =
 
 module _ {A : Automaton} (fits : Fits A) (w : ℕ → ℕ) (letters : (t : ℕ) → w t < A .k) where
   -- the places of step t before the marking pass, and after it
-  abbrev pub before : ℕ → List ℕ
+  abbrev before : ℕ → List ℕ
   before t = places A (w t) (run A w t .sets)
 
-  abbrev pub after : ℕ → List Place
+  abbrev after : ℕ → List Place
   after t = pass (before t)
 
   same-length : (t : ℕ) → length (before t) ≤ length (before t)

@@ -141,5 +141,4 @@ pub record Formed (A : Automaton) (u : Tuple) : Type 0 where
   pub few : length (u .sets) ≤ A .n
   pub full : (i : ℕ) → i < length (u .sets) → setAt (u .sets) i ≡ 0 → ⊥
   pub states : (i q : ℕ) → Member (setAt (u .sets) i) q → q < A .n
-  pub some-colour : 1 ≤ u .colour
   pub most-colour : u .colour ≤ neutral (A .n)

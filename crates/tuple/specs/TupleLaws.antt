@@ -11,7 +11,7 @@ use Rattle.automaton.specs.Automaton.{Automaton, Fits}
 use Rattle.tuple.specs.Step.{Tuple, Formed, setAt, places, Place, place, pass, closeUp, first, next, run}
 use Rattle.tuple.specs.PassLaws.{In, After, kept}
 use Rattle.tuple.specs.CloseLaws.{rank, move, move⁻, full, room, closeUp-length}
-use Rattle.tuple.specs.ColourLaws.{col-pos, col-top}
+use Rattle.tuple.specs.ColourLaws.{col-top}
 use Rattle.tuple.specs.PlaceLaws.{places-state}
 
 -- each set is a number below 2^n
@@ -41,7 +41,6 @@ module _ {A : Automaton} (fits : Fits A) where
     few = (let a = closeUp-length (first-places A) in let b = fits .range .0 in omega arith);
     full = λ i h. not-empty (setAt (first A .sets) i) (full (first-places A) i h);
     states = λ i q h. fits .states .0 q (first-in A i q h .1);
-    some-colour = omega arith;
     most-colour = omega arith;
   }
 
@@ -59,7 +58,6 @@ module _ {A : Automaton} (fits : Fits A) where
       few = room (A .n) (length (places A l (u .sets))) (places A l (u .sets)) (places-state fits l letter (u .sets));
       full = λ i h. not-empty (setAt (next A l u .sets) i) (full (pass (places A l (u .sets))) i h);
       states = next-state;
-      some-colour = col-pos (A .n) (length (u .sets)) (pass (places A l (u .sets)));
       most-colour = col-top (A .n) (length (u .sets)) (pass (places A l (u .sets)));
     }
 
