@@ -71,6 +71,13 @@ module _ (table : List ℕ) (l x : ℕ) where
     meaning = λ r. (λ h. (k, successors-in r h), λ (k, w). let (q, j, h, g) = w in successors-of-member q r j h g);
   }
 
+-- there is no other set with that meaning
+pub successors-are : (table : List ℕ) (l x r : ℕ) → l < 8 → Successors table l x r → r ≡ successorsOf table l x
+successors-are table l x r k h =
+    ext-member r (successorsOf table l x)
+    (λ s m. let (j, (q, a, b, c)) = h .meaning s .0 m in successors-of-member table l x q s a b c)
+    (λ s m. h .meaning s .1 (k, successors-in table l x s m))
+
 pub successors-none : (table : List ℕ) (l x : ℕ) → 8 ≤ l → Successors table l x 0
 successors-none table l x k = record {
   small = omega arith;

@@ -1,4 +1,5 @@
--- The successors of a set on a letter: all that the parts above rely on.
+-- The successors of a set on a letter. Calls above rely solely on their published meaning, `Successors`; definitions above name the set with
+-- that meaning, `successorsOf`. That the two are one is the law `successors-are`.
 use Prim.Native.Nat.{ℕ, zero, suc, _+_, _*_, _<_, _^_}
 use mathlib.Core.List.{List}
 use mathlib.Core.Logic.{_↔_}

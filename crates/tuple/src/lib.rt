@@ -106,7 +106,7 @@ fn advance(table: &[u16], letter: usize, w: &mut [u16]) -> usize
         if x == 0 {
             return i;
         }
-        w[i] = automaton::successors_of(table, letter, x);
+        w[i] = automaton::successors(table, letter, x);
         i += 1;
     }
     i

@@ -4,6 +4,7 @@ use mathlib.Core.Path.{_≡_}
 use native.Mathlib.Omega.{arith}
 use denote.Ref.{now}
 use lib.ListN.{length, length-set}
+use Rattle.automaton.specs.SuccessorLaws.{successors-are}
 use Rattle.tuple.specs.AdvanceLaws.{Advancing, advance-none, advance-stop, advance-end, advance-more}
 use borrow.Author.Needs.{needs}
 use Rattle.tuple.proofs.advance.Statement.{statement}
@@ -35,8 +36,8 @@ returns c =
     let l = c .before .before .before .loop in
     advance-stop (now (g .table)) (g .letter) (now (g .w)) (omega arith) (l .inv .3) (omega arith) (c .if1 .taken)
 
-successors-of-requires : tie.Need-successors-of-requires Inv-loop μ-loop
-successors-of-requires c κs = search needs
+successors-requires : tie.Need-successors-requires Inv-loop μ-loop
+successors-requires c κs = search needs
 
 mul-w : tie.Need-mul-w Inv-loop μ-loop
 mul-w c = search needs
@@ -55,7 +56,8 @@ loop-again c =
     let g = c .before .before .before .before .before .before .before .args in
     let l = c .before .before .before .before .loop in
     let next = advance-more (now (g .table)) (g .letter) (now (g .w)) (omega arith) (l .inv .3) (omega arith) (c .before .if1 .left) in
-    (omega arith, simp length-set (l .inv .1), l .inv .2, rw (c .successors-of .ensures) next)
+    let e = successors-are (now (g .table)) (g .letter) _ _ (omega arith) (c .successors .ensures) in
+    (omega arith, simp length-set (l .inv .1), l .inv .2, rw e next)
 
 same-length-2 : tie.Need-same-length-2 Inv-loop μ-loop
 same-length-2 c = search needs
@@ -77,7 +79,7 @@ advance-spec =
     slice-read-x
     same-length
     returns
-    successors-of-requires
+    successors-requires
     mul-w
     slice-write-w
     add-i
