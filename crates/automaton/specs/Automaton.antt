@@ -27,14 +27,14 @@ pub record AreNumbers (A : Automaton) (a : Numbers) : Type 0 where
   pub recurring : a .recurring ≡ A .recurring
 
 -- "The successor set of state q on letter l is number 8q+l of its table."
-abbrev pub successorSet : Automaton → ℕ → ℕ → ℕ
-successorSet A q l = getD (A .table) (8 * q + l) 0
+abbrev pub successorSet : List ℕ → ℕ → ℕ → ℕ
+successorSet table q l = getD table (8 * q + l) 0
 
 -- a transition (from q, letter l, to r); letters are the k letters of the sheet
 pub record Edge (A : Automaton) (l q r : ℕ) : Type 0 where
   pub letter : l < A .k
   pub from : q < A .n
-  pub to : Member (successorSet A q l) r
+  pub to : Member (successorSet (A .table) q l) r
 
 -- "Are n and k in range? No: 4."
 abbrev pub InRange : ℕ → ℕ → Type 0

@@ -14,7 +14,7 @@ isMember x q = eqb (bit x q) 1
 
 -- q has a transition to r on letter l
 unfoldable pub isEdge : Automaton → ℕ → ℕ → ℕ → Bool
-isEdge A l q r = ltb l (A .k) && (ltb q (A .n) && isMember (successorSet A q l) r)
+isEdge A l q r = ltb l (A .k) && (ltb q (A .n) && isMember (successorSet (A .table) q l) r)
 
 -- two walks on one word of t letters end in q and r
 unfoldable pub reached : Automaton → ℕ → ℕ → ℕ → Bool

@@ -23,14 +23,14 @@ everywhere A l q r e c = tt
 
 edge-test : (A : Automaton) (l q r : ℕ) → Edge A l q r → isEdge A l q r ≡ true
 unfolding isEdge
-edge-test A l q r e = rw (lt-ltb l (A .k) (e .letter), lt-ltb q (A .n) (e .from)) (eq-eqb (bit (successorSet A q l) r) 1 (e .to))
+edge-test A l q r e = rw (lt-ltb l (A .k) (e .letter), lt-ltb q (A .n) (e .from)) (eq-eqb (bit (successorSet (A .table) q l) r) 1 (e .to))
 
 edge-is : (A : Automaton) (l q r : ℕ) → isEdge A l q r ≡ true → Edge A l q r
 unfolding isEdge
 edge-is A l q r e =
-    let (a, f) = and-eq-true-iff (ltb l (A .k)) (ltb q (A .n) && isMember (successorSet A q l) r) .0 e in
-    let (b, c) = and-eq-true-iff (ltb q (A .n)) (isMember (successorSet A q l) r) .0 f in
-    record { letter = ltb-true l (A .k) a; from = ltb-true q (A .n) b; to = eqb-true (bit (successorSet A q l) r) 1 c }
+    let (a, f) = and-eq-true-iff (ltb l (A .k)) (ltb q (A .n) && isMember (successorSet (A .table) q l) r) .0 e in
+    let (b, c) = and-eq-true-iff (ltb q (A .n)) (isMember (successorSet (A .table) q l) r) .0 f in
+    record { letter = ltb-true l (A .k) a; from = ltb-true q (A .n) b; to = eqb-true (bit (successorSet (A .table) q l) r) 1 c }
 
 module _ (A : Automaton) (fits : Fits A) (w : ℕ → ℕ) (t : ℕ) (x y : ℕ → ℕ) (v : Walk A w t x) (v′ : Walk A w t y) where
   walks-reached : (s : ℕ) → s ≤ t → reached A s (x s) (y s) ≡ true

@@ -1,5 +1,5 @@
 -- The last letter of a meeting and the states before and after it, in tables that are all zero. Assumes nothing.
-use Prim.Native.Nat.{ℕ, suc, _+_, _*_, _<_}
+use Prim.Native.Nat.{ℕ, suc, _+_, _<_}
 use mathlib.Core.Path.{_≡_, sym, ap, _∙_}
 use mathlib.Core.List.{List}
 use native.Mathlib.Numerals.{add-one}
@@ -7,7 +7,7 @@ use native.Mathlib.Omega.{arith}
 use lib.ListN.{length, getD, set, length-set}
 use lib.Seq.{getD-set-same, getD-set-other}
 use Rattle.sets.specs.Sets.{Member}
-use Rattle.automaton.specs.Automaton.{Automaton, Edge, Fits}
+use Rattle.automaton.specs.Automaton.{Automaton, Edge, Fits, successorSet}
 use Rattle.queue.specs.Queue.{pair, depth, one, other}
 use Rattle.automaton.specs.EdgeLaws.{edge-of}
 use Rattle.meeting.specs.Trace.{Tail, Traced}
@@ -33,7 +33,7 @@ tail-start A d word states l p z hw hs e nw ns = record {
 
 pub trace-start : (A : Automaton) → Fits A → (counts : ℕ) (T : List ℕ) (head e l z : ℕ) (word first second : List ℕ) → e ≡ pair T head
     → depth e < length word → depth e + 1 < length first → depth e + 1 < length second → Zero word → Zero first → Zero second
-    → l < 8 → (one e ≡ other e → ⊥) → Member (getD (A .table) (8 * one e + l) 0) z → Member (getD (A .table) (8 * other e + l) 0) z → Member counts z
+    → l < 8 → (one e ≡ other e → ⊥) → Member (successorSet (A .table) (one e) l) z → Member (successorSet (A .table) (other e) l) z → Member counts z
     → Traced A counts T head (depth e) (depth e) head (set word (depth e) l) (set (set first (depth e) (one e)) (depth e + 1) z) (set (set second (depth e) (other e)) (depth e + 1) z)
 trace-start A fits counts T head e l z word first second he hw hf hs nw nf ns hl f a b c =
     let lf = at-last first (depth e) (one e) z hf in

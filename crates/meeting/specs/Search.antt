@@ -3,9 +3,9 @@ use Prim.Native.Nat.{ℕ, suc, _+_, _*_, _/_, _%_, _≤_, _<_}
 use mathlib.Core.Path.{_≡_}
 use mathlib.Core.Logic.{_⊎_, _↔_}
 use mathlib.Core.List.{List}
-use lib.ListN.{length, getD}
+use lib.ListN.{length}
 use Rattle.sets.specs.Sets.{Member}
-use Rattle.automaton.specs.Automaton.{Automaton, Edge, Fits}
+use Rattle.automaton.specs.Automaton.{Automaton, Edge, Fits, successorSet}
 use Rattle.automaton.specs.Meeting.{Free}
 use Rattle.pairs.specs.Bound.{NoneShorter}
 use Rattle.gate.specs.Gate.{Zero}
@@ -81,14 +81,14 @@ pub record Ready (A : Automaton) (T : List ℕ) (count head : ℕ) : Type 0 wher
 
 -- r are the states that count to which p and q both step on l
 abbrev pub Common : List ℕ → ℕ → ℕ → ℕ → ℕ → ℕ → Type 0
-Common table counts p q l r = (z : ℕ) → Member r z ↔ (Member (getD table (8 * p + l) 0) z × Member (getD table (8 * q + l) 0) z × Member counts z)
+Common table counts p q l r = (z : ℕ) → Member r z ↔ (Member (successorSet table p l) z × Member (successorSet table q l) z × Member counts z)
 
 -- the states of pair e differ, and on letter l both step to a state that counts
 pub record JoinsOn (table : List ℕ) (counts e l : ℕ) : Type 0 where
   pub apart : one e ≡ other e → ⊥
   pub state : ℕ
-  pub left : Member (getD table (8 * one e + l) 0) state
-  pub right : Member (getD table (8 * other e + l) 0) state
+  pub left : Member (successorSet table (one e) l) state
+  pub right : Member (successorSet table (other e) l) state
   pub counted : Member counts state
 
 -- l is the least letter on which pair e joins, or 8 where there is none

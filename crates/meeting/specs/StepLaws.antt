@@ -21,7 +21,7 @@ module _ {A : Automaton} (fits : Fits A) {T₀ : List ℕ} {count₀ head e d : 
   pub step-open : Queue T₀ count₀ → Open T count d (j % 16)
   step-open q = let m = g .more in let u = q .early head h in let v : depth e ≤ head = rw is u in record { queue = g .queue; most = g .most; deep = omega arith; state = omega arith }
 
-  module _ (x : ℕ) {T' : List ℕ} {count' : ℕ} (l : j / 16 < A .k) (gd : Guarded (successorSet A (one e) (j / 16)) (j % 16) (successorSet A (other e) (j / 16)) x)
+  module _ (x : ℕ) {T' : List ℕ} {count' : ℕ} (l : j / 16 < A .k) (gd : Guarded (successorSet (A .table) (one e) (j / 16)) (j % 16) (successorSet (A .table) (other e) (j / 16)) x)
       (y : Longer T count d (j % 16) (Below x 16) (8 * head + j / 16) T' count') where
     why : (q : ℕ) → Below x 16 q → Arrives A T count d (j % 16) q (8 * head + j / 16)
     why q m =

@@ -1,9 +1,9 @@
 -- What the two intersections have is what all three sets have. Assumes nothing.
-use Prim.Native.Nat.{ℕ, _+_, _*_}
+use Prim.Native.Nat.{ℕ}
 use mathlib.Core.Path.{_≡_, sym, ap, subst, _∙_}
-use lib.ListN.{getD}
 use Rattle.sets.specs.Sets.{interOf}
 use Rattle.sets.specs.SetLaws.{inter-both}
+use Rattle.automaton.specs.Automaton.{successorSet}
 use Rattle.meeting.specs.Search.{Common}
 use borrow.Author.Needs.{needs}
 use Rattle.meeting.proofs.common.Statement.{statement}
@@ -43,9 +43,9 @@ returns : tie.Need-returns
 returns c =
     let a = c .before .before .before .before .before .args in
     let t = a .table .now in
-    let e : c .inter2 .result ≡ interOf (interOf (getD t (8 * a .p + a .letter) 0) (getD t (8 * a .q + a .letter) 0)) (a .counts) =
+    let e : c .inter2 .result ≡ interOf (interOf (successorSet t (a .p) (a .letter)) (successorSet t (a .q) (a .letter))) (a .counts) =
     c .inter2 .ensures ∙ ap (λ (x : ℕ). interOf x (a .counts)) (c .before .inter .ensures) in
-    subst (Common t (a .counts) (a .p) (a .q) (a .letter)) (sym e) (inter-both (getD t (8 * a .p + a .letter) 0) (getD t (8 * a .q + a .letter) 0) (a .counts))
+    subst (Common t (a .counts) (a .p) (a .q) (a .letter)) (sym e) (inter-both (successorSet t (a .p) (a .letter)) (successorSet t (a .q) (a .letter)) (a .counts))
 
 pub common-spec : {M : Type 1} → statement M
 common-spec =
