@@ -28,6 +28,10 @@ Everywhere q = Unit
 abbrev pub Free : Automaton → (ℕ → Type 0) → Type 0
 Free A Counts = (w : ℕ → ℕ) (t : ℕ) (x y : ℕ → ℕ) → Meet A Counts w t x y → ⊥
 
+-- no word of fewer than t letters has meeting walks
+abbrev pub NoneShorter : Automaton → (ℕ → Type 0) → ℕ → Type 0
+NoneShorter A Counts t = (w : ℕ → ℕ) (s : ℕ) (x y : ℕ → ℕ) → s < t → Meet A Counts w s x y → ⊥
+
 -- the cells of a table as a sequence
 abbrev pub cells : List ℕ → ℕ → ℕ
 cells table i = getD table i 0
@@ -36,7 +40,7 @@ cells table i = getD table i 0
 -- Free is which shortest word, which two walks on it, and their order.
 pub record Witness (A : Automaton) (Counts : ℕ → Type 0) (length : ℕ) (word one other : List ℕ) : Type 0 where
   pub meets : Meet A Counts (cells word) length (cells one) (cells other)
-  pub shortest : (w : ℕ → ℕ) (t : ℕ) (x y : ℕ → ℕ) → t < length → Meet A Counts w t x y → ⊥
+  pub shortest : NoneShorter A Counts length
   pub most : length ≤ 136
   pub behind-word : (i : ℕ) → length ≤ i → getD word i 0 ≡ 0
   pub behind-one : (i : ℕ) → length < i → getD one i 0 ≡ 0

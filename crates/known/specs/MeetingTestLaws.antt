@@ -10,10 +10,10 @@ use lib.Dec.{eqb, ltb}
 use lib.ListN.{length, getD, List·getD-eq-default}
 use Rattle.sets.specs.Sets.{bit}
 use Rattle.automaton.specs.Automaton.{Automaton, Edge, Fits, successorSet}
-use Rattle.automaton.specs.Meeting.{Walk, Meet, Everywhere, Free, Witness, cells}
+use Rattle.automaton.specs.Meeting.{Walk, Meet, Everywhere, Free, NoneShorter, Witness, cells}
 use Rattle.automaton.specs.EdgeLaws.{walk-in}
 use Rattle.pairs.specs.Joining.{Joins, Backwards, meet-joins}
-use Rattle.pairs.specs.Bound.{NoneShorter, shortest-bound}
+use Rattle.pairs.specs.Bound.{shortest-bound}
 use Rattle.known.specs.Below.{any}
 use Rattle.known.specs.BelowLaws.{not-both, all-at, any-of, any-is}
 use Rattle.known.specs.MeetingTest.{isMember, isEdge, reached, together, joinAt, noneUpTo, isFree, isWalk, doMeet, isShortest}

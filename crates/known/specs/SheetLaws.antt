@@ -4,7 +4,6 @@ use mathlib.Core.Path.{_≡_, refl, sym, ap, subst, _∙_}
 use mathlib.Core.Bool.{Bool, true, false, _&&_, and-eq-true-iff}
 use mathlib.Core.List.{List}
 use native.Mathlib.Omega.{arith}
-use native.Mathlib.Decide.{decLt}
 use borrow.Author.Tests.{ltb-true, ltb-false}
 use lib.Dec.{ltb}
 use lib.ListN.{length}
@@ -13,6 +12,7 @@ use Rattle.gate.specs.Gate.{refusal}
 use Rattle.gate.specs.declared.Refusal.{Refusal}
 use Rattle.automaton.specs.Automaton.{Automaton, Fits}
 use Rattle.automaton.specs.Meeting.{Everywhere, Witness}
+use Rattle.automaton.specs.MeetingLaws.{one-length}
 use Rattle.format.specs.Format.{Sheet, FileIs, Faulty}
 use Rattle.format.specs.Numbers.{numbers}
 use Rattle.format.specs.NumbersLaws.{sheet-fits}
@@ -35,14 +35,6 @@ use Rattle.known.specs.CauseLaws.{Cause}
 
 refused-not-passed : {A : Type 0} (q : Phase A) (number line : ℕ) (x : A) → q ≡ refused number line → q ≡ passed x → ⊥
 refused-not-passed q number line x e f = let z : _≡_ {A = ℕ} 0 1 = cc in omega arith
-
--- two shortest words are of one length
-no-longer : {B : Automaton} {m n : ℕ} {a b c d e f : List ℕ} → Witness B Everywhere m a b c → Witness B Everywhere n d e f → m ≤ n
-no-longer {m = m} {n = n} h k = by (decLt n m)
-  where
-    by : Dec (n < m) → m ≤ n
-    by (yes l) = absurd (h .shortest _ n _ _ l (k .meets))
-    by (no l) = omega arith
 
 -- the numbers of a sheet file are those that are read
 pub numbers-are : (s : List ℕ) (σ : Sheet) (x : Contents) → AreContents σ x → numbers σ ≡ automatonOf x
@@ -108,8 +100,7 @@ module _ (s p : List ℕ) (room : ℕ) (Outcomes : Type 0) (refuse : Refusal →
       walks-meet (Cause.sheet-fault number line h e) = absurd (no-fault number line h)
       walks-meet (Cause.meeting-walks σ file m a b c h e) =
           let k = witness σ file in
-          let l : m ≡ length word = omega (arith, no-longer h k, no-longer k h) in
-          says-meeting word one other (e ∙ ap (λ (n : ℕ). refuse (met n)) l) (record { sheet = σ; file = file; witness = k })
+          says-meeting word one other (e ∙ ap (λ (n : ℕ). refuse (met n)) (one-length h k)) (record { sheet = σ; file = file; witness = k })
       walks-meet (Cause.no-room σ accepted h e) = absurd (not-free σ accepted)
       walks-meet (Cause.numbered σ accepted ts n m h) = absurd (not-free σ accepted)
 

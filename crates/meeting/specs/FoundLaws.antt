@@ -8,10 +8,10 @@ use native.Mathlib.Omega.{arith}
 use native.Mathlib.Decide.{decLt}
 use Rattle.sets.specs.Sets.{Member}
 use Rattle.automaton.specs.Automaton.{Automaton, Fits}
-use Rattle.automaton.specs.Meeting.{Walk, Free}
+use Rattle.automaton.specs.Meeting.{Walk, Free, NoneShorter}
 use Rattle.pairs.specs.Joining.{Backwards, Joins, meet-joins}
 use Rattle.pairs.specs.Extending.{Both, both-start, both-step, both-meet}
-use Rattle.pairs.specs.Bound.{NoneShorter, shortest-136}
+use Rattle.pairs.specs.Bound.{shortest-136}
 use Rattle.queue.specs.Queue.{pair, origin, depth, one, other, Has}
 use Rattle.meeting.specs.Search.{Sound, AllSound, JoinsOn, Search, Found}
 use Rattle.automaton.specs.EdgeLaws.{edge-of, edge-letter, initial-lt}

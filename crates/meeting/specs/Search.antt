@@ -6,8 +6,7 @@ use mathlib.Core.List.{List}
 use lib.ListN.{length}
 use Rattle.sets.specs.Sets.{Member}
 use Rattle.automaton.specs.Automaton.{Automaton, Edge, Fits, successorSet}
-use Rattle.automaton.specs.Meeting.{Free}
-use Rattle.pairs.specs.Bound.{NoneShorter}
+use Rattle.automaton.specs.Meeting.{Free, NoneShorter}
 use Rattle.gate.specs.Gate.{Zero}
 use Rattle.queue.specs.Queue.{pair, origin, depth, one, other, Has, Queue, AtMost, Keeps}
 

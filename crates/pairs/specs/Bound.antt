@@ -6,15 +6,11 @@ use native.Mathlib.Omega.{arith}
 use native.Mathlib.Decide.{decLe}
 use Rattle.finite.specs.Finite.{pigeon}
 use Rattle.automaton.specs.Automaton.{Automaton, Fits}
-use Rattle.automaton.specs.Meeting.{Walk, Meet}
+use Rattle.automaton.specs.Meeting.{Walk, Meet, NoneShorter}
 use Rattle.automaton.specs.EdgeLaws.{walk-in}
 use Rattle.pairs.specs.Triangle.{triangle, triangle-is, triangle-most, pairNumber, pair-lt, pair-same}
 use Rattle.pairs.specs.Joining.{Backwards, Joins, shorter, joins-meet, meet-joins}
 use Rattle.pairs.specs.Cutting.{cut-meet}
-
--- no shorter word has meeting walks
-abbrev pub NoneShorter : Automaton → (ℕ → Type 0) → ℕ → Type 0
-NoneShorter A Counts t = (w : ℕ → ℕ) (s : ℕ) (x y : ℕ → ℕ) → s < t → Meet A Counts w s x y → ⊥
 
 module _ (A : Automaton) (fits : Fits A) (Counts : ℕ → Type 0) (back : Backwards A Counts) (w : ℕ → ℕ) (t : ℕ) (x y : ℕ → ℕ) (m : Meet A Counts w t x y)
     (none : NoneShorter A Counts t) where
