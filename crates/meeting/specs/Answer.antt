@@ -2,19 +2,16 @@
 use Prim.Native.Nat.{ℕ, _≤_, _<_}
 use mathlib.Core.Path.{_≡_}
 use lib.ListN.{length}
-use Rattle.gate.specs.Gate.{Zero}
 use Rattle.automaton.specs.Automaton.{Automaton, Fits}
 use Rattle.automaton.specs.Meeting.{Free, Witness}
-use Rattle.automaton.specs.Lent.{Tables, Long, SameLengths}
+use Rattle.automaton.specs.Lent.{Tables, Long, clearedTables, SameLengths}
 
 -- the questions before are answered yes, and the tables are lent, long enough and all zero
 pub record Asked (A : Automaton) (v : Tables) : Type 0 where
   pub fits : Fits A
   pub cells : 128 ≤ length (A .table)
   pub long : Long v
-  pub zero-word : Zero (v .word)
-  pub zero-one : Zero (v .one)
-  pub zero-other : Zero (v .other)
+  pub zeros : v ≡ clearedTables v
 
 -- 0 for yes, and else the length of the witness word, with the witness in the tables; v are the tables before, w after
 pub record Answered (A : Automaton) (Counts : ℕ → Type 0) (v w : Tables) (r : ℕ) : Type 0 where

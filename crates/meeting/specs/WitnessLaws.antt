@@ -8,6 +8,8 @@ use native.Mathlib.Omega.{arith}
 use native.Mathlib.Decide.{decLt}
 use lib.ListN.{getD, set}
 use Rattle.sets.specs.Sets.{Member}
+use Rattle.gate.specs.Gate.{Zero}
+use Rattle.gate.specs.GateLaws.{zero-cleared}
 use Rattle.automaton.specs.Automaton.{Automaton}
 use Rattle.automaton.specs.Meeting.{Walk, Witness, cells}
 use Rattle.automaton.specs.Lent.{Tables, tables}
@@ -66,8 +68,11 @@ witness-of A counts T head e l r z i v w a f he j c m k g =
     let hw = a .long .word in
     let ho = a .long .one in
     let hr = a .long .other in
+    let zero-word = subst (λ (x : Tables). Zero (x .word)) (sym (a .zeros)) (zero-cleared (v .word)) in
+    let zero-one = subst (λ (x : Tables). Zero (x .one)) (sym (a .zeros)) (zero-cleared (v .one)) in
+    let zero-other = subst (λ (x : Tables). Zero (x .other)) (sym (a .zeros)) (zero-cleared (v .other)) in
     let start =
-    trace-start A (a .fits) counts T head e l z (v .word) (v .one) (v .other) he (omega arith) (omega arith) (omega arith) (a .zero-word) (a .zero-one)
-    (a .zero-other) low (j .joins low .apart) x y n in
+    trace-start A (a .fits) counts T head e l z (v .word) (v .one) (v .other) he (omega arith) (omega arith) (omega arith) zero-word zero-one zero-other low
+    (j .joins low .apart) x y n in
     let g' = subst (λ (u : Tables). Leads T head (depth e) 0 i (ended u (depth e) z) w) k g in
     rw add-one (traced-witness A counts T head (depth e) i (w .word) (w .one) (w .other) (ap depth he) f (g' A counts (f .sound) start))

@@ -5,9 +5,9 @@ use mathlib.Core.List.{List, _++_}
 use mathlib.Core.Logic._⊎_.{inr}
 use native.Mathlib.Omega.{arith}
 use lib.ListN.{length, take, replicate}
-use Rattle.gate.specs.Gate.{Zero, cleared}
+use Rattle.gate.specs.Gate.{cleared}
 use Rattle.automaton.specs.LentLaws.{tables-twice, long-cleared, meets-cleared}
-use Rattle.gate.specs.GateLaws.{cleared-twice, zero-cleared, length-cleared}
+use Rattle.gate.specs.GateLaws.{cleared-twice, length-cleared}
 use Rattle.gate.specs.declared.Refusal.{Refusal}
 use Rattle.automaton.specs.Automaton.{Automaton, automaton, Fits}
 use Rattle.automaton.specs.declared.Numbers.{Numbers}
@@ -40,9 +40,7 @@ module _ (s t u rows : List ℕ) (a : Numbers) (h : FileAccepted s t u rows a) w
       fits = subst Fits (sym sheet-automaton) (sheet-fits s (h .sheet) (h .file));
       cells = subst (λ (A : Automaton). 128 ≤ length (A .table)) (sym sheet-automaton) (omega (arith, numbers-length (h .sheet)));
       long = long;
-      zero-word = subst (λ (x : Tables). Zero (x .word)) (sym zeros) (zero-cleared (v .word));
-      zero-one = subst (λ (x : Tables). Zero (x .one)) (sym zeros) (zero-cleared (v .one));
-      zero-other = subst (λ (x : Tables). Zero (x .other)) (sym zeros) (zero-cleared (v .other));
+      zeros = zeros;
     }
 
     module _ (w : Tables) (r : ℕ) (answer : Answered (automaton a (take 128 u)) Everywhere v w r) where

@@ -1,13 +1,12 @@
 -- Document 01: "A sheet handed over as numbers (n, k, initial set, must-recur set, 128 successor sets, only read) goes through 1, then 4, 7
 -- and 8 with line 0, then 10." What the answer says, and what is in the witness tables then; v are the tables before, w after.
-use Prim.Native.Nat.{ℕ}
 use mathlib.Core.Path.{_≡_}
 use mathlib.Core.Logic.{_⊎_}
 use Rattle.gate.specs.Gate.{refusal}
-use Rattle.automaton.specs.Automaton.{Automaton, Fits, FirstNo}
+use Rattle.automaton.specs.Automaton.{Automaton, Fits}
 use Rattle.automaton.specs.Meeting.{Everywhere}
 use Rattle.automaton.specs.Meeting as meeting
-use Rattle.automaton.specs.Lent.{Tables, Lengths, clearedTables, Meets, NumbersRefuse}
+use Rattle.automaton.specs.Lent.{Tables, Lengths, clearedTables, NumbersRefuse}
 use Rattle.walks.specs.declared.Checked.{Checked}
 use Rattle.walks.specs.declared.Checked.the-variants.{Refused, Free}
 
@@ -18,5 +17,5 @@ Checks A v w Free = Lengths (A .table) v × Fits A × meeting.Free A Everywhere 
 
 -- the same once the tables are long enough and cleared: v are the cleared tables
 abbrev pub ChecksCleared : Automaton → Tables → Tables → Checked → Type 0
-ChecksCleared A v w (Refused r) = (((number : ℕ) × FirstNo A number × (r ≡ refusal number 0)) × (w ≡ v)) ⊎ (Fits A × Meets A v w r)
-ChecksCleared A v w Free = Fits A × meeting.Free A Everywhere × (w ≡ v)
+ChecksCleared A v w (Refused r) = NumbersRefuse A v w r
+ChecksCleared A v w Free = Fits A × meeting.Free A Everywhere × (w ≡ clearedTables v)

@@ -1,15 +1,12 @@
 -- The walk check's contract, from cleared tables and the questions on the numbers. Assumes nothing.
 use Prim.Native.Nat.{ℕ}
-use mathlib.Core.Path.{_≡_, refl}
-use mathlib.Core.Logic.{inl, inr}
+use mathlib.Core.Path.{_≡_, refl, sym, _∙_}
+use mathlib.Core.Logic.{inr}
 use mathlib.Core.List.{List}
 use native.Mathlib.Omega.{arith}
-use lib.ListN.{length}
-use Rattle.gate.specs.Gate.{Zero, cleared}
-use Rattle.gate.specs.GateLaws.{zero-cleared}
 use Rattle.automaton.specs.Automaton.{Automaton, Fits}
-use Rattle.automaton.specs.Lent.{Tables, tables, Lengths, clearedTables, Meets, NumbersRefuse}
-use Rattle.automaton.specs.LentLaws.{lengths-cleared, meets-cleared}
+use Rattle.automaton.specs.Lent.{Tables, Lengths, clearedTables, Meets}
+use Rattle.automaton.specs.LentLaws.{lengths-cleared, tables-twice, refuse-cleared}
 use Rattle.automaton.specs.Meeting.{Everywhere}
 use Rattle.meeting.specs.Answer.{Answered}
 use Rattle.walks.specs.declared.Checked.{Checked}
@@ -17,14 +14,13 @@ use Rattle.walks.specs.declared.Checked.the-variants.{Refused, Free}
 use Rattle.walks.specs.Check.{Checks, ChecksCleared}
 
 checks-cleared : (A : Automaton) (v w : Tables) (c : Checked) → Lengths (A .table) v → ChecksCleared A (clearedTables v) w c → Checks A v w c
-checks-cleared A v w (Refused r) l (inl ((n, f, e), z)) = inr (l, NumbersRefuse.unfit n f e z)
-checks-cleared A v w (Refused r) l (inr (f, m)) = inr (l, NumbersRefuse.meeting f (meets-cleared v m))
-checks-cleared A v w Free l (f, x, z) = (l, f, x, z)
+checks-cleared A v w (Refused r) l j = inr (l, refuse-cleared v j)
+checks-cleared A v w Free l (f, x, z) = (l, f, x, z ∙ tables-twice v)
 
 -- the tables once they are cleared
 module _ {v w : Tables} (e : w ≡ clearedTables v) where
-  pub ready : {t : List ℕ} → Lengths t v → Lengths t w × Zero (w .word) × Zero (w .one) × Zero (w .other)
-  ready l = rw e (lengths-cleared v l, zero-cleared (v .word), zero-cleared (v .one), zero-cleared (v .other))
+  pub ready : {t : List ℕ} → Lengths t v → Lengths t w × (w ≡ clearedTables w)
+  ready l = rw e (lengths-cleared v l, sym (tables-twice v))
 
   pub checked : (A : Automaton) → Lengths (A .table) v → (after : Tables) (c : Checked) → ChecksCleared A w after c → Checks A v after c
   checked A l after c j = checks-cleared A v after c l (rw e at j)
@@ -34,5 +30,5 @@ module _ {A : Automaton} {v w : Tables} {r : ℕ} (a : Answered A Everywhere v w
   pub meets-answered : (r ≡ 0 → ⊥) → Meets A v w (record { number = 10; line = 0; length = r })
   meets-answered e = record { number = refl; line = refl; some = omega arith; witness = a .witness (omega arith); lengths = a .lengths }
 
-  pub free-answered : Fits A → r ≡ 0 → ChecksCleared A v w Free
-  free-answered f e = (f, a .free e, a .kept e)
+  pub free-answered : Fits A → v ≡ clearedTables v → r ≡ 0 → ChecksCleared A v w Free
+  free-answered f zeros e = (f, a .free e, a .kept e ∙ zeros)

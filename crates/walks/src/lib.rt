@@ -1,8 +1,9 @@
 // The walk check: question 10, and the whole check of a sheet that is handed over as numbers.
-ghost use Rattle.gate.specs.Gate.{Zero, Decides};
+ghost use mathlib.Core.Path.{_≡_};
+ghost use Rattle.gate.specs.Gate.{Decides};
 ghost use Rattle.automaton.specs.Automaton.{automaton};
 ghost use Rattle.automaton.specs.Meeting.{Everywhere};
-ghost use Rattle.automaton.specs.Lent.{tables, Lengths};
+ghost use Rattle.automaton.specs.Lent.{tables, Lengths, clearedTables};
 ghost use Rattle.meeting.specs.Answer.{Asked, Answered};
 ghost use Rattle.walks.specs.Check.{Checks, ChecksCleared};
 use automaton::Numbers;
@@ -50,7 +51,7 @@ fn check_cleared(
     one: &mut [u16],
     other: &mut [u16],
 ) -> Checked
-    requires { ⌜ Lengths (now table) (tables (now word) (now one) (now other)) × Zero (now word) × Zero (now one) × Zero (now other) ⌝ }
+    requires { ⌜ Lengths (now table) (tables (now word) (now one) (now other)) × (tables (now word) (now one) (now other) ≡ clearedTables (tables (now word) (now one) (now other))) ⌝ }
     ensures { λ r. ⌜ ChecksCleared (automaton a (now (table .entry))) (tables (now (word .entry)) (now (one .entry)) (now (other .entry))) (tables (now (word .exit)) (now (one .exit)) (now (other .exit))) r ⌝ }
 {
     let number = automaton::first_no(a, table);

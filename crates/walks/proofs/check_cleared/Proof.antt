@@ -1,18 +1,18 @@
 -- The questions in their order; each answer is what its call ensures. Assumes nothing.
 use mathlib.Core.Path.{refl}
-use mathlib.Core.Logic.{inl, inr}
 use Rattle.automaton.specs.Automaton.{automaton, Fits}
+use Rattle.automaton.specs.Lent.{NumbersRefuse}
 use Rattle.walks.specs.CheckLaws.{free-answered, meets-answered}
 use borrow.Author.Needs.{needs}
 use Rattle.walks.proofs.check_cleared.Statement.{statement}
 use Rattle.walks.proofs.check_cleared.Tie as tie
 
--- behind questions 4, 7 and 8 the numbers fit
-abbrev start : tie.Else1 → tie.Start
-start c = c .before .before .before .before .before .before
+abbrev start : tie.After-first-no → tie.Start
+start c = c .before .before .before .before .before
 
+-- behind questions 4, 7 and 8 the numbers fit
 fits : (c : tie.Else1) →
-    let a = start c .args in
+    let a = start (c .before) .args in
     Fits (automaton (a .a) (a .table .now))
 fits c = c .before .first-no .ensures .0 (c .if1 .left)
 
@@ -26,13 +26,13 @@ first-no-requires c κs = search needs
 returns : tie.Need-returns
 returns c =
     let g = c .before .first-no in
-    inl ((g .result, g .ensures .1 (c .if1 .taken), refl), refl)
+    NumbersRefuse.unfit (g .result) (g .ensures .1 (c .if1 .taken)) refl (start (c .before) .pre .1)
 
 ask-requires : tie.Need-ask-requires
 ask-requires c κs =
     let passed = c .before .before .before in
-    let p = start passed .pre in
-    record { fits = fits passed; cells = p .0 .cells; long = p .0 .long; zero-word = p .1; zero-one = p .2; zero-other = p .3 }
+    let p = start (passed .before) .pre in
+    record { fits = fits passed; cells = p .0 .cells; long = p .0 .long; zeros = p .1 }
 
 same-length : tie.Need-same-length
 same-length c = search needs
@@ -46,7 +46,8 @@ same-length-3 c = search needs
 returns-2 : tie.Need-returns-2
 returns-2 c =
     let g = asked (c .before) in
-    free-answered (g .ask .ensures) (fits (g .before .before .before .before)) (c .if2 .taken)
+    let passed = g .before .before .before .before in
+    free-answered (g .ask .ensures) (fits passed) (start (passed .before) .pre .1) (c .if2 .taken)
 
 same-length-4 : tie.Need-same-length-4
 same-length-4 c = search needs
@@ -60,7 +61,7 @@ same-length-6 c = search needs
 returns-3 : tie.Need-returns-3
 returns-3 c =
     let g = asked (c .before) in
-    inr (fits (g .before .before .before .before), meets-answered (g .ask .ensures) (c .if2 .left))
+    NumbersRefuse.meeting (fits (g .before .before .before .before)) (meets-answered (g .ask .ensures) (c .if2 .left))
 
 pub check-cleared-spec : {M : Type 1} → statement M
 check-cleared-spec =
