@@ -1,17 +1,20 @@
 -- The last letter of a meeting and the states before and after it, in tables that are all zero. Assumes nothing.
 use Prim.Native.Nat.{ℕ, suc, _+_, _<_}
-use mathlib.Core.Path.{_≡_, sym, ap, _∙_}
+use mathlib.Core.Path.{_≡_, sym, ap, subst, _∙_}
 use mathlib.Core.List.{List}
 use native.Mathlib.Numerals.{add-one}
 use native.Mathlib.Omega.{arith}
 use lib.ListN.{length, getD, set, length-set}
 use lib.Seq.{getD-set-same, getD-set-other}
+use Rattle.gate.specs.Gate.{Zero}
+use Rattle.gate.specs.GateLaws.{zero-cleared}
 use Rattle.sets.specs.Sets.{Member}
-use Rattle.automaton.specs.Automaton.{Automaton, Edge, Fits, successorSet}
+use Rattle.automaton.specs.Automaton.{Automaton, Edge, successorSet}
+use Rattle.automaton.specs.Lent.{Tables}
 use Rattle.queue.specs.Queue.{pair, depth, one, other}
 use Rattle.automaton.specs.EdgeLaws.{edge-of}
-use Rattle.meeting.specs.Trace.{Tail, Traced}
-use Rattle.gate.specs.Gate.{Zero}
+use Rattle.meeting.specs.Answer.{Asked}
+use Rattle.meeting.specs.Trace.{noted, ended, Tail, Traced}
 
 module _ (v : List ℕ) (d p z : ℕ) (h : d + 1 < length v) where
   at-last : getD (set (set v d p) (d + 1) z) d 0 ≡ p
@@ -31,24 +34,30 @@ tail-start A d word states l p z hw hs e nw ns = record {
   behind-word = λ i x. getD-set-other word d i l 0 (λ v. omega arith) ∙ nw i;
 }
 
-pub trace-start : (A : Automaton) → Fits A → (counts : ℕ) (T : List ℕ) (head e l z : ℕ) (word first second : List ℕ) → e ≡ pair T head
-    → depth e < length word → depth e + 1 < length first → depth e + 1 < length second → Zero word → Zero first → Zero second
-    → l < 8 → (one e ≡ other e → ⊥) → Member (successorSet (A .table) (one e) l) z → Member (successorSet (A .table) (other e) l) z → Member counts z
-    → Traced A counts T head (depth e) (depth e) head (set word (depth e) l) (set (set first (depth e) (one e)) (depth e + 1) z) (set (set second (depth e) (other e)) (depth e + 1) z)
-trace-start A fits counts T head e l z word first second he hw hf hs nw nf ns hl f a b c =
-    let lf = at-last first (depth e) (one e) z hf in
-    let ls = at-last second (depth e) (other e) z hs in
-    let ef = at-end first (depth e) (one e) z hf in
-    let es = at-end second (depth e) (other e) z hs in
+pub trace-start : (A : Automaton) (counts : ℕ) (T : List ℕ) (head e l z : ℕ) (v : Tables) → Asked A v → e ≡ pair T head → depth e < 136 → l < 8
+    → (one e ≡ other e → ⊥) → Member (successorSet (A .table) (one e) l) z × Member (successorSet (A .table) (other e) l) z × Member counts z
+    → Traced A counts T head (depth e) (depth e) head (ended (noted v (depth e) l e) (depth e) z)
+trace-start A counts T head e l z v a he most hl f (m1, m2, c) =
+    let d = depth e in
+    let hw = a .long .word in
+    let h1 = a .long .one in
+    let h2 = a .long .other in
+    let zw = subst (λ (x : Tables). Zero (x .word)) (sym (a .zeros)) (zero-cleared (v .word)) in
+    let z1 = subst (λ (x : Tables). Zero (x .one)) (sym (a .zeros)) (zero-cleared (v .one)) in
+    let z2 = subst (λ (x : Tables). Zero (x .other)) (sym (a .zeros)) (zero-cleared (v .other)) in
+    let l1 = at-last (v .one) d (one e) z (omega arith) in
+    let l2 = at-last (v .other) d (other e) z (omega arith) in
+    let e1 = at-end (v .one) d (one e) z (omega arith) in
+    let e2 = at-end (v .other) d (other e) z (omega arith) in
     record {
       before = omega arith;
       deep = ap depth (sym he);
       low = omega arith;
-      left = lf ∙ ap one he;
-      right = ls ∙ ap other he;
-      tail-one = tail-start A (depth e) word first l (one e) z hw hf (edge-of A fits l (one e) z hl a) nw nf;
-      tail-other = tail-start A (depth e) word second l (other e) z hw hs (edge-of A fits l (other e) z hl b) nw ns;
-      apart = λ v. f (sym lf ∙ v ∙ ls);
-      shared = ef ∙ sym es;
-      counted = rw ef c;
+      state-one = l1 ∙ ap one he;
+      state-other = l2 ∙ ap other he;
+      tail-one = tail-start A d (v .word) (v .one) l (one e) z (omega arith) (omega arith) (edge-of A (a .fits) l (one e) z hl m1) zw z1;
+      tail-other = tail-start A d (v .word) (v .other) l (other e) z (omega arith) (omega arith) (edge-of A (a .fits) l (other e) z hl m2) zw z2;
+      apart = λ x. f (sym l1 ∙ x ∙ l2);
+      shared = e1 ∙ sym e2;
+      counted = rw e1 c;
     }

@@ -1,5 +1,5 @@
 -- A shortest meeting, written into the tables from its last letter back to the initial states.
-use Prim.Native.Nat.{ℕ, suc, _/_, _≤_, _<_}
+use Prim.Native.Nat.{ℕ, suc, _+_, _/_, _≤_, _<_}
 use mathlib.Core.Path.{_≡_}
 use mathlib.Core.List.{List}
 use lib.ListN.{length, getD, set}
@@ -13,6 +13,10 @@ use Rattle.meeting.specs.Search.{AllSound}
 abbrev pub noted : Tables → ℕ → ℕ → ℕ → Tables
 noted v t l e = tables (set (v .word) t l) (set (v .one) t (one e)) (set (v .other) t (other e))
 
+-- the tables with state z behind letter d of both walks
+abbrev pub ended : Tables → ℕ → ℕ → Tables
+ended v d z = tables (v .word) (set (v .one) (d + 1) z) (set (v .other) (d + 1) z)
+
 -- the end of a walk, from time t to d + 1, with zeros behind
 pub record Tail (A : Automaton) (d t : ℕ) (word states : List ℕ) : Type 0 where
   pub goes : (s : ℕ) → t ≤ s → s ≤ d → Edge A (getD word s 0) (getD states s 0) (getD states (suc s) 0)
@@ -20,17 +24,17 @@ pub record Tail (A : Automaton) (d t : ℕ) (word states : List ℕ) : Type 0 wh
   pub behind-word : (i : ℕ) → d < i → getD word i 0 ≡ 0
 
 -- the ends of two walks that are in pair i at time t, in different states at time d, and then in one state that counts
-pub record Traced (A : Automaton) (counts : ℕ) (T : List ℕ) (head d t i : ℕ) (word first second : List ℕ) : Type 0 where
+pub record Traced (A : Automaton) (counts : ℕ) (T : List ℕ) (head d t i : ℕ) (v : Tables) : Type 0 where
   pub before : i ≤ head
   pub deep : depth (pair T i) ≡ t
   pub low : t ≤ d
-  pub left : getD first t 0 ≡ one (pair T i)
-  pub right : getD second t 0 ≡ other (pair T i)
-  pub tail-one : Tail A d t word first
-  pub tail-other : Tail A d t word second
-  pub apart : getD first d 0 ≡ getD second d 0 → ⊥
-  pub shared : getD first (suc d) 0 ≡ getD second (suc d) 0
-  pub counted : Member counts (getD first (suc d) 0)
+  pub state-one : getD (v .one) t 0 ≡ one (pair T i)
+  pub state-other : getD (v .other) t 0 ≡ other (pair T i)
+  pub tail-one : Tail A d t (v .word) (v .one)
+  pub tail-other : Tail A d t (v .word) (v .other)
+  pub apart : getD (v .one) d 0 ≡ getD (v .other) d 0 → ⊥
+  pub shared : getD (v .one) (suc d) 0 ≡ getD (v .other) (suc d) 0
+  pub counted : Member counts (getD (v .one) (suc d) 0)
 
 -- each of the pairs up to head that lies deeper than 0 comes from an earlier one, a letter less deep
 abbrev pub Linked : List ℕ → ℕ → Type 0
@@ -48,5 +52,4 @@ pub record Traceable (T : List ℕ) (head d : ℕ) (v : Tables) : Type 0 where
 
 -- tables v with the last letter of a meeting have become w, with the letters from t on: whatever the automaton
 abbrev pub Leads : List ℕ → ℕ → ℕ → ℕ → ℕ → Tables → Tables → Type 0
-Leads T head d t i v w = (A : Automaton) (counts : ℕ) → AllSound A T (suc head)
-    → Traced A counts T head d d head (v .word) (v .one) (v .other) → Traced A counts T head d t i (w .word) (w .one) (w .other)
+Leads T head d t i v w = (A : Automaton) (counts : ℕ) → AllSound A T (suc head) → Traced A counts T head d d head v → Traced A counts T head d t i w

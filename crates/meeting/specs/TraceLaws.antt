@@ -32,38 +32,37 @@ comes-from : (A : Automaton) (T : List ℕ) (i : ℕ) → 0 < depth (pair T i) �
 comes-from A T i h (inl f) = absurd (let z = f .deep in omega arith)
 comes-from A T i h (inr n) = n
 
-module _ (A : Automaton) (counts : ℕ) (T : List ℕ) (head d t i : ℕ) (word first second : List ℕ) (sound : AllSound A T (suc head))
-    (x : Traced A counts T head d t i word first second) where
+module _ (A : Automaton) (counts : ℕ) (T : List ℕ) (head d t i : ℕ) (v : Tables) (sound : AllSound A T (suc head)) (x : Traced A counts T head d t i v) where
   trace-next : 0 < t → Next A T i t (one (pair T i)) (other (pair T i)) (origin T i)
   trace-next h =
       let e = x .deep in
       let b = x .before in
       subst (λ (z : ℕ). Next A T i z (one (pair T i)) (other (pair T i)) (origin T i)) e (comes-from A T i (omega arith) (sound i (omega arith)))
 
-  trace-step : (o e u : ℕ) → t ≡ suc u → o ≡ origin T i → e ≡ pair T (o / 8) → d < length word → d < length first → d < length second
-      → Traced A counts T head d u (o / 8) (set word u (o % 8)) (set first u (one e)) (set second u (other e))
-  trace-step o e u z ho he hw hf hs =
+  trace-step : (o e u : ℕ) → t ≡ suc u → o ≡ origin T i → e ≡ pair T (o / 8) → d < length (v .word) → d < length (v .one) → d < length (v .other)
+      → Traced A counts T head d u (o / 8) (noted v u (o % 8) e)
+  trace-step o e u z ho he hw h1 h2 =
       let b = x .before in
       let l = x .low in
       let n : Next A T i t (one (pair T i)) (other (pair T i)) o = rw ho (trace-next (omega arith)) in
       let k = n .earlier in
-      let el : Edge A (o % 8) (one e) (getD first (suc u) 0) = rw (he, ← z, x .left) (n .left) in
-      let er : Edge A (o % 8) (other e) (getD second (suc u) 0) = rw (he, ← z, x .right) (n .right) in
-      let tl : Tail A d (suc u) word first = rw (← z) (x .tail-one) in
-      let tr : Tail A d (suc u) word second = rw (← z) (x .tail-other) in
-      let fo : (s : ℕ) → u < s → getD (set first u (one e)) s 0 ≡ getD first s 0 = λ s v. getD-set-other first u s (one e) 0 (λ w. omega arith) in
-      let so : (s : ℕ) → u < s → getD (set second u (other e)) s 0 ≡ getD second s 0 = λ s v. getD-set-other second u s (other e) 0 (λ w. omega arith) in
+      let e1 : Edge A (o % 8) (one e) (getD (v .one) (suc u) 0) = rw (he, ← z, x .state-one) (n .left) in
+      let e2 : Edge A (o % 8) (other e) (getD (v .other) (suc u) 0) = rw (he, ← z, x .state-other) (n .right) in
+      let t1 : Tail A d (suc u) (v .word) (v .one) = rw (← z) (x .tail-one) in
+      let t2 : Tail A d (suc u) (v .word) (v .other) = rw (← z) (x .tail-other) in
+      let k1 : (s : ℕ) → u < s → getD (set (v .one) u (one e)) s 0 ≡ getD (v .one) s 0 = λ s p. getD-set-other (v .one) u s (one e) 0 (λ q. omega arith) in
+      let k2 : (s : ℕ) → u < s → getD (set (v .other) u (other e)) s 0 ≡ getD (v .other) s 0 = λ s p. getD-set-other (v .other) u s (other e) 0 (λ q. omega arith) in
       record {
         before = omega arith;
         deep = (let g = n .deep in omega arith);
         low = omega arith;
-        left = getD-set-same first u (one e) 0 (omega arith) ∙ ap one he;
-        right = getD-set-same second u (other e) 0 (omega arith) ∙ ap other he;
-        tail-one = tail-step A d u word first (o % 8) (one e) (omega arith) (omega arith) (omega arith) el tl;
-        tail-other = tail-step A d u word second (o % 8) (other e) (omega arith) (omega arith) (omega arith) er tr;
-        apart = λ v. x .apart (sym (fo d (omega arith)) ∙ v ∙ so d (omega arith));
-        shared = fo (suc d) (omega arith) ∙ x .shared ∙ sym (so (suc d) (omega arith));
-        counted = rw (fo (suc d) (omega arith)) (x .counted);
+        state-one = getD-set-same (v .one) u (one e) 0 (omega arith) ∙ ap one he;
+        state-other = getD-set-same (v .other) u (other e) 0 (omega arith) ∙ ap other he;
+        tail-one = tail-step A d u (v .word) (v .one) (o % 8) (one e) (omega arith) (omega arith) (omega arith) e1 t1;
+        tail-other = tail-step A d u (v .word) (v .other) (o % 8) (other e) (omega arith) (omega arith) (omega arith) e2 t2;
+        apart = λ a. x .apart (sym (k1 d (omega arith)) ∙ a ∙ k2 d (omega arith));
+        shared = k1 (suc d) (omega arith) ∙ x .shared ∙ sym (k2 (suc d) (omega arith));
+        counted = rw (k1 (suc d) (omega arith)) (x .counted);
       }
 
 pub linked : (A : Automaton) (T : List ℕ) (head : ℕ) → AllSound A T (suc head) → Linked T head
@@ -72,6 +71,5 @@ linked A T head sound i l h = let n = comes-from A T i h (sound i (omega arith))
 pub leads-step : (T : List ℕ) (head d t i : ℕ) (v w : Tables) {w' : Tables} (o e u : ℕ) → t ≡ suc u → o ≡ origin T i → e ≡ pair T (o / 8)
     → d < length (w .word) → d < length (w .one) → d < length (w .other) → w' ≡ noted w u (o % 8) e
     → Leads T head d t i v w → Leads T head d u (o / 8) v w'
-leads-step T head d t i v w o e u z ho he hw hf hs n g =
-    subst (Leads T head d u (o / 8) v) (sym n)
-    (λ A counts sound x. trace-step A counts T head d t i (w .word) (w .one) (w .other) sound (g A counts sound x) o e u z ho he hw hf hs)
+leads-step T head d t i v w o e u z ho he hw h1 h2 n g =
+    subst (Leads T head d u (o / 8) v) (sym n) (λ A counts sound x. trace-step A counts T head d t i w sound (g A counts sound x) o e u z ho he hw h1 h2)

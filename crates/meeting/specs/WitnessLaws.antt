@@ -6,34 +6,32 @@ use mathlib.Core.List.{List}
 use native.Mathlib.Numerals.{add-one}
 use native.Mathlib.Omega.{arith}
 use native.Mathlib.Decide.{decLt}
-use lib.ListN.{getD, set}
+use lib.ListN.{getD}
 use Rattle.sets.specs.Sets.{Member}
-use Rattle.gate.specs.Gate.{Zero}
-use Rattle.gate.specs.GateLaws.{zero-cleared}
 use Rattle.automaton.specs.Automaton.{Automaton}
 use Rattle.automaton.specs.Meeting.{Walk, Witness, cells}
-use Rattle.automaton.specs.Lent.{Tables, tables}
+use Rattle.automaton.specs.Lent.{Tables}
 use Rattle.queue.specs.Queue.{pair, depth, one, other}
 use Rattle.meeting.specs.Search.{Sound, JoinsOn, Common, Joining, Found}
-use Rattle.meeting.specs.Trace.{noted, Tail, Traced, Leads}
+use Rattle.meeting.specs.Trace.{noted, ended, Tail, Traced, Leads}
 use Rattle.meeting.specs.Answer.{Asked}
 use Rattle.meeting.specs.LastLetterLaws.{trace-start}
 
 whole : (A : Automaton) (d : ℕ) (word states : List ℕ) → Member (A .initial) (getD states 0 0) → Tail A d 0 word states → Walk A (cells word) (suc d) (cells states)
 whole A d word states m t = record { starts = m; goes = λ s l. t .goes s (omega arith) (omega arith) }
 
-traced-witness : (A : Automaton) (counts : ℕ) (T : List ℕ) (head d i : ℕ) (word first second : List ℕ) → d ≡ depth (pair T head) → Found A counts T head
-    → Traced A counts T head d 0 i word first second → Witness A (Member counts) (suc d) word first second
-traced-witness A counts T head d i word first second e f x = go (f .sound i (let b = x .before in omega arith))
+traced-witness : (A : Automaton) (counts : ℕ) (T : List ℕ) (head d i : ℕ) (v : Tables) → d ≡ depth (pair T head) → Found A counts T head
+    → Traced A counts T head d 0 i v → Witness A (Member counts) (suc d) (v .word) (v .one) (v .other)
+traced-witness A counts T head d i v e f x = go (f .sound i (let b = x .before in omega arith))
   where
-    go : Sound A T i → Witness A (Member counts) (suc d) word first second
+    go : Sound A T i → Witness A (Member counts) (suc d) (v .word) (v .one) (v .other)
     go (inr n) = absurd (let a = n .deep in let b = x .deep in omega arith)
     go (inl n) =
         let m = f .most in
         record {
           meets = record {
-            one = whole A d word first (rw (x .left) (n .left)) (x .tail-one);
-            other = whole A d word second (rw (x .right) (n .right)) (x .tail-other);
+            one = whole A d (v .word) (v .one) (rw (x .state-one) (n .left)) (x .tail-one);
+            other = whole A d (v .word) (v .other) (rw (x .state-other) (n .right)) (x .tail-other);
             differ = (d, omega arith, x .apart);
             shared = x .shared;
             counts = x .counted;
@@ -53,26 +51,12 @@ found-letter A counts T head e l f h j = by (decLt l 8)
     by (yes k) = k
     by (no k) = let m = f .low in absurd (j .none (f .letter) (omega arith) (subst (λ (x : ℕ). JoinsOn (A .table) counts x (f .letter)) (sym h) (f .joins)))
 
--- tables v with state z behind the last letter of both walks
-abbrev pub ended : Tables → ℕ → ℕ → Tables
-ended v d z = tables (v .word) (set (v .one) (d + 1) z) (set (v .other) (d + 1) z)
-
 pub witness-of : (A : Automaton) (counts : ℕ) (T : List ℕ) (head e l r z i : ℕ) (v w : Tables) {u : Tables} → Asked A v → Found A counts T head → e ≡ pair T head
     → Joining (A .table) counts e l → Common (A .table) counts (one e) (other e) l r → Member r z → u ≡ noted v (depth e) l e
     → Leads T head (depth e) 0 i (ended u (depth e) z) w
     → Witness A (Member counts) (depth e + 1) (w .word) (w .one) (w .other)
 witness-of A counts T head e l r z i v w a f he j c m k g =
     let low = found-letter A counts T head e l f he j in
-    let (x, y, n) = c z .0 m in
-    let most : depth e < 136 = rw he (f .most) in
-    let hw = a .long .word in
-    let ho = a .long .one in
-    let hr = a .long .other in
-    let zero-word = subst (λ (x : Tables). Zero (x .word)) (sym (a .zeros)) (zero-cleared (v .word)) in
-    let zero-one = subst (λ (x : Tables). Zero (x .one)) (sym (a .zeros)) (zero-cleared (v .one)) in
-    let zero-other = subst (λ (x : Tables). Zero (x .other)) (sym (a .zeros)) (zero-cleared (v .other)) in
-    let start =
-    trace-start A (a .fits) counts T head e l z (v .word) (v .one) (v .other) he (omega arith) (omega arith) (omega arith) zero-word zero-one zero-other low
-    (j .joins low .apart) x y n in
+    let start = trace-start A counts T head e l z v a he (rw he (f .most)) low (j .joins low .apart) (c z .0 m) in
     let g' = subst (λ (u : Tables). Leads T head (depth e) 0 i (ended u (depth e) z) w) k g in
-    rw add-one (traced-witness A counts T head (depth e) i (w .word) (w .one) (w .other) (ap depth he) f (g' A counts (f .sound) start))
+    rw add-one (traced-witness A counts T head (depth e) i w (ap depth he) f (g' A counts (f .sound) start))
