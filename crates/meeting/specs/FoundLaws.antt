@@ -1,7 +1,7 @@
 -- Every pair of states in which two walks on one word end comes into the queue, at the word's length or before.
 -- So where no pair of the queue joins no walks meet, and the first pair that joins has the shortest meeting. Assumes nothing.
 use Prim.Native.Nat.{ℕ, zero, suc, _/_, _%_, _≤_, _<_}
-use mathlib.Core.Path.{sym, _∙_}
+use mathlib.Core.Path.{_≡_, sym, _∙_, subst}
 use mathlib.Core.Logic.{inl, inr}
 use mathlib.Core.List.{List}
 use native.Mathlib.Omega.{arith}
@@ -16,7 +16,7 @@ use Rattle.queue.specs.Queue.{pair, origin, depth, one, other, Has}
 use Rattle.meeting.specs.Search.{Sound, AllSound, JoinsOn, Search, Found}
 use Rattle.automaton.specs.EdgeLaws.{edge-of, edge-letter, initial-lt}
 
-module _ (A : Automaton) (fits : Fits A) (counts : ℕ) (back : Backwards A (Member counts)) (T : List ℕ) (count head : ℕ) (s : Search A counts T count head) where
+module _ {A : Automaton} (fits : Fits A) {counts : ℕ} (back : Backwards A (Member counts)) {T : List ℕ} {count head : ℕ} (s : Search A counts T count head) where
   -- all pairs of depth below D are done
   module _ (D : ℕ) (done : (i : ℕ) → i < count → depth (pair T i) < D → i < head) (w : ℕ → ℕ) (t : ℕ) (x y : ℕ → ℕ) (v : Walk A w t x) (v' : Walk A w t y) where
     reached : (u : ℕ) → u ≤ t → u ≤ D → Has T count u (x u) (y u)
@@ -74,10 +74,11 @@ module _ (A : Automaton) (fits : Fits A) (counts : ℕ) (back : Backwards A (Mem
           rw (z .deep)
           (both-step A (depth (pair T j)) (origin T i % 8) (one (pair T j)) (other (pair T j)) (one (pair T i)) (other (pair T i)) (ih j (omega arith) (omega arith)) (z .left) (z .right))
 
-  pub search-found : head < count → (l : ℕ) → l < 8 → JoinsOn (A .table) counts (pair T head) l → Found A counts T head
-  search-found h l m j =
+  pub search-found : head < count → {e l : ℕ} → e ≡ pair T head → l < 8 → JoinsOn (A .table) counts e l → Found A counts T head
+  search-found h {l = l} is m joins =
       let none = search-shortest h in
       let e = pair T head in
+      let j = subst (λ (x : ℕ). JoinsOn (A .table) counts x l) is joins in
       let (w, x, y, z) =
       both-meet A (Member counts) (depth e) l (one e) (other e) (j .state) (ends (s .sound) (suc head) head (omega arith) h) (j .apart)
       (edge-of A fits l (one e) (j .state) m (j .left)) (edge-of A fits l (other e) (j .state) m (j .right)) (j .counted) in

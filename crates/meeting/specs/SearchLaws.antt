@@ -1,6 +1,6 @@
 -- The search goes on from one pair to the next. Assumes nothing.
 use Prim.Native.Nat.{ℕ, suc, _+_, _≤_, _<_}
-use mathlib.Core.Path.{_≡_, _∙_, ap, subst}
+use mathlib.Core.Path.{_≡_, sym, _∙_, ap, subst}
 use mathlib.Core.List.{List}
 use native.Mathlib.Omega.{arith}
 use native.Mathlib.Decide.{decLt}
@@ -10,8 +10,8 @@ use Rattle.queue.specs.Queue.{pair, depth}
 use Rattle.queue.specs.RowLaws.{has-longer}
 use Rattle.meeting.specs.Search.{Grown, Started, Closed, Ready, JoinsOn, Search}
 
-pub search-start : (A : Automaton) (counts : ℕ) (T : List ℕ) (count : ℕ) → Started A T count 16 → Search A counts T count 0
-search-start A counts T count s = record {
+pub search-start : {A : Automaton} {counts : ℕ} {T : List ℕ} {count : ℕ} → Started A T count 16 → Search A counts T count 0
+search-start s = record {
   queue = s .queue;
   sound = s .sound;
   begun = s .begun;
@@ -21,25 +21,12 @@ search-start A counts T count s = record {
   none = λ i c l. absurd (omega arith);
 }
 
-pub search-ready : (A : Automaton) (counts : ℕ) (T : List ℕ) (count head : ℕ) → Fits A → 128 ≤ length (A .table) → head < count
-    → Search A counts T count head → Ready A T count head
-search-ready A counts T count head fits cells l s = record { fits = fits; cells = cells; queue = s .queue; sound = s .sound; some = l; near = s .near l }
+module _ {A : Automaton} {counts : ℕ} {T : List ℕ} {count head : ℕ} (s : Search A counts T count head) (h : head < count) where
+  pub search-ready : Fits A → 128 ≤ length (A .table) → Ready A T count head
+  search-ready fits cells = record { fits = fits; cells = cells; queue = s .queue; sound = s .sound; some = h; near = s .near h }
 
-pub search-more : (A : Automaton) (counts : ℕ) (T : List ℕ) (count head : ℕ) (T' : List ℕ) (count' : ℕ) → head < count
-    → ((l : ℕ) → l < 8 → JoinsOn (A .table) counts (pair T head) l → ⊥) → Grown A T count (suc (depth (pair T head))) T' count' → Closed A T' count' head
-    → Search A counts T count head → Search A counts T' count' (head + 1)
-search-more A counts T count head T' count' h f g c s =
-    let m = g .more in
-    record {
-      queue = g .queue;
-      sound = g .sound;
-      begun = λ p q l a b. has-longer T T' count count' 0 p q (g .keeps) (g .more) (s .begun p q l a b);
-      within = omega arith;
-      near = λ l i k. (let u = g .most i k in let v = g .queue .sorted head (head + 1) (omega arith) l in let e = g .keeps head h .0 in let v' : depth (pair T head) ≤ depth (pair T' (head + 1)) = rw e at v in omega arith);
-      closed = λ i l. closed-at i l (decLt i head);
-      none = λ i l k n. none-at i l k n (decLt i head);
-    }
-  where
+  module _ {e : ℕ} (is : e ≡ pair T head) (f : (l : ℕ) → l < 8 → JoinsOn (A .table) counts e l → ⊥) {T' : List ℕ} {count' : ℕ}
+      (g : Grown A T count (suc (depth (pair T head))) T' count') (c : Closed A T' count' head) where
     closed-at : (i : ℕ) → i < head + 1 → Dec (i < head) → Closed A T' count' i
     closed-at i l (yes k) =
         let e = g .keeps i (omega arith) .0 in
@@ -47,7 +34,20 @@ search-more A counts T count head T' count' h f g c s =
     closed-at i l (no k) = let e : i ≡ head = omega arith in rw e c
 
     none-at : (i l : ℕ) → i < head + 1 → l < 8 → Dec (i < head) → JoinsOn (A .table) counts (pair T' i) l → ⊥
-    none-at i l k n (yes z) j = s .none i l z n (subst (λ (e : ℕ). JoinsOn (A .table) counts e l) (g .keeps i (omega arith) .0) j)
+    none-at i l k n (yes z) j = s .none i l z n (subst (λ (x : ℕ). JoinsOn (A .table) counts x l) (g .keeps i (omega arith) .0) j)
     none-at i l k n (no z) j =
-        let e : i ≡ head = omega arith in
-        f l n (subst (λ (e : ℕ). JoinsOn (A .table) counts e l) (ap (pair T') e ∙ g .keeps head h .0) j)
+        let o : i ≡ head = omega arith in
+        f l n (subst (λ (x : ℕ). JoinsOn (A .table) counts x l) (ap (pair T') o ∙ g .keeps head h .0 ∙ sym is) j)
+
+    pub search-more : Search A counts T' count' (head + 1)
+    search-more =
+        let m = g .more in
+        record {
+          queue = g .queue;
+          sound = g .sound;
+          begun = λ p q l a b. has-longer T T' count count' 0 p q (g .keeps) (g .more) (s .begun p q l a b);
+          within = omega arith;
+          near = λ l i k. (let u = g .most i k in let v = g .queue .sorted head (head + 1) (omega arith) l in let o = g .keeps head h .0 in let v' : depth (pair T head) ≤ depth (pair T' (head + 1)) = rw o at v in omega arith);
+          closed = λ i l. closed-at i l (decLt i head);
+          none = λ i l k n. none-at i l k n (decLt i head);
+        }

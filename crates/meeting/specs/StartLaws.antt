@@ -14,8 +14,8 @@ use Rattle.meeting.specs.Search.{Empty, Started, Guarded}
 use Rattle.automaton.specs.EdgeLaws.{initial-lt}
 use Rattle.meeting.specs.SoundLaws.{sound-longer}
 
-pub start-empty : (A : Automaton) (T : List ℕ) → Empty T → Started A T 0 0
-start-empty A T e = record {
+pub start-empty : {A : Automaton} {T : List ℕ} → Empty T → Started A T 0 0
+start-empty e = record {
   queue = record {
     size = e .size;
     room = omega arith;
@@ -30,20 +30,21 @@ start-empty A T e = record {
   begun = λ p q l. absurd (omega arith);
 }
 
-pub start-open : (A : Automaton) (T : List ℕ) (count p : ℕ) → p < 16 → Started A T count p → Open T count 0 p
-start-open A T count p l s = record { queue = s .queue; most = s .most; deep = omega arith; state = l }
+module _ {A : Automaton} {T : List ℕ} {count p : ℕ} (s : Started A T count p) where
+  pub start-open : p < 16 → Open T count 0 p
+  start-open l = record { queue = s .queue; most = s .most; deep = omega arith; state = l }
 
-pub start-more : (A : Automaton) (T : List ℕ) (count p x : ℕ) (T' : List ℕ) (count' : ℕ) → Fits A → Started A T count p
-    → Guarded (A .initial) p (A .initial) x → Longer T count 0 p (Below x 16) 0 T' count' → Started A T' count' (p + 1)
-start-more A T count p x T' count' fits s g y = record {
-  queue = y .queue;
-  sound = sound-longer A T count 0 p (Below x 16) 0 T' count' (s .sound) y (λ q m. (let (a, b) = g q .0 (m .1) in inl (record { deep = refl; left = a; right = b })));
-  most = y .most;
-  begun = λ r q l a b. at r q l a b (decLt r p);
-}
-  where
+  module _ (fits : Fits A) (x : ℕ) (g : Guarded (A .initial) p (A .initial) x) {T' : List ℕ} {count' : ℕ} (y : Longer T count 0 p (Below x 16) 0 T' count') where
     at : (r q : ℕ) → r < p + 1 → Member (A .initial) r → Member (A .initial) q → Dec (r < p) → Has T' count' 0 r q
     at r q l a b (yes h) = has-longer T T' count count' 0 r q (y .keeps) (y .more) (s .begun r q h a b)
     at r q l a b (no h) =
         let e : r ≡ p = omega arith in
         rw e (y .has q (initial-lt A fits q b, g q .1 (rw e at a, b)))
+
+    pub start-more : Started A T' count' (p + 1)
+    start-more = record {
+      queue = y .queue;
+      sound = sound-longer A T count 0 p (Below x 16) 0 T' count' (s .sound) y (λ q m. (let (a, b) = g q .0 (m .1) in inl (record { deep = refl; left = a; right = b })));
+      most = y .most;
+      begun = λ r q l a b. at r q l a b (decLt r p);
+    }

@@ -12,8 +12,8 @@ use Rattle.meeting.specs.Search.{Arrives, AllSound, Grown, Guarded, Step
 use Rattle.automaton.specs.EdgeLaws.{edge-of, edge-to}
 use Rattle.meeting.specs.SoundLaws.{sound-longer}
 
-pub grown-none : (A : Automaton) (T : List ℕ) (count d : ℕ) → Queue T count → AllSound A T count → AtMost T count d → Grown A T count d T count
-grown-none A T count d q s m = record { queue = q; sound = s; more = omega arith; keeps = λ i l. (refl, refl); most = m }
+pub grown-none : {A : Automaton} {T : List ℕ} {count d : ℕ} → Queue T count → AllSound A T count → AtMost T count d → Grown A T count d T count
+grown-none q s m = record { queue = q; sound = s; more = omega arith; keeps = λ i l. (refl, refl); most = m }
 
 -- Step j is on letter j / 16 to state j % 16; e is the pair whose steps they are.
 module _ {A : Automaton} (fits : Fits A) {T₀ : List ℕ} {count₀ head e d : ℕ} (h : head < count₀) (is : e ≡ pair T₀ head) (deep : d ≡ depth e + 1)

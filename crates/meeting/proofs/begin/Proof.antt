@@ -16,19 +16,14 @@ abbrev μ-loop : tie.MeasureT-loop
 μ-loop a table queue₀ count₀ p₀ queue count p = 16 - p
 
 loop-holds : tie.Need-loop-holds Inv-loop μ-loop
-loop-holds c =
-    let a = c .before .before .args in
-    let p = c .before .before .pre in
-    (omega arith, start-empty (automaton (a .a) (a .table .now)) (a .queue .now) (p .1))
+loop-holds c = (omega arith, start-empty (c .before .before .pre .1))
 
 guarded-requires : tie.Need-guarded-requires Inv-loop μ-loop
 guarded-requires c κs = search needs
 
 add-row-requires : tie.Need-add-row-requires Inv-loop μ-loop
 add-row-requires c κs =
-    let a = c .before .before .before .before .before .before .args in
-    let l = c .before .before .before .loop in
-    (start-open (automaton (a .a) (a .table .now)) (l .queue) (l .count) (l .p) (omega arith) (l .inv .1), omega arith)
+    (start-open (c .before .before .before .loop .inv .1) (omega arith), omega arith)
 
 add-p : tie.Need-add-p Inv-loop μ-loop
 add-p c = search needs
@@ -38,11 +33,9 @@ loop-less c = search needs
 
 loop-again : tie.Need-loop-again Inv-loop μ-loop
 loop-again c =
-    let a = c .before .before .before .before .before .before .before .before .before .args in
-    let l = c .before .before .before .before .before .before .loop in
-    let g = c .before .before .add-row in
+    let l = c .before .before .before .before .before .before in
     let x = c .before .before .before .guarded in
-    (omega arith, start-more (automaton (a .a) (a .table .now)) (l .queue) (l .count) (l .p) (x .result) (g .last .0) (g .result) (c .before .before .before .before .before .before .before .before .before .pre .0) (l .inv .1) (x .ensures) (g .ensures))
+    (omega arith, start-more (l .loop .inv .1) (l .before .before .before .pre .0) (x .result) (x .ensures) (c .before .before .add-row .ensures))
 
 same-length : tie.Need-same-length Inv-loop μ-loop
 same-length c =

@@ -17,8 +17,8 @@ Inv-loop a table queue₀ count head e d p q reached₀ j₀ queue reached j =
 abbrev μ-loop : tie.MeasureT-loop
 μ-loop a table queue₀ count head e d p q reached₀ j₀ queue reached j = 16 * a .k - j
 
-abbrev entry : tie.At-loop Inv-loop μ-loop → tie.Start Inv-loop μ-loop
-entry t = t .before .before .before .before .before
+abbrev start : tie.At-loop Inv-loop μ-loop → tie.Start Inv-loop μ-loop
+start t = t .before .before .before .before .before
 
 number-requires : tie.Need-number-requires Inv-loop μ-loop
 number-requires c κs =
@@ -36,7 +36,7 @@ loop-holds c =
     let p = c .before .before .before .before .pre in
     let e = c .number .ensures in
     let m : AtMost (a .queue .now) (a .count) (c .number .result / 256 + 1) = λ i l. (let z = p .near i l in rw e (omega arith)) in
-    (omega arith, grown-none (automaton (a .a) (a .table .now)) (a .queue .now) (a .count) (c .number .result / 256 + 1) (p .queue) (p .sound) m, λ l x y k. absurd (omega arith))
+    (omega arith, grown-none (p .queue) (p .sound) m, λ l x y k. absurd (omega arith))
 
 mul-if1 : tie.Need-mul-if1 Inv-loop μ-loop
 mul-if1 c = search needs
@@ -77,7 +77,7 @@ add-add-row c = search needs
 add-row-requires : tie.Need-add-row-requires Inv-loop μ-loop
 add-row-requires c κs =
     let t = c .before .before .before .before .before .before in
-    let p = entry t .pre in
+    let p = start t .pre in
     let r = p .queue .room in
     let h = p .some in
     (step-open (p .fits) h (t .before .number .ensures) refl (t .loop .j) (t .loop .inv .1) (p .queue), omega arith)
@@ -91,7 +91,7 @@ loop-less c = search needs
 loop-again : tie.Need-loop-again Inv-loop μ-loop
 loop-again c =
     let t = c .before .before .before .before .before .before .before .before .before in
-    let p = entry t .pre in
+    let p = start t .pre in
     let l = t .loop in
     let x = c .before .before .before .before .guarded in
     let y = c .before .before .add-row in
@@ -101,14 +101,14 @@ loop-again c =
 same-length : tie.Need-same-length Inv-loop μ-loop
 same-length c =
     let t = c .before .before in
-    let a = entry t .pre .queue .size in
+    let a = start t .pre .queue .size in
     let b = t .loop .inv .1 .queue .size in
     omega arith
 
 returns : tie.Need-returns Inv-loop μ-loop
 returns c =
     let t = c .before .before in
-    let p = entry t .pre in
+    let p = start t .pre in
     let l = t .loop in
     all-taken (p .fits) (p .some) (t .before .number .ensures) refl (l .j) (l .inv .1) (c .if1 .left) (l .inv .2)
 
