@@ -10,10 +10,9 @@ use lib.Seq.{sets, drop-cons}
 use Rattle.text.specs.Bytes.{stretch}
 use Rattle.text.specs.LeftLaws.{left-more}
 use Rattle.text.specs.Search.{leading}
-use Rattle.text.specs.SearchLaws.{leading-stop, leading-more, leading-first, leading-padded}
-use Rattle.text.specs.WordLaws.{no-zero-at}
+use Rattle.text.specs.SearchLaws.{leading-stop, leading-more, leading-first}
 use Rattle.text.specs.SetsLaws.{sets-append}
-use Rattle.names.specs.NameLaws.{name-without}
+use Rattle.names.specs.RowLaws.{leading-name}
 use Rattle.parser.specs.Rows.{HoldNames}
 use Rattle.format.specs.Format.{nameLine, nameLines}
 use Rattle.format.specs.FormatLaws.{name-length}
@@ -88,5 +87,4 @@ pub rows-hold : (names : List (List ℕ)) (rows : List ℕ) (k : ℕ) → length
 rows-hold names rows k e holds = rows-from rows k 0 names e (λ i b. ap (rowName rows) (zero-add i) ∙ name i (omega arith))
   where
     name : (i : ℕ) → i < length names → rowName rows i ≡ getD names i []
-    name i b = ap leading (holds i b .is)
-        ∙ leading-padded (getD names i []) (24 - length (getD names i [])) (no-zero-at (getD names i []) (name-without 0 (getD names i []) (omega arith) (holds i b .is-name)))
+    name i b = ap leading (holds i b .is) ∙ leading-name (getD names i []) (holds i b .is-name)
