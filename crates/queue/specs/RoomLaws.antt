@@ -1,14 +1,13 @@
 -- There is room for each pair that is not listed: pairs are numbers below 256, and each is listed once. Assumes nothing.
 use Prim.Native.Nat.{ℕ, _+_, _*_, _%_, _≤_, _<_}
-use mathlib.Core.Path.{_≡_, sym, subst, _∙_}
+use mathlib.Core.Path.{_≡_, sym, _∙_}
 use mathlib.Core.Bool.{Bool, true, false}
 use mathlib.Core.List.{List}
 use native.Mathlib.Omega.{arith}
 use native.Mathlib.Decide.{decLt}
-use lib.Dec.{eqb}
-use Rattle.sets.specs.Sets.{bit, Member, minusOf}
+use Rattle.gate.specs.Gate.{Decides}
+use Rattle.sets.specs.Sets.{Member, minusOf}
 use Rattle.sets.specs.SetLaws.{minus-left, minus-not, minus-else}
-use Rattle.sets.specs.TestLaws.{member-yes, member-no}
 use Rattle.finite.specs.Finite.{pigeon, glue, glue-lt, glue-ge}
 use Rattle.queue.specs.Queue.{pair, companions, one, other, Queue, Only, Open}
 
@@ -60,14 +59,14 @@ pub record NewPair (T : List ℕ) (count p x q : ℕ) : Type 0 where
   pub room : count < 256
 
 module _ (x q : ℕ) {T : List ℕ} {count d p rest : ℕ} {b : Bool} (o : Open T count d p) (hq : q < 16) (e : rest ≡ minusOf x (companions T p))
-    (t : b ≡ eqb (bit rest q) 1) where
+    (t : Decides b (Member rest q)) where
   pub new-pair : b ≡ true → NewPair T count p x q
   new-pair y =
-      let m = subst (λ (z : ℕ). Member z q) e (member-yes rest q b t y) in
+      let m = rw e at (t .0 y) in
       let new = minus-not x (companions T p) q m in
       record { member = minus-left x (companions T p) q m; new = new; room = has-room T count p q (o .queue) (o .state) hq new }
 
   pub old-pair : b ≡ false → (r : ℕ) → Only x q r → Member (companions T p) r
   old-pair y r s =
-      let f = subst (λ (z : ℕ). Member z q → ⊥) e (member-no rest q b t y) in
+      let f = rw e at (t .1 y) in
       rw (s .0) (minus-else x (companions T p) q f (rw (s .0) at (s .1)))

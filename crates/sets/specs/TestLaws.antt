@@ -1,21 +1,12 @@
 -- What the tests of sets say of their members. Assumes nothing.
 use Prim.Native.Nat.{ℕ, _^_, _<_}
-use mathlib.Core.Path.{_≡_, refl, sym, ap, subst, _∙_}
+use mathlib.Core.Path.{_≡_, refl, ap, subst}
 use mathlib.Core.Bool.{Bool, true, false, not}
 use native.Mathlib.Omega.{arith}
 use native.Mathlib.Decide.{decLt}
 use lib.Dec.{T, T-not, eqb, eqb→eq, eqb-refl}
-use borrow.Author.Tests.{eqb-true, eqb-false}
 use Rattle.sets.specs.Sets.{bit, Member, minusOf, isEmpty, isWithin}
 use Rattle.sets.specs.SetLaws.{ext, bit-lt, bit-minus, no-member, some-member, member-lt, minus-left, minus-not, minus-else}
-
--- Is q a member?
-
-pub member-yes : (x q : ℕ) (b : Bool) → b ≡ eqb (bit x q) 1 → b ≡ true → Member x q
-member-yes x q b e t = eqb-true (bit x q) 1 (sym e ∙ t)
-
-pub member-no : (x q : ℕ) (b : Bool) → b ≡ eqb (bit x q) 1 → b ≡ false → Member x q → ⊥
-member-no x q b e t = eqb-false (bit x q) 1 (sym e ∙ t)
 
 -- a set with no member below 15 has 15
 pub last-member : (x : ℕ) → x < 2 ^ 16 → (x ≡ 0 → ⊥) → ((j : ℕ) → j < 15 → Member x j → ⊥) → Member x 15

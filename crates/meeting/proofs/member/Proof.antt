@@ -4,7 +4,7 @@ use mathlib.Core.Path.{_≡_}
 use native.Mathlib.Omega.{arith}
 use borrow.Author.Count.{below-more}
 use Rattle.sets.specs.Sets.{Member}
-use Rattle.sets.specs.TestLaws.{member-yes, member-no, last-member}
+use Rattle.sets.specs.TestLaws.{last-member}
 use borrow.Author.Needs.{needs}
 use Rattle.meeting.proofs.member.Statement.{statement}
 use Rattle.meeting.proofs.member.Tie as tie
@@ -22,8 +22,7 @@ contains-requires : tie.Need-contains-requires Inv-loop μ-loop
 contains-requires c κs = search needs
 
 returns : tie.Need-returns Inv-loop μ-loop
-returns c =
-    (omega arith, member-yes (c .before .before .before .before .args .set) (c .before .before .before .loop .q) _ (c .before .contains .ensures) (c .if1 .taken))
+returns c = (omega arith, c .before .contains .ensures .0 (c .if1 .taken))
 
 add-q : tie.Need-add-q Inv-loop μ-loop
 add-q c = search needs
@@ -32,8 +31,7 @@ loop-less : tie.Need-loop-less Inv-loop μ-loop
 loop-less c = search needs
 
 loop-again : tie.Need-loop-again Inv-loop μ-loop
-loop-again c =
-    (omega arith, below-more _ _ (c .before .before .before .loop .inv .1) (member-no (c .before .before .before .before .args .set) (c .before .before .before .loop .q) _ (c .before .contains .ensures) (c .if1 .left)))
+loop-again c = (omega arith, below-more _ _ (c .before .before .before .loop .inv .1) (c .before .contains .ensures .1 (c .if1 .left)))
 
 returns-2 : tie.Need-returns-2 Inv-loop μ-loop
 returns-2 c =

@@ -2,10 +2,9 @@
 use Prim.Native.Nat.{_≤_, _-_, _/_, _%_}
 use denote.Ref.{now}
 use lib.ListN.{getD}
-use mathlib.Core.Path.{_≡_, refl, sym, _∙_}
+use mathlib.Core.Path.{_≡_, refl, _∙_}
 use native.Mathlib.Omega.{arith}
 use borrow.Author.Needs.{needs}
-use borrow.Author.Tests.{eqb-true, eqb-false}
 use Rattle.sets.specs.SetLaws.{bit-out}
 use Rattle.writer.specs.Places.{places, transitionsFrom}
 use Rattle.writer.specs.PlacesLaws.{place-empty, cell-empty}
@@ -50,7 +49,7 @@ returns c =
     let l = c .before .before .before .before .before .loop in
     record {
       from = omega arith;
-      stop = record { most = omega arith; there = λ _. eqb-true _ _ (sym (c .before .contains .ensures) ∙ c .if2 .taken) };
+      stop = record { most = omega arith; there = λ _. c .before .contains .ensures .0 (c .if2 .taken) };
       none-before = l .inv .2;
     }
 
@@ -64,7 +63,7 @@ loop-again-2 : tie.Need-loop-again-2 Inv-loop μ-loop
 loop-again-2 c =
     let l = c .before .before .before .before .before .loop in
     let T = now (c .before .before .before .before .before .before .before .args .table) in
-    let z = bit-out (getD T (l .i / 16) 0) (l .i % 16) (eqb-false _ _ (sym (c .before .contains .ensures) ∙ c .if2 .left)) in
+    let z = bit-out (getD T (l .i / 16) 0) (l .i % 16) (c .before .contains .ensures .1 (c .if2 .left)) in
     (omega arith, omega arith, l .inv .2 ∙ place-empty T (l .i) (omega arith) z)
 
 returns-2 : tie.Need-returns-2 Inv-loop μ-loop
