@@ -1,7 +1,7 @@
 -- Composing, one part at a time. Assumes nothing.
 use Prim.Native.Nat.{ℕ, suc, _+_, _-_, _<_, _≤_}
 use mathlib.Core.Path.{_≡_, refl, sym, _∙_, ap}
-use mathlib.Core.Bool.{Bool, true, false, _&&_, and-false, and-eq-true-iff}
+use mathlib.Core.Bool.{Bool, true, false, and-false, and-eq-true-iff}
 use mathlib.Core.Logic.{⊎-elim}
 use mathlib.Core.List.{List, [], _∷_}
 use lib.ListN.{length, getD, set, List·getD-eq-default}
@@ -13,15 +13,12 @@ use native.Mathlib.Omega.{arith}
 use Rattle.text.specs.Bytes.{stretch}
 use Rattle.text.specs.BytesLaws.{stretch-none, stretch-cons, stretch-length, stretch-at}
 use Rattle.text.specs.ChoiceLaws.{lt-or-ge, neither}
-use Rattle.names.specs.Name.{isVowel, umlautOf, compose}
+use Rattle.names.specs.Name.{isVowel, isDecomposed, umlautOf, compose}
 use Rattle.names.specs.Row.{diaeresisAt}
 
--- a list starts with CC 88; it does so behind a vowel
-abbrev pub mark : List ℕ → Bool
-mark x = eqb (getD x 0 0) 0xCC && eqb (getD x 1 0) 0x88
-
+-- a vowel, and CC 88 at the start of the list behind it
 abbrev pub diaeresis : ℕ → List ℕ → Bool
-diaeresis a x = isVowel a && mark x
+diaeresis a x = isDecomposed a (getD x 0 0) (getD x 1 0)
 
 pub compose-keep : (a : ℕ) (x : List ℕ) → diaeresis a x ≡ false → compose (a ∷ x) ≡ a ∷ compose x
 unfolding compose

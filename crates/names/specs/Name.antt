@@ -3,7 +3,7 @@ use Prim.Native.Nat.{ℕ, _≤_}
 use mathlib.Core.Path.{_≡_}
 use mathlib.Core.Bool.{Bool, true, false, _&&_}
 use mathlib.Core.List.{List, [], _∷_, _++_}
-use lib.Dec.{T, eqb}
+use lib.Dec.{eqb}
 use lib.ListN.{length}
 use Rattle.text.specs.Choice.{choose}
 
@@ -39,11 +39,11 @@ pub data Part : Type 0 where
   composed : ℕ → Part
   decomposed : ℕ → Part
 
--- "hexadecimal 21 to 7E; C3 followed by ..; CC 88 only straight after a, o, u, A, O or U"
+-- "hexadecimal 21 to 7E; C3 followed by ..; CC 88 (the combining diaeresis) only straight after a, o, u, A, O or U"
 abbrev pub RightPart : Part → Type 0
 RightPart (plain b) = (0x21 ≤ b) × (b ≤ 0x7E)
-RightPart (composed c) = T (isUmlaut c)
-RightPart (decomposed v) = T (isVowel v)
+RightPart (composed c) = isUmlaut c ≡ true
+RightPart (decomposed v) = isVowel v ≡ true
 
 abbrev pub RightParts : List Part → Type 0
 RightParts [] = Unit

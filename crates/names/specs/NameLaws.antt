@@ -5,34 +5,25 @@ use mathlib.Core.Bool.{Bool, true, false, _&&_}
 use mathlib.Core.List.{List, [], _∷_, _++_, map}
 use lib.ListN.{length, getD}
 use lib.Dec.{eqb}
-use borrow.Author.Tests.{ne-eqb}
 use native.Mathlib.Omega.{arith}
 use Rattle.text.specs.Choice.{choose}
 use Rattle.text.specs.Word.{without}
-use Rattle.names.specs.Name.{isUmlaut, isVowel, isDecomposed, umlautOf, Part, RightPart, RightParts, partBytes, nameBytes, IsName, composedPart, compose}
+use Rattle.names.specs.Name.{isVowel, isDecomposed, umlautOf, Part, RightPart, RightParts, partBytes, nameBytes, IsName, composedPart, compose}
 use Rattle.names.specs.Name.Part.{plain, composed, decomposed}
-use Rattle.names.specs.PartLaws.{holds, no-vowel, umlaut-range, umlaut-of, composed-right, NoMark, no-mark-end, parts-unique, parts-without}
-use Rattle.names.specs.ComposeLaws.{mark, diaeresis, compose-keep, compose-vowel}
+use Rattle.names.specs.PartLaws.{no-vowel, umlaut-range, umlaut-of, composed-right, NoMark, no-mark-end, no-decomposed, parts-unique, parts-without}
+use Rattle.names.specs.ComposeLaws.{diaeresis, compose-keep, compose-vowel}
 
 -- COMPOSING PART BY PART
-no-diaeresis : (a : ℕ) (x : List ℕ) → NoMark x → diaeresis a x ≡ false
-no-diaeresis a x n =
-    let m : eqb (getD x 0 0) 0xCC ≡ false = ne-eqb _ _ n in
-    simp m (by (isVowel a))
-  where
-    by : (t : Bool) → t && false ≡ false
-    by true = refl
-    by false = refl
-
 compose-part : (p : Part) (x : List ℕ) → RightPart p → NoMark x → compose (partBytes p ++ x) ≡ partBytes (composedPart p) ++ compose x
-compose-part (plain b) x r n = compose-keep b x (no-diaeresis b x n)
+compose-part (plain b) x r n = compose-keep b x (no-decomposed b x n)
 compose-part (composed c) x r n =
     let v : isVowel 0xC3 ≡ false = no-vowel 0xC3 (omega arith) in
-    let w : isVowel c ≡ false = no-vowel c (omega (arith, umlaut-range c (holds (isUmlaut c) r))) in
+    let w : isVowel c ≡ false = no-vowel c (omega (arith, umlaut-range c r)) in
     compose-keep 0xC3 (c ∷ x) (simp v) ∙ ap (λ (y : List ℕ). 0xC3 ∷ y) (compose-keep c x (simp w))
-compose-part (decomposed v) x r n = compose-vowel v x (holds (isVowel v) r)
+compose-part (decomposed v) x r n = compose-vowel v x r
 
-compose-parts : (ps : List Part) → RightParts ps → compose (nameBytes ps) ≡ nameBytes (map composedPart ps)
+-- a composed name has its parts composed
+pub compose-parts : (ps : List Part) → RightParts ps → compose (nameBytes ps) ≡ nameBytes (map composedPart ps)
 unfolding nameBytes compose
 compose-parts [] r = refl
 compose-parts (p ∷ ps) r =
@@ -107,6 +98,9 @@ head-of (a ∷ x) h = compose-first (λ y. eqb (getD y 0 0) 0x88 ≡ false) (λ 
 behind : (t u v : Bool) → (u ≡ false → v ≡ false) → t && u ≡ false → t && v ≡ false
 behind true u v f h = f h
 behind false u v f h = refl
+
+abbrev mark : List ℕ → Bool
+mark x = eqb (getD x 0 0) 0xCC && eqb (getD x 1 0) 0x88
 
 mark-of : (x : List ℕ) → mark x ≡ false → mark (compose x) ≡ false
 unfolding compose

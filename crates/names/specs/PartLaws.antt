@@ -1,12 +1,12 @@
 -- The bytes of name parts: which they can be, and that they tell the parts apart. Assumes nothing.
 use Prim.Native.Nat.{ℕ, _+_, _<_, _≤_}
 use mathlib.Core.Path.{_≡_, refl, sym, _∙_, ap, subst}
-use mathlib.Core.Bool.{Bool, true, false, _&&_, false≢true, and-eq-true-iff}
+use mathlib.Core.Bool.{Bool, true, false, _&&_, false≢true, and-false, and-eq-true-iff}
 use mathlib.Core.Logic.{⊎-elim}
 use mathlib.Core.List.{List, [], _∷_, _++_, append-assoc, append-nil}
 use lib.ListN.{length, getD, drop, drop-of-length-le}
 use lib.Seq.{drop-cons}
-use lib.Dec.{T, eqb, leb}
+use lib.Dec.{eqb, leb}
 use borrow.Author.Tests.{eq-eqb, ne-eqb, eqb-true, leb-true}
 use native.Mathlib.Numerals.{add-one}
 use native.Mathlib.Omega.{arith}
@@ -30,15 +30,6 @@ module _ (bytes : List ℕ) (b i : ℕ) where
   pub one-nowhere : length bytes ≤ i → oneOf (drop i bytes) b ≡ false
   unfolding oneOf
   one-nowhere h = rw (drop-of-length-le bytes h)
-
--- a test that holds, either way
-pub holds : (t : Bool) → T t → t ≡ true
-holds true h = refl
-holds false h = absurd h
-
-pub shown : (t : Bool) → t ≡ true → T t
-shown true e = tt
-shown false e = false≢true e
 
 -- THE RANGE of some bytes, by a test over them
 between : ℕ → ℕ → List ℕ → Bool
@@ -91,7 +82,7 @@ umlaut-of v = by (eqb v 0x61) (eqb v 0x6F) (eqb v 0x75) (eqb v 0x41) (eqb v 0x4F
 pub composed-right : (p : Part) → RightPart p → RightPart (composedPart p)
 composed-right (plain b) r = r
 composed-right (composed c) r = r
-composed-right (decomposed v) r = shown _ (umlaut-of v)
+composed-right (decomposed v) r = umlaut-of v
 
 -- WHAT MAY STAND BEHIND A PART: no combining diaeresis
 abbrev pub NoMark : List ℕ → Type 0
@@ -100,12 +91,16 @@ NoMark x = getD x 0 0 ≡ 0xCC → ⊥
 no-mark-part : (p : Part) (x : List ℕ) → RightPart p → NoMark (partBytes p ++ x)
 no-mark-part (plain b) x r e = omega arith
 no-mark-part (composed c) x r e = omega arith
-no-mark-part (decomposed v) x r e = omega (arith, vowel-range v (holds _ r))
+no-mark-part (decomposed v) x r e = omega (arith, vowel-range v r)
 
 pub no-mark : (ps : List Part) (x : List ℕ) → RightParts ps → NoMark x → NoMark (nameBytes ps ++ x)
 unfolding nameBytes
 no-mark [] x r n = n
 no-mark (p ∷ ps) x r n = rw append-assoc (no-mark-part p (nameBytes ps ++ x) (r .0))
+
+-- so the byte in front of it is not decomposed
+pub no-decomposed : (a : ℕ) (x : List ℕ) → NoMark x → isDecomposed a (getD x 0 0) (getD x 1 0) ≡ false
+no-decomposed a x n = simp (ne-eqb _ _ n, and-false)
 
 -- THE PART that a list starts with, read off its bytes
 first-part-of : List ℕ → Part
@@ -115,16 +110,9 @@ first-part-of x =
 
 first-part : (p : Part) (x : List ℕ) → RightPart p → NoMark x → first-part-of (partBytes p ++ x) ≡ p
 unfolding first-part-of
-first-part (plain b) x r n =
-    let m : eqb (getD x 0 0) 0xCC ≡ false = ne-eqb _ _ n in
-    let k : eqb b 0xC3 ≡ false = ne-eqb b 0xC3 (λ (e : b ≡ 0xC3). omega arith) in
-    simp (m, k) (by (isVowel b))
-  where
-    by : (t : Bool) → choose (t && false) (decomposed b) (plain b) ≡ plain b
-    by true = refl
-    by false = refl
+first-part (plain b) x r n = simp (no-decomposed b x n, ne-eqb b 0xC3 (λ (e : b ≡ 0xC3). omega arith))
 first-part (composed c) x r n = simp (no-vowel 0xC3 (omega arith))
-first-part (decomposed v) x r n = simp (holds (isVowel v) r)
+first-part (decomposed v) x r n = simp r
 
 -- A NAME'S PARTS ARE UNIQUE
 same-rest : (p : Part) (x y : List ℕ) → partBytes p ++ x ≡ partBytes p ++ y → x ≡ y
@@ -157,10 +145,10 @@ parts-unique (p ∷ ps) (q ∷ qs) r t e =
 without-part : (b : ℕ) (p : Part) (x : List ℕ) → b < 0x21 → RightPart p → without b x ≡ true → without b (partBytes p ++ x) ≡ true
 without-part b (plain a) x l r w = simp (ne-eqb a b (λ (e : a ≡ b). omega arith)) w
 without-part b (composed c) x l r w =
-    let k = umlaut-range c (holds _ r) in
+    let k = umlaut-range c r in
     simp (ne-eqb 0xC3 b (λ (e : 0xC3 ≡ b). omega arith), ne-eqb c b (λ (e : c ≡ b). omega arith)) w
 without-part b (decomposed v) x l r w =
-    let k = vowel-range v (holds _ r) in
+    let k = vowel-range v r in
     simp (ne-eqb v b (λ (e : v ≡ b). omega arith), ne-eqb 0xCC b (λ (e : 0xCC ≡ b). omega arith), ne-eqb 0x88 b (λ (e : 0x88 ≡ b). omega arith)) w
 
 pub parts-without : (b : ℕ) (ps : List Part) → b < 0x21 → RightParts ps → without b (nameBytes ps) ≡ true

@@ -9,7 +9,7 @@ use Rattle.names.specs.Name.{isUmlaut, isDecomposed}
 use Rattle.names.specs.declared.Ending.{Ending}
 use Rattle.names.specs.declared.Ending.the-variants.{At, Bad}
 
--- the bytes of the name part that three bytes start with, as a number; 0 where they start with none
+-- how many bytes the name part has that three bytes start with; 0 where they start with none
 unfoldable pub widthOf : ℕ → ℕ → ℕ → ℕ
 widthOf a b c =
     choose (eqb a 0xC3) (choose (isUmlaut b) 2 0)

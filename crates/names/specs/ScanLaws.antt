@@ -1,7 +1,7 @@
 -- One step along a name, and what its end means. Assumes nothing.
 use Prim.Native.Nat.{ℕ, zero, suc, _+_, _-_, _<_, _≤_}
 use mathlib.Core.Path.{_≡_, refl, sym, _∙_, ap, subst}
-use mathlib.Core.Bool.{Bool, true, false, _&&_, and-eq-true-iff}
+use mathlib.Core.Bool.{Bool, true, false, and-eq-true-iff}
 use mathlib.Core.List.{List, [], _∷_, _++_, append-assoc, append-nil}
 use lib.ListN.{length, getD, drop, length-append}
 use lib.Seq.{getD-drop, drop-cons, drop-length, getD-at}
@@ -18,7 +18,7 @@ use Rattle.text.specs.Word.{startsAt, noZero}
 use Rattle.text.specs.WordLaws.{starts-is, within}
 use Rattle.names.specs.Name.{isUmlaut, isVowel, isDecomposed, Part, RightPart, RightParts, partBytes, nameBytes, IsName}
 use Rattle.names.specs.Name.Part.{plain, composed, decomposed}
-use Rattle.names.specs.PartLaws.{holds, shown, vowel-range, NoMark, no-mark, parts-without}
+use Rattle.names.specs.PartLaws.{vowel-range, NoMark, no-mark, no-decomposed, parts-without}
 use Rattle.names.specs.Scan.{widthOf, widthAt, partsEnd, nameEndAt}
 use Rattle.names.specs.declared.Ending.the-variants.{At, Bad}
 
@@ -63,7 +63,7 @@ module _ (s : List ℕ) (at : ℕ) where
   at-composed : getD s at 0 ≡ 0xC3 → isUmlaut (getD s (at + 1) 0) ≡ true → PartAt s at 2
   unfolding startsAt
   at-composed e u =
-      stands (composed (getD s (at + 1) 0)) (shown _ u)
+      stands (composed (getD s (at + 1) 0)) u
       (simp (eq-eqb (getD s at 0) 0xC3 e, eq-eqb (getD s (at + 1) 0) (getD s (at + 1) 0) refl))
 
   at-decomposed : isDecomposed (getD s at 0) (getD s (at + 1) 0) (getD s (at + 2) 0) ≡ true → PartAt s at 3
@@ -72,7 +72,7 @@ module _ (s : List ℕ) (at : ℕ) where
       let two : at + 1 + 1 ≡ at + 2 = omega arith in
       let v = and-eq-true-iff (isVowel (getD s at 0)) _ .0 d in
       let w = and-eq-true-iff (eqb (getD s (at + 1) 0) 0xCC) _ .0 (v .1) in
-      stands (decomposed (getD s at 0)) (shown _ (v .0)) (simp (eq-eqb (getD s at 0) (getD s at 0) refl, w .0, two, w .1))
+      stands (decomposed (getD s at 0)) (v .0) (simp (eq-eqb (getD s at 0) (getD s at 0) refl, w .0, two, w .1))
 
   -- by the tests of `widthOf`
   by-tests :
@@ -137,17 +137,12 @@ width-part : (p : Part) (x : List ℕ) → RightPart p → NoMark x →
 unfolding widthOf
 width-part (plain b) x r n =
     let k : eqb b 0xC3 ≡ false = ne-eqb b 0xC3 (λ (e : b ≡ 0xC3). omega arith) in
-    let m : eqb (getD x 0 0) 0xCC ≡ false = ne-eqb _ _ n in
-    simp (k, le-ltb b 0x21 (r .0), le-ltb 0x7E b (r .1), m) (by (isVowel b))
-  where
-    by : (t : Bool) → _≡_ {A = ℕ} (choose (t && false) 3 1) 1
-    by true = refl
-    by false = refl
-width-part (composed c) x r n = simp (holds (isUmlaut c) r)
+    simp (k, le-ltb b 0x21 (r .0), le-ltb 0x7E b (r .1), no-decomposed b x n)
+width-part (composed c) x r n = simp r
 width-part (decomposed v) x r n =
-    let l = vowel-range v (holds (isVowel v) r) in
+    let l = vowel-range v r in
     let k : eqb v 0xC3 ≡ false = ne-eqb v 0xC3 (λ (e : v ≡ 0xC3). omega arith) in
-    simp (k, le-ltb v 0x21 (omega arith), le-ltb 0x7E v (omega arith), holds (isVowel v) r)
+    simp (k, le-ltb v 0x21 (omega arith), le-ltb 0x7E v (omega arith), r)
 
 width-none : (a b c : ℕ) → a < 0x21 → widthOf a b c ≡ 0
 unfolding widthOf
