@@ -99,6 +99,7 @@ behind : (t u v : Bool) → (u ≡ false → v ≡ false) → t && u ≡ false �
 behind true u v f h = f h
 behind false u v f h = refl
 
+-- a list starts with CC 88
 abbrev mark : List ℕ → Bool
 mark x = eqb (getD x 0 0) 0xCC && eqb (getD x 1 0) 0x88
 

@@ -189,15 +189,13 @@ fn put_composed(s: &[u8], start: usize, end: usize, out: &mut [u8], at: usize) -
 }
 
 // The same in the 24 cells of a row from `at` on, with zeros behind.
-pub fn compose_into(s: &[u8], start: usize, end: usize, rows: &mut [u8], at: usize) -> usize
+pub fn compose_into(s: &[u8], start: usize, end: usize, rows: &mut [u8], at: usize)
     requires { ⌜ Stretches (now s) start end × (end - start ≤ 24) × (at + 24 ≤ length (now rows)) ⌝ }
-    ensures { λ r. ⌜ (now (rows .exit) ≡ sets (now (rows .entry)) at (padded (compose (stretch (now (s .entry)) start end))))
-        × (r ≡ length (compose (stretch (now (s .entry)) start end))) × (r ≤ end - start) ⌝ }
+    ensures { λ _. ⌜ now (rows .exit) ≡ sets (now (rows .entry)) at (padded (compose (stretch (now (s .entry)) start end))) ⌝ }
 {
     let n = put_composed(s, start, end, rows, at);
     let zeros = [0u8; 24];
     text::put_bytes(rows, at + n, &zeros[..24 - n]);
-    n
 }
 
 // Whether the rows at a and at b are equal.

@@ -39,11 +39,9 @@ same-length c = search needs
 returns : tie.Need-returns
 returns c =
     let a = c .before .before .before .before .before .before .before .before .before .before .before .args in
-    let p = c .before .before .before .before .before .before .before .put-composed in (
-      c .before .before .put-bytes .ensures ∙ rw (p .ensures .0) (stored-padded (now (a .rows)) (compose (stretch (now (a .s)) (a .start) (a .end))) (a .at) (p .result) (p .ensures .1)),
-      p .ensures .1,
-      p .ensures .2,
-    )
+    let p = c .before .before .before .before .before .before .before .put-composed in
+    c .before .before .put-bytes .ensures
+    ∙ rw (p .ensures .0) (stored-padded (now (a .rows)) (compose (stretch (now (a .s)) (a .start) (a .end))) (a .at) (p .result) (p .ensures .1))
 
 pub compose-into-spec : {M : Type 1} → statement M
 compose-into-spec =

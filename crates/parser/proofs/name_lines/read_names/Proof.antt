@@ -44,7 +44,7 @@ read :
     NameRead (now (a .s)) (a .k) (c .before .before .before .before .compose-into .last .1 .1 .1 .0) (l .line) (l .l) (c .before .before .before .before .before .before .before .e .given .0 .0) (c .first-like .result)
 read c =
     name-read (c .before .before .before .before .before .before .before .before .before .before .before .loop .inv .4) (omega arith) (ends (c .before .before .before .before .before .before)) (omega arith)
-    (c .before .before .before .before .compose-into .ensures .0) (c .first-like .ensures)
+    (c .before .before .before .before .compose-into .ensures) (c .first-like .ensures)
 
 loop-holds : tie.Need-loop-holds Inv-loop μ-loop
 loop-holds c = (
