@@ -1,22 +1,19 @@
--- What is left to write gives the whole. Assumes nothing.
-use Prim.Native.Nat.{_+_, _-_, _≤_}
-use mathlib.Core.Path.{_≡_, refl, sym, _∙_}
-use native.Mathlib.Omega.{arith}
-use lib.ListN.{length, drop, length-set}
-use lib.Seq.{sets, drop-length}
-use Rattle.text.specs.SetsLaws.{sets-first, sets-next}
+-- With what is left of it the whole row is stored: `Storing`. Assumes nothing.
+use Prim.Native.Nat.{_-_}
+use lib.ListN.{length}
+use Rattle.text.specs.SetsLaws.{Storing, store-none, store-more, store-end}
 use borrow.Author.Needs.{needs}
 use Rattle.rows.proofs.put.Statement.{statement}
 use Rattle.rows.proofs.put.Tie as tie
 
 abbrev Inv-loop : tie.InvT-loop
-Inv-loop table₀ at row i₀ table i = (i ≤ 17) × (length table ≡ length table₀) × (sets table (at + i) (drop i row) ≡ sets table₀ at row)
+Inv-loop table₀ at row i₀ table i = Storing table₀ row at table i
 
 abbrev μ-loop : tie.MeasureT-loop
-μ-loop table₀ at row i₀ table i = 17 - i
+μ-loop table₀ at row i₀ table i = length row - i
 
 loop-holds : tie.Need-loop-holds Inv-loop μ-loop
-loop-holds c = (omega arith, refl, sets-first (c .args .table .now) (c .args .row .now) (c .args .at))
+loop-holds c = store-none _ _ _
 
 mul-table : tie.Need-mul-table Inv-loop μ-loop
 mul-table c = search needs
@@ -40,20 +37,13 @@ loop-less : tie.Need-loop-less Inv-loop μ-loop
 loop-less c = search needs
 
 loop-again : tie.Need-loop-again Inv-loop μ-loop
-loop-again c =
-    let l = c .before .before .loop in
-    let a = c .before .before .before .args in
-    (omega arith, simp length-set (l .inv .1), sym (sets-next (l .table) (a .row .now) (a .at) (l .i) (omega arith)) ∙ l .inv .2)
+loop-again c = store-more (c .before .before .loop .inv) (search needs)
 
 same-length : tie.Need-same-length Inv-loop μ-loop
 same-length c = search needs
 
 returns : tie.Need-returns Inv-loop μ-loop
-returns c =
-    let l = c .before .loop in
-    let row = c .before .before .args .row .now in
-    let e : l .i ≡ length row = omega arith in
-    rw (e, drop-length row) at (l .inv .2)
+returns c = store-end (c .before .loop .inv) (search needs)
 
 pub put-spec : {M : Type 1} → statement M
 put-spec =

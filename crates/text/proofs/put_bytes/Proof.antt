@@ -1,24 +1,19 @@
--- `text::put_bytes` meets its contract. The loop's invariant: storing the rest of the word from here on gives the whole word stored. Assumes nothing.
-use Prim.Native.Nat.{_+_, _-_, _≤_}
-use mathlib.Core.Path.{_≡_, refl, sym, _∙_}
-use native.Mathlib.Omega.{arith}
-use denote.Ref.{now}
-use lib.ListN.{length, drop, length-set}
-use lib.Seq.{sets}
-use Rattle.text.specs.SetsLaws.{sets-first, sets-next, sets-done}
+-- `text::put_bytes` meets its contract. With what is left of it the whole word is stored: `Storing`. Assumes nothing.
+use Prim.Native.Nat.{_-_}
+use lib.ListN.{length}
+use Rattle.text.specs.SetsLaws.{Storing, store-none, store-more, store-end}
 use borrow.Author.Needs.{needs}
 use Rattle.text.proofs.put_bytes.Statement.{statement}
 use Rattle.text.proofs.put_bytes.Tie as tie
 
 abbrev Inv-loop : tie.InvT-loop
-Inv-loop out₀ at word i₀ out i =
-    (i ≤ length word) × (length out ≡ length out₀) × (sets out (at + i) (drop i word) ≡ sets out₀ at word)
+Inv-loop out₀ at word i₀ out i = Storing out₀ word at out i
 
 abbrev μ-loop : tie.MeasureT-loop
 μ-loop out₀ at word i₀ out i = length word - i
 
 loop-holds : tie.Need-loop-holds Inv-loop μ-loop
-loop-holds c = (omega arith, refl, sets-first (now (c .args .out)) (now (c .args .word)) (c .args .at))
+loop-holds c = store-none _ _ _
 
 shared-slice-read-out : tie.Need-shared-slice-read-out Inv-loop μ-loop
 shared-slice-read-out c = search needs
@@ -36,22 +31,13 @@ loop-less : tie.Need-loop-less Inv-loop μ-loop
 loop-less c = search needs
 
 loop-again : tie.Need-loop-again Inv-loop μ-loop
-loop-again c =
-    let l = c .before .before .loop in
-    let a = c .before .before .before .args in (
-      omega arith,
-      simp length-set (l .inv .1),
-      sym (sets-next (l .out) (now (a .word)) (a .at) (l .i) (omega arith)) ∙ l .inv .2,
-    )
+loop-again c = store-more (c .before .before .loop .inv) (search needs)
 
 same-length : tie.Need-same-length Inv-loop μ-loop
 same-length c = search needs
 
 returns : tie.Need-returns Inv-loop μ-loop
-returns c =
-    let l = c .before .loop in
-    let a = c .before .before .args in
-    sym (sets-done (l .out) (now (a .word)) (a .at) (l .i) (omega arith)) ∙ l .inv .2
+returns c = store-end (c .before .loop .inv) (search needs)
 
 pub put-bytes-spec : {M : Type 1} → statement M
 put-bytes-spec =
