@@ -11,7 +11,7 @@ use Rattle.text.specs.Bytes.{lf, endWord}
 use Rattle.text.specs.Column.{column}
 use Rattle.text.specs.ColumnLaws.{column-length}
 use Rattle.text.specs.LeftLaws.{left-more}
-use Rattle.text.specs.SetsLaws.{sets-append}
+use Rattle.text.specs.SetsLaws.{sets-part}
 use Rattle.listing.specs.Listing.{columns, trackLine, tupleLine, tupleLines, listing}
 use Rattle.listing.specs.Put.{cellsFrom, lineBytes, listingBytes}
 
@@ -49,10 +49,6 @@ listing-small n k count a b c =
     p
 
 -- PART BY PART
-
--- a text in front of another, which starts at `next`
-sets-part : (t u out : List ℕ) (at next : ℕ) → at + length t ≡ next → sets out at (t ++ u) ≡ sets (sets out at t) next u
-sets-part t u out at next e = sets-append t u out at ∙ ap (λ (i : ℕ). sets (sets out at t) i u) e
 
 -- a text that is t, of w bytes, and then u
 pub record Parts (text t : List ℕ) (w : ℕ) (u : List ℕ) : Type 0 where

@@ -1,5 +1,7 @@
--- The three pieces, written one behind the other over LFs, are the line: `pieces`. Assumes nothing.
+-- The pieces, written one behind the other, are the line: `pieces`. Assumes nothing.
+use mathlib.Core.Path.{refl}
 use denote.Ref.{now}
+use lib.ListN.{replicate}
 use Rattle.report.specs.ReportLaws.{pieces}
 use borrow.Author.Needs.{needs}
 use Rattle.report.proofs.line.Statement.{statement}
@@ -23,10 +25,13 @@ slice-aggregate-put-column-2 c = search needs
 put-column-requires-2 : tie.Need-put-column-requires-2
 put-column-requires-2 c κs = search needs
 
+array-write-out : tie.Need-array-write-out
+array-write-out c = search needs
+
 returns : tie.Need-returns
 returns c =
     let s = c .before .before .before .before .before .before .before .before .before .before in
-    cc (pieces (now (s .args .word)) (s .args .a) (s .args .b) (s .pre))
+    cc (pieces (replicate 12 0) (now (s .args .word)) (s .args .a) (s .args .b) refl (s .pre))
 
 pub line-spec : {M : Type 1} → statement M
 line-spec =
@@ -38,4 +43,5 @@ line-spec =
     put-column-requires
     slice-aggregate-put-column-2
     put-column-requires-2
+    array-write-out
     returns)

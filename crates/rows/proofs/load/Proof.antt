@@ -1,10 +1,10 @@
--- The row of the table, stored over the other: `row-over`. Assumes nothing.
+-- The row of the table, stored over the other: `sets-over`. Assumes nothing.
 use Prim.Native.Nat.{_+_, _*_, _-_}
 use mathlib.Core.Path.{_≡_, sym, _∙_}
 use native.Mathlib.Omega.{arith}
 use Rattle.rows.specs.Rows.{rowAt}
 use Rattle.text.specs.CellsLaws.{part-length}
-use Rattle.rows.specs.RowLaws.{row-over}
+use Rattle.text.specs.SetsLaws.{sets-over}
 use borrow.Author.Needs.{needs}
 use Rattle.rows.proofs.load.Statement.{statement}
 use Rattle.rows.proofs.load.Tie as tie
@@ -39,7 +39,7 @@ returns c =
     let a = s .args in
     let p = s .pre in
     let k : 17 * a .t + 17 - 17 * a .t ≡ 17 = omega arith in
-    c .before .before .put .ensures ∙ rw k (row-over (a .row .now) (rowAt (a .table .now) (a .t)) (p .2 ∙ sym (part-length (a .table .now) (17 * a .t) 17 (omega arith))))
+    c .before .before .put .ensures ∙ rw k (sets-over (a .row .now) (rowAt (a .table .now) (a .t)) (p .2 ∙ sym (part-length (a .table .now) (17 * a .t) 17 (omega arith))))
 
 pub load-spec : {M : Type 1} → statement M
 load-spec =
