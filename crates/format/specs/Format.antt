@@ -3,7 +3,8 @@ use Prim.Native.Nat.{ℕ, suc, _+_, _*_, _≤_, _<_}
 use mathlib.Core.Path.{_≡_}
 use mathlib.Core.List.{List, [], _∷_, _++_}
 use lib.ListN.{length, getD}
-use Rattle.text.specs.Bytes.{lf, space, endWord}
+use Rattle.text.specs.Bytes.{lf, space}
+pub use Rattle.text.specs.Bytes.{endLine}
 use Rattle.text.specs.Column.{column}
 use Rattle.names.specs.Name.{IsName, compose}
 use Rattle.automaton.specs.Automaton.{InRange}
@@ -47,10 +48,6 @@ stateLine q z = 83 ∷ (column 3 q ++ (column 3 (z .initial) ++ (column 3 (z .re
 -- "`T`, from (3), letter (3), to (3)"
 unfoldable pub transitionLine : Transition → List ℕ
 transitionLine t = 84 ∷ (column 3 (t .from) ++ (column 3 (t .letter) ++ (column 3 (t .to) ++ (lf ∷ []))))
-
--- "Then `END`, and nothing after."
-abbrev pub endLine : List ℕ
-endLine = endWord ++ (lf ∷ [])
 
 -- the lines of names, from letter l on
 unfoldable pub nameLines : ℕ → List (List ℕ) → List ℕ
@@ -123,7 +120,7 @@ pub record Right (σ : Sheet) : Type 0 where
 abbrev pub most : ℕ
 most = 24576
 
--- A SHEET FILE: its lines answer yes, there are k names and n states, and END is last
+-- A SHEET FILE: its lines answer yes, and there are k names and n states. "Then `END`, and nothing after."
 pub record FileIs (s : List ℕ) (σ : Sheet) : Type 0 where
   pub size : length s ≤ most
   pub right : Right σ

@@ -2,7 +2,7 @@
 use Prim.Native.Nat.{ℕ, zero, suc, _+_, _*_}
 use mathlib.Core.List.{List, [], _∷_, _++_}
 use lib.ListN.{getD}
-use Rattle.text.specs.Bytes.{lf, endWord}
+use Rattle.text.specs.Bytes.{lf, endLine}
 use Rattle.text.specs.Column.{column}
 
 -- the columns, w wide, of a sequence's numbers from i on, of which there are `left`
@@ -29,4 +29,4 @@ tupleLines n k tuples nexts t (suc left) = tupleLine n k tuples nexts t ++ tuple
 
 -- "The last line is END."
 unfoldable pub listing : ℕ → ℕ → ℕ → List ℕ → List ℕ → List ℕ
-listing n k count tuples nexts = trackLine n k count ++ (tupleLines n k tuples nexts 0 count ++ (endWord ++ (lf ∷ [])))
+listing n k count tuples nexts = trackLine n k count ++ (tupleLines n k tuples nexts 0 count ++ endLine)

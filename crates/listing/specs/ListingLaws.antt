@@ -10,7 +10,7 @@ use Rattle.automaton.specs.Automaton.{Automaton, Fits}
 use Rattle.tuple.specs.TupleLaws.{small}
 use Rattle.tracker.specs.Build.{Store, RoomFits, Fitted}
 use Rattle.tracker.specs.FittedLaws.{tuple, fitted-formed, fitted-set, fitted-colour, fitted-behind}
-use Rattle.text.specs.Bytes.{lf, endWord}
+use Rattle.text.specs.Bytes.{lf, endLine}
 use Rattle.text.specs.BytesLaws.{append-same}
 use Rattle.text.specs.Column.{column}
 use Rattle.text.specs.ColumnLaws.{column-length, column-injective}
@@ -144,12 +144,9 @@ pub listing-determines : (n₁ k₁ c₁ : ℕ) (t₁ e₁ : List ℕ) (n₂ k�
 unfolding listing
 listing-determines n₁ k₁ c₁ t₁ e₁ n₂ k₂ c₂ t₂ e₂ s₁ s₂ e = by (first-same n₁ k₁ c₁ n₂ k₂ c₂ (s₁ .states) (s₁ .letters) (s₁ .most) (s₂ .states) (s₂ .letters) (s₂ .most) (parts .0))
   where
-    end : List ℕ
-    end = endWord ++ (lf ∷ [])
-
-    parts : (trackLine n₁ k₁ c₁ ≡ trackLine n₂ k₂ c₂) × (tupleLines n₁ k₁ t₁ e₁ 0 c₁ ++ end ≡ tupleLines n₂ k₂ t₂ e₂ 0 c₂ ++ end)
+    parts : (trackLine n₁ k₁ c₁ ≡ trackLine n₂ k₂ c₂) × (tupleLines n₁ k₁ t₁ e₁ 0 c₁ ++ endLine ≡ tupleLines n₂ k₂ t₂ e₂ 0 c₂ ++ endLine)
     parts =
-        append-same (trackLine n₁ k₁ c₁) (trackLine n₂ k₂ c₂) (tupleLines n₁ k₁ t₁ e₁ 0 c₁ ++ end) (tupleLines n₂ k₂ t₂ e₂ 0 c₂ ++ end)
+        append-same (trackLine n₁ k₁ c₁) (trackLine n₂ k₂ c₂) (tupleLines n₁ k₁ t₁ e₁ 0 c₁ ++ endLine) (tupleLines n₂ k₂ t₂ e₂ 0 c₂ ++ endLine)
         (first-length n₁ k₁ c₁ ∙ sym (first-length n₂ k₂ c₂)) e
 
     by : (n₁ ≡ n₂) × (k₁ ≡ k₂) × (c₁ ≡ c₂) → Same n₁ k₁ c₁ t₁ e₁ n₂ k₂ c₂ t₂ e₂
@@ -158,13 +155,13 @@ listing-determines n₁ k₁ c₁ t₁ e₁ n₂ k₂ c₂ t₂ e₂ s₁ s₂ e
         s₂' : Shown n₁ k₁ c₁ t₂ e₂
         s₂' = rw (p, q, r) s₂
 
-        texts : tupleLines n₁ k₁ t₁ e₁ 0 c₁ ++ end ≡ tupleLines n₁ k₁ t₂ e₂ 0 c₁ ++ end
+        texts : tupleLines n₁ k₁ t₁ e₁ 0 c₁ ++ endLine ≡ tupleLines n₁ k₁ t₂ e₂ 0 c₁ ++ endLine
         texts = rw (← p, ← q, ← r) at (parts .1)
 
         lines : (t : ℕ) → t < c₁ → SameLine n₁ k₁ t₁ e₁ t₂ e₂ t
         lines t h =
             let (x, y) =
-            append-same (tupleLines n₁ k₁ t₁ e₁ 0 c₁) (tupleLines n₁ k₁ t₂ e₂ 0 c₁) end end
+            append-same (tupleLines n₁ k₁ t₁ e₁ 0 c₁) (tupleLines n₁ k₁ t₂ e₂ 0 c₁) endLine endLine
             (lines-length n₁ k₁ t₁ e₁ 0 c₁ ∙ sym (lines-length n₁ k₁ t₂ e₂ 0 c₁)) texts in
             line-same n₁ k₁ c₁ t₁ e₁ t₂ e₂ s₁ s₂' t (lines-same n₁ k₁ t₁ e₁ t₂ e₂ 0 c₁ x t (omega arith) (omega arith))
 

@@ -7,7 +7,7 @@ use native.Mathlib.Nat.{mul-le-mul, mul-suc, suc-mul, sub-eq-zero-of-le}
 use native.Mathlib.Omega.{arith}
 use lib.ListN.{length, getD, length-append}
 use lib.Seq.{sets}
-use Rattle.text.specs.Bytes.{lf, endWord}
+use Rattle.text.specs.Bytes.{lf, endLine}
 use Rattle.text.specs.Column.{column}
 use Rattle.text.specs.ColumnLaws.{column-length}
 use Rattle.text.specs.LeftLaws.{left-more}
@@ -121,5 +121,5 @@ pub listing-put : (out : List ℕ) (n k count : ℕ) (tuples nexts : List ℕ)
 unfolding listing
 listing-put out n k count tuples nexts =
     let ls = tupleLines n k tuples nexts 0 count in
-    sets-part (trackLine n k count) (ls ++ (endWord ++ (lf ∷ []))) out 0 17 (omega (arith, first-length n k count))
-    ∙ sets-part ls (endWord ++ (lf ∷ [])) (sets out 0 (trackLine n k count)) 17 (17 + count * lineBytes n k) (omega (arith, lines-length n k tuples nexts 0 count))
+    sets-part (trackLine n k count) (ls ++ endLine) out 0 17 (omega (arith, first-length n k count))
+    ∙ sets-part ls endLine (sets out 0 (trackLine n k count)) 17 (17 + count * lineBytes n k) (omega (arith, lines-length n k tuples nexts 0 count))

@@ -4,18 +4,17 @@ use mathlib.Core.Path.{_≡_, refl, sym, _∙_, ap, subst}
 use mathlib.Core.Bool.{Bool, true, false, and-eq-true-iff}
 use mathlib.Core.List.{List, [], _∷_, _++_, append-assoc, append-nil}
 use lib.ListN.{length, getD, drop, length-append}
-use lib.Seq.{getD-drop, drop-cons, drop-length, getD-at}
+use lib.Seq.{getD-drop, drop-length, getD-at}
 use lib.Dec.{eqb, ltb}
 use borrow.Author.Tests.{eq-eqb, ne-eqb, lt-ltb, le-ltb, eqb-true, eqb-false, ltb-false}
 use native.Mathlib.Nat.{add-zero, sub-eq-zero-of-le}
-use native.Mathlib.Numerals.{add-one}
 use native.Mathlib.Omega.{arith}
 use Rattle.text.specs.Bytes.{lf, stretch}
 use Rattle.text.specs.LeftLaws.{left-more}
 use Rattle.text.specs.BytesLaws.{stretch-is, stretch-rest}
 use Rattle.text.specs.Choice.{choose}
 use Rattle.text.specs.Word.{startsAt, noZero}
-use Rattle.text.specs.WordLaws.{starts-is, within}
+use Rattle.text.specs.WordLaws.{first-byte, byte-is, starts-is}
 use Rattle.names.specs.Name.{isUmlaut, isVowel, isDecomposed, Part, RightPart, RightParts, partBytes, nameBytes, IsName}
 use Rattle.names.specs.Name.Part.{plain, composed, decomposed}
 use Rattle.names.specs.PartLaws.{vowel-range, NoMark, no-mark, no-decomposed, parts-without}
@@ -127,7 +126,7 @@ parts-are s at (suc most) = by (eqb (widthAt s at) 0) refl (parts-are s (at + wi
 width-drop : (s x : List ℕ) (at : ℕ) → drop at s ≡ x → widthAt s at ≡ widthOf (getD x 0 0) (getD x 1 0) (getD x 2 0)
 unfolding widthAt
 width-drop s x at e =
-    let a : getD s at 0 ≡ getD x 0 0 = ap (λ (n : ℕ). getD s n 0) (sym (add-zero at)) ∙ (sym (getD-drop at s 0 0) ∙ ap (λ (l : List ℕ). getD l 0 0) e) in
+    let a : getD s at 0 ≡ getD x 0 0 = sym (first-byte s at) ∙ ap (λ (l : List ℕ). getD l 0 0) e in
     let b : getD s (at + 1) 0 ≡ getD x 1 0 = sym (getD-drop at s 1 0) ∙ ap (λ (l : List ℕ). getD l 1 0) e in
     let c : getD s (at + 2) 0 ≡ getD x 2 0 = sym (getD-drop at s 2 0) ∙ ap (λ (l : List ℕ). getD l 2 0) e in
     rw (a, b, c)
@@ -208,8 +207,7 @@ tests-of false false true x e p = (refl, refl, refl, cc)
 name-at :
     (s : List ℕ) (start e : ℕ) → PartsTo s start e → (e ≡ start → ⊥) → e ≤ start + 24 → getD s e 0 ≡ lf → NameAt s start e
 name-at s start e p n l b =
-    let w : e < length s = within s e (omega arith) in
-    let c : drop e s ≡ lf ∷ drop (e + 1) s = drop-cons s e 0 w ∙ rw (b, add-one e) in
+    let c = byte-is s e lf (omega arith) b in
     let k = p .place in
     let x : stretch s start e ≡ nameBytes (p .parts) =
     ap (stretch s start) k ∙ stretch-is s start (nameBytes (p .parts)) (drop e s) (p .is) in

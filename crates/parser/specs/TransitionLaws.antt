@@ -5,7 +5,6 @@ use mathlib.Core.Path.{_≡_, refl, sym, ap, subst, _∙_}
 use mathlib.Core.Bool.{Bool, true, false, and-eq-true-iff}
 use mathlib.Core.List.{List, [], _∷_, _++_, append-assoc}
 use lib.ListN.{length, getD, drop, drop-of-length-le}
-use lib.Seq.{getD-drop}
 use lib.Dec.{eqb, ltb}
 use borrow.Author.Tests.{eq-eqb, ne-eqb, eqb-true, eqb-false, lt-ltb, ltb-true, le-leb, leb-true}
 use native.Mathlib.Omega.{arith}
@@ -28,6 +27,7 @@ use Rattle.text.specs.Pair.{pairAt}
 use Rattle.text.specs.ChoiceLaws.{test-true}
 use Rattle.text.specs.NumberLaws.{some-number, numbered-by, numbered-parts}
 use Rattle.text.specs.PairLaws.{some-pair}
+use Rattle.text.specs.WordLaws.{first-byte}
 use Rattle.text.specs.declared.Pair.the-variants as P
 use Rattle.parser.specs.FieldLaws.{Fields, fields-of, fields-is}
 use Rattle.parser.specs.EndLaws.{end-outcome, end-read, end-missing, end-behind}
@@ -105,9 +105,6 @@ pub record TransitionsRefused (s : List ℕ) (n k line at least number at-line :
 abbrev pub TransitionsOutcome : List ℕ → ℕ → ℕ → ℕ → ℕ → ℕ → List ℕ → Phase (List ℕ) → Type 0
 TransitionsOutcome s n k line at least table (refused number at-line) = TransitionsRefused s n k line at least number at-line
 TransitionsOutcome s n k line at least table (passed p) = TransitionsPassed s n k at least table p
-
-first-byte : (s : List ℕ) (at : ℕ) → getD (drop at s) 0 0 ≡ getD s at 0
-first-byte s at = getD-drop at s 0 0 ∙ rw add-zero
 
 module _ (s : List ℕ) (n k line at least : ℕ) (table : List ℕ) where
   -- nothing of the phase is read yet

@@ -1,9 +1,9 @@
 -- Document 01: "There the sheet reaches to the first line that is just END (to the end of input if none)".
 use Prim.Native.Nat.{ℕ, _+_, _<_}
 use mathlib.Core.Path.{_≡_}
-use mathlib.Core.List.{List, _∷_, _++_}
+use mathlib.Core.List.{List, _++_}
 use lib.ListN.{length, getD, drop}
-use Rattle.text.specs.Bytes.{lf, endWord}
+use Rattle.text.specs.Bytes.{lf, endLine}
 
 -- a line starts at a: at the front, or behind an LF
 abbrev pub LineStart : List ℕ → ℕ → Type 0
@@ -13,7 +13,7 @@ LineStart s a = (i : ℕ) → i + 1 ≡ a → getD s i 0 ≡ lf
 pub record EndLine (s : List ℕ) (a : ℕ) : Type 0 where
   pub start : LineStart s a
   pub rest : List ℕ
-  pub is : drop a s ≡ endWord ++ (lf ∷ rest)
+  pub is : drop a s ≡ endLine ++ rest
 
 -- where the sheet ends: behind the first such line, or at the end of the input where there is none
 pub data SheetEnds (s : List ℕ) (e : ℕ) : Type 0 where

@@ -2,13 +2,13 @@
 use Prim.Native.Nat.{ℕ, _+_, _-_, _≤_, _<_}
 use mathlib.Core.Path.{_≡_, refl, sym, ap, _∙_}
 use mathlib.Core.Bool.{Bool, true, false}
-use mathlib.Core.List.{List, [], _∷_, _++_}
+use mathlib.Core.List.{List}
 use native.Mathlib.Omega.{arith}
-use lib.ListN.{length, take, drop, length-drop}
-use lib.Seq.{take-length}
+use lib.ListN.{length, drop, length-drop}
 use Rattle.gate.specs.Gate.{Decides}
 use Rattle.gate.specs.GateLaws.{decides-yes, decides-no}
-use Rattle.text.specs.Bytes.{lf, endWord}
+use Rattle.text.specs.Bytes.{endLine, stretch}
+use Rattle.text.specs.BytesLaws.{stretch-end}
 use Rattle.text.specs.Word.{startsAt}
 use Rattle.text.specs.WordLaws.{starts-is, no-word}
 use Rattle.report.specs.Split.{LineStart, EndLine}
@@ -20,13 +20,10 @@ pub none-below : (s : List ℕ) → ((b : ℕ) → b < length s → EndLine s b 
 none-below s h b e = h b (omega (arith, end-within s b e)) e
 
 -- where a line starts, it is asked for END and LF
-pub end-told : (s : List ℕ) (a : ℕ) (r : Bool) → LineStart s a → r ≡ startsAt (take (length s - a) (drop a s)) 0 (endWord ++ (lf ∷ []))
+pub end-told : (s : List ℕ) (a : ℕ) (r : Bool) → LineStart s a → r ≡ startsAt (stretch s a (length s)) 0 endLine
     → Decides r (EndLine s a)
-end-told s a r start e = by r (e ∙ ap (λ (x : List ℕ). startsAt x 0 (endWord ++ (lf ∷ []))) whole)
+end-told s a r start e = by r (e ∙ ap (λ (x : List ℕ). startsAt x 0 endLine) (stretch-end s a))
   where
-    whole : take (length s - a) (drop a s) ≡ drop a s
-    whole = ap (λ (n : ℕ). take n (drop a s)) (sym (length-drop a s)) ∙ take-length (drop a s)
-
-    by : (r : Bool) → r ≡ startsAt (drop a s) 0 (endWord ++ (lf ∷ [])) → Decides r (EndLine s a)
-    by true e = decides-yes (record { start = start; rest = drop 4 (drop a s); is = starts-is (drop a s) 0 (endWord ++ (lf ∷ [])) refl (sym e) })
-    by false e = decides-no (λ l. no-word (drop a s) 0 (endWord ++ (lf ∷ [])) (l .rest) (sym e) (l .is))
+    by : (r : Bool) → r ≡ startsAt (drop a s) 0 endLine → Decides r (EndLine s a)
+    by true e = decides-yes (record { start = start; rest = drop 4 (drop a s); is = starts-is (drop a s) 0 endLine refl (sym e) })
+    by false e = decides-no (λ l. no-word (drop a s) 0 endLine (l .rest) (sym e) (l .is))

@@ -3,10 +3,7 @@ use Prim.Native.Nat.{ℕ, _-_, _≤_, _<_}
 use mathlib.Core.Path.{_≡_, sym, _∙_}
 use mathlib.Core.List.{List, [], map}
 use native.Mathlib.Omega.{arith}
-use native.Mathlib.Nat.{sub-zero}
-use lib.ListN.{length, getD, List·getD-map}
-use lib.Seq.{take-length}
-use Rattle.text.specs.Bytes.{stretch}
+use lib.ListN.{getD, List·getD-map}
 use Rattle.automaton.specs.declared.Numbers.{Numbers}
 use Rattle.names.specs.Name.{IsName, compose}
 use Rattle.format.specs.Numbers.{numbers}
@@ -15,10 +12,6 @@ use Rattle.parser.specs.Rows.{FirstName}
 use Rattle.sheet.specs.Answers.{LettersOf}
 use Rattle.sheet.specs.Spelling.{spelling}
 use Rattle.sheet.specs.SpellingLaws.{spelling-is}
-
--- a whole list is a stretch of itself
-pub whole-stretch : (x : List ℕ) → stretch x 0 (length x) ≡ x
-whole-stretch x = rw sub-zero (take-length x)
 
 module _ {s rows : List ℕ} {a : Numbers} (h : LettersOf s rows a) where
   pub letters-are : a .k ≡ h .sheet .k

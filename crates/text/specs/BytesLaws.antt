@@ -2,8 +2,8 @@
 use Prim.Native.Nat.{ℕ, suc, _+_, _-_, _<_, _≤_}
 use mathlib.Core.Path.{_≡_, refl, sym, _∙_, ap}
 use mathlib.Core.List.{List, [], _∷_, _++_}
-use lib.ListN.{length, getD, take, drop, length-append}
-use lib.Seq.{drop-cons, take-at, drop-at, drop-drop}
+use lib.ListN.{length, getD, take, drop, length-append, length-drop}
+use lib.Seq.{drop-cons, take-length, take-at, drop-at, drop-drop}
 use native.Mathlib.Omega.{arith}
 use native.Mathlib.Nat.{sub-eq-zero-of-le}
 use native.Mathlib.Numerals.{add-one}
@@ -32,6 +32,10 @@ stretch-length s a e h = part-length s a (e - a) (omega arith)
 
 pub stretch-at : (s : List ℕ) (a e i : ℕ) → i < e - a → getD (stretch s a e) i 0 ≡ getD s (a + i) 0
 stretch-at s a e i h = part-at s a (e - a) i h
+
+-- a stretch to the end is all that is left
+pub stretch-end : (s : List ℕ) (a : ℕ) → stretch s a (length s) ≡ drop a s
+stretch-end s a = rw (← length-drop a s) (take-length (drop a s))
 
 -- what a file goes on with is a stretch of it
 pub stretch-is : (s : List ℕ) (a : ℕ) (x rest : List ℕ) → drop a s ≡ x ++ rest → stretch s a (a + length x) ≡ x

@@ -90,32 +90,32 @@ number-is s at v e =
     let l : length (column 3 v) ≡ 3 = column-length 3 v in
     (w .0, starts-is s at (column 3 v) (column-no-zero 3 v) (starts-column s at v (w .1) (w .2) (w .3)) ∙ rw l)
 
--- A LINE THAT OPENS WITH A LETTER AND A NUMBER
-module _ (s : List ℕ) (at letter v : ℕ) where
-  pub numbered-by : getD s at 0 ≡ letter → numberAt s (at + 1) ≡ Is v → isNumbered s at letter v ≡ true
+-- A LINE THAT OPENS WITH ITS KIND AND A NUMBER
+module _ (s : List ℕ) (at kind v : ℕ) where
+  pub numbered-by : getD s at 0 ≡ kind → numberAt s (at + 1) ≡ Is v → isNumbered s at kind v ≡ true
   unfolding isNumbered
   numbered-by e f = simp (eq-eqb _ _ e, f, eq-eqb v v refl)
 
-  pub numbered-parts : isNumbered s at letter v ≡ true → (getD s at 0 ≡ letter) × (numberAt s (at + 1) ≡ Is v)
+  pub numbered-parts : isNumbered s at kind v ≡ true → (getD s at 0 ≡ kind) × (numberAt s (at + 1) ≡ Is v)
   unfolding isNumbered
   numbered-parts e =
-      let t = and-eq-true-iff (eqb (getD s at 0) letter) _ .0 e in
+      let t = and-eq-true-iff (eqb (getD s at 0) kind) _ .0 e in
       let n = some-number (λ z. false≢true z) (numberAt s (at + 1)) _ (t .1) in
       (eqb-true _ _ (t .0), n .1 ∙ ap Is (eqb-true (n .0) v (n .2)))
 
   p4 : at + 1 + 3 ≡ at + 4
   p4 = omega arith
 
-  pub numbered-of : (rest : List ℕ) → v < 1000 → drop at s ≡ letter ∷ (column 3 v ++ rest) → (isNumbered s at letter v ≡ true) × (drop (at + 4) s ≡ rest)
+  pub numbered-of : (rest : List ℕ) → v < 1000 → drop at s ≡ kind ∷ (column 3 v ++ rest) → (isNumbered s at kind v ≡ true) × (drop (at + 4) s ≡ rest)
   numbered-of rest h e =
-      let e0 = goes-on s at letter (column 3 v ++ rest) e in
+      let e0 = goes-on s at kind (column 3 v ++ rest) e in
       let e1 = column-of s (at + 1) v rest h (e0 .1) in
       (numbered-by (e0 .0) (e1 .0), rw p4 at (e1 .1))
 
-  pub numbered-is : 0 < letter → isNumbered s at letter v ≡ true → drop at s ≡ letter ∷ (column 3 v ++ drop (at + 4) s)
+  pub numbered-is : 0 < kind → isNumbered s at kind v ≡ true → drop at s ≡ kind ∷ (column 3 v ++ drop (at + 4) s)
   numbered-is h e =
       let p = numbered-parts e in
-      byte-is s at letter h (p .0) ∙ ap (letter ∷_) (rw p4 at (number-is s (at + 1) v (p .1) .1))
+      byte-is s at kind h (p .0) ∙ ap (kind ∷_) (rw p4 at (number-is s (at + 1) v (p .1) .1))
 
 -- TWO NUMBERS, each in its range
 module _ (a b : ℕ) {least most least′ most′ : ℕ} where

@@ -15,9 +15,9 @@ use Rattle.text.specs.declared.Pair.the-variants.{Are, Bad}
 abbrev pub twoNumbers : ℕ → ℕ → List ℕ → List ℕ
 twoNumbers a b rest = column 3 a ++ (column 3 b ++ (lf ∷ rest))
 
--- a line of a letter and three numbers, which the lines of states and of transitions are, and what stands behind it
+-- a line of a byte, which tells its kind, and three numbers, as the lines of states and of transitions are, and what stands behind it
 abbrev pub threeNumbers : ℕ → ℕ → ℕ → ℕ → List ℕ → List ℕ
-threeNumbers letter a b c rest = letter ∷ (column 3 a ++ twoNumbers b c rest)
+threeNumbers kind a b c rest = kind ∷ (column 3 a ++ twoNumbers b c rest)
 
 -- the numbers in the three columns from `at` and the three behind them, before an LF
 abbrev pub pairAt : List ℕ → ℕ → Pair

@@ -2,7 +2,7 @@
 use Prim.Native.Nat.{ℕ, zero, suc, _+_, _<_, _≤_}
 use mathlib.Core.Path.{_≡_, refl, sym, _∙_, ap}
 use mathlib.Core.Bool.{true, false, true≢false, and-eq-true-iff}
-use mathlib.Core.Logic.{_⊎_, ⊎-elim}
+use mathlib.Core.Logic.{⊎-elim}
 use mathlib.Core.List.{List, [], _∷_, _++_}
 use lib.ListN.{length, getD, drop, drop-of-length-le, List·getD-eq-default}
 use lib.Seq.{drop-cons, drop-drop, getD-drop}
@@ -39,6 +39,10 @@ pub within : (s : List ℕ) (at : ℕ) → 0 < getD s at 0 → at < length s
 within s at h =
     ⊎-elim (λ (l : at < length s). l) (λ (l : length s ≤ at). absurd (omega (arith, List·getD-eq-default s 0 l))) (lt-or-ge at (length s))
 
+-- the byte at a place is the first of what the file goes on with there
+pub first-byte : (s : List ℕ) (at : ℕ) → getD (drop at s) 0 0 ≡ getD s at 0
+first-byte s at = getD-drop at s 0 0 ∙ rw add-zero
+
 pub byte-is : (s : List ℕ) (at b : ℕ) → 0 < b → getD s at 0 ≡ b → drop at s ≡ b ∷ drop (at + 1) s
 byte-is s at b h e =
     let l : at < length s = within s at (omega arith) in
@@ -47,7 +51,7 @@ byte-is s at b h e =
 -- what a file goes on with at a place
 pub goes-on : (s : List ℕ) (at b : ℕ) (rest : List ℕ) → drop at s ≡ b ∷ rest → (getD s at 0 ≡ b) × (drop (at + 1) s ≡ rest)
 goes-on s at b rest e = (
-  ap (λ (n : ℕ). getD s n 0) (sym (add-zero at)) ∙ (sym (getD-drop at s 0 0) ∙ ap (λ (l : List ℕ). getD l 0 0) e),
+  sym (first-byte s at) ∙ ap (λ (l : List ℕ). getD l 0 0) e,
   sym (drop-drop 1 at s) ∙ ap (drop 1) e,
 )
 
@@ -70,10 +74,9 @@ starts-is s at (b ∷ word) z e =
     let q = neither (eqb b 0) (noZero word) z in
     let here : getD s at 0 ≡ b = eqb-true _ _ (p .0) in
     let n : b ≡ 0 → ⊥ = eqb-false b 0 (q .0) in
-    let l : at < length s = within s at (omega (arith, n)) in
     let rest = starts-is s (at + 1) word (q .1) (p .1) in
     let k : at + 1 + length word ≡ at + suc (length word) = omega arith in
-    drop-cons s at 0 l ∙ (rw (here, ← add-one at, rest, k))
+    byte-is s at b (omega (arith, n)) here ∙ ap (b ∷_) (rest ∙ rw k)
 
 -- where a word does not stand, the file does not go on with it
 pub no-word : (s : List ℕ) (at : ℕ) (word rest : List ℕ) → startsAt s at word ≡ false → drop at s ≡ word ++ rest → ⊥

@@ -9,7 +9,8 @@ use lib.ListN.{length}
 use Rattle.names.specs.Name.{IsName, compose}
 use Rattle.parser.specs.Rows.{FirstName}
 use Rattle.sheet.specs.Answers.{LettersOf}
-use Rattle.sheet.proofs.LetterAnswers.{whole-stretch, no-name, letter-found, letter-nowhere}
+use Rattle.text.specs.BytesLaws.{stretch-end}
+use Rattle.sheet.proofs.LetterAnswers.{no-name, letter-found, letter-nowhere}
 use borrow.Author.Needs.{needs}
 use Rattle.sheet.proofs.find.Statement.{statement}
 use Rattle.sheet.proofs.find.Tie as tie
@@ -29,7 +30,7 @@ first :
     (compose (now (c .before .before .before .before .before .before .before .before .before .before .before .before .args .name))) (c .letter-of .result)
 first c =
     let h = letters (c .before .before .before .before) in
-    let whole = whole-stretch (now (c .before .before .before .before .before .before .before .before .before .before .before .before .args .name)) in
+    let whole = stretch-end (now (c .before .before .before .before .before .before .before .before .before .before .before .before .args .name)) 0 in
     rw whole at (c .letter-of .ensures (map compose (h .sheet .names)) (h .all) (h .holds) (rw whole (is-one (c .before .before))) .0)
 
 slice-aggregate-read-rows : tie.Need-slice-aggregate-read-rows
