@@ -1,11 +1,11 @@
 -- The queue of a breadth-first search: the pairs of states in which two walks on one word end, in the order in which they are found.
 -- One table of 528 numbers holds it. Number i is pair i, as 256 · depth + 16 · one + other; the depth is the word's length.
 -- Number 256 + i says where pair i comes from, as 8 · parent + letter. Number 512 + p is the set of the states found together with p.
-use Prim.Native.Nat.{ℕ, _+_, _*_, _/_, _%_, _^_, _≤_, _<_}
+use Prim.Native.Nat.{ℕ, _+_, _/_, _%_, _≤_, _<_}
 use mathlib.Core.Path.{_≡_}
 use mathlib.Core.List.{List}
 use lib.ListN.{length, getD, set}
-use Rattle.sets.specs.Sets.{Member, unionOf}
+use Rattle.sets.specs.Sets.{Member}
 
 abbrev pub pair : List ℕ → ℕ → ℕ
 pair T i = getD T i 0
@@ -82,7 +82,3 @@ pub record Open (T : List ℕ) (count d p : ℕ) : Type 0 where
   pub most : AtMost T count d
   pub deep : d ≤ count
   pub state : p < 16
-
--- the table with one pair more
-abbrev pub pushed : List ℕ → ℕ → ℕ → ℕ → ℕ → ℕ → List ℕ
-pushed T count d p q o = set (set (set T count (256 * d + 16 * p + q)) (256 + count) o) (512 + p) (unionOf (companions T p) (2 ^ q))

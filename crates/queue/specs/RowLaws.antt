@@ -6,36 +6,31 @@ use mathlib.Core.List.{List}
 use native.Mathlib.Omega.{arith}
 use native.Mathlib.Decide.{decLt}
 use Rattle.sets.specs.Sets.{Member}
-use Rattle.queue.specs.Queue.{pair, companions, other, Listed, Has, AtMost, Keeps, Fresh, Longer, Below, Only, Open}
-
--- a listed pair has its depth's bound
-listed-has : (T : List ℕ) (count d p q : ℕ) → AtMost T count d → Listed T count p q → Has T count d p q
-listed-has T count d p q m (i, l, a, b) = (i, l, m i l, a, b)
+use Rattle.queue.specs.Queue.{pair, companions, other, Has, Keeps, Fresh, Longer, Below, Only, Open}
 
 pub has-longer : (T T' : List ℕ) (count count' d p q : ℕ) → Keeps T count T' → count ≤ count' → Has T count d p q → Has T' count' d p q
 has-longer T T' count count' d p q k l (i, h, x, a, b) = let e = k i h .0 in (i, omega arith, rw e x, rw e a, rw e b)
 
 -- nothing to add
-pub unchanged : (T : List ℕ) (count d p : ℕ) (S : ℕ → Type 0) (o : ℕ) → Open T count d p → ((q : ℕ) → S q → Member (companions T p) q)
-    → Longer T count d p S o T count
-unchanged T count d p S o a f = record {
+pub unchanged : {T : List ℕ} {count d p o : ℕ} (S : ℕ → Type 0) → Open T count d p → ((q : ℕ) → S q → Member (companions T p) q) → Longer T count d p S o T count
+unchanged {p = p} S a f = record {
   queue = a .queue;
   more = omega arith;
   keeps = λ i l. (refl, refl);
   most = a .most;
   fresh = λ i l m. absurd (omega arith);
-  has = λ q s. listed-has T count d p q (a .most) (a .queue .listed p q (a .state) (f q s));
+  has = λ q s. (let (i, l, x, y) = a .queue .listed p q (a .state) (f q s) in (i, l, a .most i l, x, y));
 }
 
-pub open-longer : (T : List ℕ) (count d p : ℕ) (S : ℕ → Type 0) (o : ℕ) (T' : List ℕ) (count' r : ℕ) → r < 16 → d ≤ count → Longer T count d p S o T' count'
+pub open-longer : {T : List ℕ} {count d p : ℕ} {S : ℕ → Type 0} {o : ℕ} {T' : List ℕ} {count' r : ℕ} → r < 16 → d ≤ count → Longer T count d p S o T' count'
     → Open T' count' d r
-open-longer T count d p S o T' count' r h l x = let m = x .more in record { queue = x .queue; most = x .most; deep = omega arith; state = h }
+open-longer h l x = let m = x .more in record { queue = x .queue; most = x .most; deep = omega arith; state = h }
 
 -- first the members of S, then those of S′
-longer-both : (T : List ℕ) (count d p : ℕ) (S S′ U : ℕ → Type 0) (o : ℕ) (T₁ : List ℕ) (count₁ : ℕ) (T₂ : List ℕ) (count₂ : ℕ)
+longer-both : {T : List ℕ} {count d p : ℕ} (S S′ U : ℕ → Type 0) {o : ℕ} {T₁ : List ℕ} {count₁ : ℕ} {T₂ : List ℕ} {count₂ : ℕ}
     → ((q : ℕ) → U q → S q ⊎ S′ q) → ((q : ℕ) → S q → U q) → ((q : ℕ) → S′ q → U q)
     → Longer T count d p S o T₁ count₁ → Longer T₁ count₁ d p S′ o T₂ count₂ → Longer T count d p U o T₂ count₂
-longer-both T count d p S S′ U o T₁ count₁ T₂ count₂ split f g x y =
+longer-both {count = count} {d = d} {p = p} S S′ U {o = o} {T₁ = T₁} {count₁ = count₁} {T₂ = T₂} {count₂ = count₂} split f g x y =
     let lx = x .more in
     let ly = y .more in
     record {
@@ -57,10 +52,10 @@ longer-both T count d p S S′ U o T₁ count₁ T₂ count₂ split f g x y =
     has-at q (inr s) = y .has q s
 
 -- one member more
-pub row-more : (T : List ℕ) (count d p x q o : ℕ) (T₁ : List ℕ) (count₁ : ℕ) (T₂ : List ℕ) (count₂ : ℕ)
+pub row-more : (x q : ℕ) {T : List ℕ} {count d p o : ℕ} {T₁ : List ℕ} {count₁ : ℕ} {T₂ : List ℕ} {count₂ : ℕ}
     → Longer T count d p (Below x q) o T₁ count₁ → Longer T₁ count₁ d p (Only x q) o T₂ count₂ → Longer T count d p (Below x (q + 1)) o T₂ count₂
-row-more T count d p x q o T₁ count₁ T₂ count₂ =
-    longer-both T count d p (Below x q) (Only x q) (Below x (q + 1)) o T₁ count₁ T₂ count₂ split (λ r s. (omega arith, s .1)) (λ r s. (omega arith, s .1))
+row-more x q =
+    longer-both (Below x q) (Only x q) (Below x (q + 1)) split (λ r s. (omega arith, s .1)) (λ r s. (omega arith, s .1))
   where
     split : (r : ℕ) → Below x (q + 1) r → Below x q r ⊎ Only x q r
     split r (l, m) = by (decLt r q)

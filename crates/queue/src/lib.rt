@@ -24,11 +24,11 @@ fn add(
     requires { ⌜ Open (now queue) count depth p × (q < 16) × (origin < 2048) ⌝ }
     ensures { λ r. ⌜ Longer (now (queue .entry)) count depth p (Only set q) origin (now (queue .exit)) r ⌝ }
 {
-    let row = queue[512 + p];
-    if sets::contains(sets::minus(set, row), q) {
+    let companions = queue[512 + p];
+    if sets::contains(sets::minus(set, companions), q) {
         queue[count] = (256 * depth + 16 * p + q) as u16;
         queue[256 + count] = origin as u16;
-        queue[512 + p] = sets::insert(row, q);
+        queue[512 + p] = sets::insert(companions, q);
         return count + 1;
     }
     count

@@ -16,7 +16,7 @@ pub record ChainWalk (table : List ℕ) (m : ℕ) (row : List ℕ) (h p : ℕ) :
   pub digest : (t : ℕ) → p ≡ t + 1 → digestOf (rowAt table t) ≡ h
   pub left : (t : ℕ) → t < m → rowAt table t ≡ row → t < p
 
-module _ (table : List ℕ) (m : ℕ) (row : List ℕ) (h : ℕ) (head link : List ℕ) (i : Indexed table m head link) (s : Sought row h) where
+module _ {table : List ℕ} {m : ℕ} {row : List ℕ} {h : ℕ} {head link : List ℕ} (i : Indexed table m head link) (s : Sought row h) where
   dig : (t : ℕ) → rowAt table t ≡ row → digestOf (rowAt table t) ≡ h
   dig t e = ap digestOf e ∙ sym (s .digest)
 
@@ -44,8 +44,8 @@ module _ (table : List ℕ) (m : ℕ) (row : List ℕ) (h : ℕ) (head link : Li
   pub walk-ends : ChainWalk table m row h 0 → Found table m row m
   walk-ends w = record { most = omega arith; is = λ k. absurd (omega arith); none = λ e t k r. let x = w .left t k r in omega arith }
 
-pub walk-finds : (table : List ℕ) (m : ℕ) (row : List ℕ) (t : ℕ) → t < m → rowAt table t ≡ row → Found table m row t
-walk-finds table m row t k e = record { most = omega arith; is = λ j. e; none = λ j. absurd (omega arith) }
+pub walk-finds : {table : List ℕ} {m : ℕ} {row : List ℕ} {t : ℕ} → t < m → rowAt table t ≡ row → Found table m row t
+walk-finds k e = record { most = omega arith; is = λ j. e; none = λ j. absurd (omega arith) }
 
 -- No row
 
@@ -146,9 +146,9 @@ module _ (m : ℕ) (d e : ℕ → ℕ) (h : ℕ) (head link : List ℕ) (i : Ind
   index-more = record { head-is = head-is; link-is = link-is; head-of = head-of; link-of = link-of; last = last; before = before }
 
 -- the table and its index with one row more
-pub added : (table : List ℕ) (m : ℕ) (row : List ℕ) (h : ℕ) (head link : List ℕ) → Indexed table m head link → Sought row h → m < 1024 → 17 * m + 17 ≤ length table
+pub added : {table : List ℕ} {m : ℕ} {row : List ℕ} {h : ℕ} {head link : List ℕ} → Indexed table m head link → Sought row h → m < 1024 → 17 * m + 17 ≤ length table
     → Added table (sets table (17 * m) row) m row (set head h (m + 1)) (set link m (getD head h 0))
-added table m row h head link i s k l =
+added {table = table} {m = m} {row = row} {h = h} {head = head} {link = link} i s k l =
     let hs = i .heads in
     let ls = i .links in
     let g = s .small in

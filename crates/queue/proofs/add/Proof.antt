@@ -16,14 +16,14 @@ new c =
     let s = c .before .before .before .before .before in
     new-pair (s .args .set) (s .args .q) (s .pre .0) (s .pre .1) (c .before .before .minus .ensures) (c .before .contains .ensures) (c .if1 .taken)
 
-add-row : tie.Need-add-row
-add-row c = search needs
+add-companions : tie.Need-add-companions
+add-companions c = search needs
 
-mul-row : tie.Need-mul-row
-mul-row c = search needs
+mul-companions : tie.Need-mul-companions
+mul-companions c = search needs
 
-slice-read-row : tie.Need-slice-read-row
-slice-read-row c = search needs
+slice-read-companions : tie.Need-slice-read-companions
+slice-read-companions c = search needs
 
 minus-requires : tie.Need-minus-requires
 minus-requires c κs = search needs
@@ -100,22 +100,22 @@ returns c =
     let a = s .args in
     let n = new (c .before) in
     rw (c .insert .ensures)
-    (push (a .queue .now) (a .count) (a .depth) (a .p) (a .q) (a .origin) (s .pre .0) (s .pre .1) (n .room) (n .new) (a .set) (n .member))
+    (push (a .q) (a .origin) (s .pre .0) (s .pre .1) (n .room) (n .new) (a .set) (n .member))
 
 returns-2 : tie.Need-returns-2
 returns-2 c =
     let s = c .before .before .before .before .before in
     let a = s .args in
-    unchanged (a .queue .now) (a .count) (a .depth) (a .p) (Only (a .set) (a .q)) (a .origin) (s .pre .0)
+    unchanged (Only (a .set) (a .q)) (s .pre .0)
     (old-pair (a .set) (a .q) (s .pre .0) (s .pre .1) (c .before .before .minus .ensures) (c .before .contains .ensures) (c .if1 .left))
 
 pub add-spec : {M : Type 1} → statement M
 add-spec =
     tie.close
     (tie.spec
-    add-row
-    mul-row
-    slice-read-row
+    add-companions
+    mul-companions
+    slice-read-companions
     minus-requires
     contains-requires
     mul-queue

@@ -34,19 +34,17 @@ returns : tie.Need-returns Inv-loop μ-loop
 returns c =
     let a = c .before .before .before .before .args in
     let w = within-is (a .set) (companions (a .queue .now) (a .p)) (rw (sym (c .before .within .ensures) ∙ c .if1 .taken) tt) in
-    unchanged (a .queue .now) (a .count) (a .depth) (a .p) (Below (a .set) 16) (a .origin) (c .before .before .before .before .pre .0) (λ r s. w r (s .1))
+    unchanged (Below (a .set) 16) (c .before .before .before .before .pre .0) (λ r s. w r (s .1))
 
 loop-holds : tie.Need-loop-holds Inv-loop μ-loop
 loop-holds c =
     let a = c .before .before .before .before .args in
-    (omega arith, unchanged (a .queue .now) (a .count) (a .depth) (a .p) (Below (a .set) 0) (a .origin) (c .before .before .before .before .pre .0) (λ r s. absurd (omega (arith, s .0))))
+    (omega arith, unchanged (Below (a .set) 0) (c .before .before .before .before .pre .0) (λ r s. absurd (omega (arith, s .0))))
 
 add-requires : tie.Need-add-requires Inv-loop μ-loop
 add-requires c κs =
-    let a = c .before .before .before .before .before .before .before .args in
     let p = c .before .before .before .before .before .before .before .pre in
-    let l = c .before .before .loop in
-    (open-longer (a .queue .now) (a .count) (a .depth) (a .p) (Below (a .set) (l .q)) (a .origin) (l .queue) (l .reached) (a .p) (p .0 .state) (p .0 .deep) (l .inv .1), omega arith, p .1)
+    (open-longer (p .0 .state) (p .0 .deep) (c .before .before .loop .inv .1), omega arith, p .1)
 
 add-q : tie.Need-add-q Inv-loop μ-loop
 add-q c = search needs
@@ -58,8 +56,7 @@ loop-again : tie.Need-loop-again Inv-loop μ-loop
 loop-again c =
     let a = c .before .before .before .before .before .before .before .before .before .before .args in
     let l = c .before .before .before .before .before .loop in
-    let g = c .before .before .add in
-    (omega arith, row-more (a .queue .now) (a .count) (a .depth) (a .p) (a .set) (l .q) (a .origin) (l .queue) (l .reached) (g .last .0) (g .result) (l .inv .1) (g .ensures))
+    (omega arith, row-more (a .set) (l .q) (l .inv .1) (c .before .before .add .ensures))
 
 same-length : tie.Need-same-length Inv-loop μ-loop
 same-length c = search needs

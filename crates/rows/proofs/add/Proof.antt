@@ -45,10 +45,8 @@ same-length-3 c = search needs
 
 returns : tie.Need-returns
 returns c =
-    let a = c .before .before .before .before .before .before .before .before .before .args in
     let p = c .before .before .before .before .before .before .before .before .before .pre in
-    let x = added (a .table .now) (a .m) (a .row .now) (a .h) (a .head .now) (a .link .now) (p .0) (p .1) (p .2) (p .3) in
-    rw (c .before .before .before .put .ensures) x
+    rw (c .before .before .before .put .ensures) (added (p .0) (p .1) (p .2) (p .3))
 
 pub add-spec : {M : Type 1} → statement M
 add-spec =

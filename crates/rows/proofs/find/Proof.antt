@@ -24,9 +24,8 @@ cast-p c = omega (arith, c .shared-slice-known5 .given (c .before .before .befor
 
 loop-holds : tie.Need-loop-holds Inv-loop μ-loop
 loop-holds c =
-    let a = c .before .before .before .before .before .args in
     let p = c .before .before .before .before .before .pre in
-    walk-begins (a .table .now) (a .m) (a .row .now) (a .h) (a .head .now) (a .link .now) (p .0) (p .1)
+    walk-begins (p .0) (p .1)
 
 sub-t : tie.Need-sub-t Inv-loop μ-loop
 sub-t c = search needs
@@ -38,10 +37,7 @@ same-requires : tie.Need-same-requires Inv-loop μ-loop
 same-requires c κs = search needs
 
 returns : tie.Need-returns Inv-loop μ-loop
-returns c =
-    let a = c .before .before .before .before .before .before .before .before .before .args in
-    let l = c .before .before .before .loop in
-    walk-finds (a .table .now) (a .m) (a .row .now) (l .p - 1) (omega arith) (c .before .same .ensures .0 (c .if1 .taken))
+returns c = walk-finds (omega arith) (c .before .same .ensures .0 (c .if1 .taken))
 
 mul-p-2 : tie.Need-mul-p-2 Inv-loop μ-loop
 mul-p-2 c = search needs
@@ -62,19 +58,17 @@ loop-less c =
 
 loop-again : tie.Need-loop-again Inv-loop μ-loop
 loop-again c =
-    let a = c .before .before .before .before .before .before .before .before .before .before .args in
     let p = c .before .before .before .before .before .before .before .before .before .before .pre in
     let l = c .before .before .before .before .loop in
-    walk-goes (a .table .now) (a .m) (a .row .now) (a .h) (a .head .now) (a .link .now) (p .0) (p .1) (l .p) (l .p - 1) (l .inv) (omega arith)
+    walk-goes (p .0) (p .1) (l .p) (l .p - 1) (l .inv) (omega arith)
     (c .before .before .same .ensures .1 (c .before .if1 .left))
 
 returns-2 : tie.Need-returns-2 Inv-loop μ-loop
 returns-2 c =
-    let a = c .before .before .before .before .before .before .before .args in
     let p = c .before .before .before .before .before .before .before .pre in
     let l = c .before .loop in
     let e : l .p ≡ 0 = omega arith in
-    walk-ends (a .table .now) (a .m) (a .row .now) (a .h) (a .head .now) (a .link .now) (p .0) (p .1) (rw e at (l .inv))
+    walk-ends (p .0) (p .1) (rw e at (l .inv))
 
 pub find-spec : {M : Type 1} → statement M
 find-spec =
