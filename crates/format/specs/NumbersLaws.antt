@@ -9,9 +9,9 @@ use lib.ListN.{length, getD, set, take, replicate, length-set}
 use lib.Seq.{take-at, getD-set-same, getD-set-other, set-out}
 use native.Mathlib.Omega.{arith}
 use native.Mathlib.Decide.{decLt, ℕ-discrete}
-use native.Mathlib.Nat.{add-zero, pow-suc, one-mul, mul-le-mul-right}
-use Rattle.sets.specs.Sets.{bit, Member, unionOf}
-use Rattle.sets.specs.SetLaws.{no-member, some-member, member-lt, union-right, bit-union, bit-single, bit-single-other}
+use native.Mathlib.Nat.{add-zero, zero-add}
+use Rattle.sets.specs.Sets.{bit, Member, setOf, unionOf}
+use Rattle.sets.specs.SetLaws.{no-member, some-member, member-lt, union-right, bit-union, bit-single, bit-single-other, setOf-lt, bit-setOf}
 use Rattle.automaton.specs.declared.Numbers.{Numbers}
 use Rattle.automaton.specs.Automaton.{automaton, AreNumbers, Edge, InRange, Fits}
 use Rattle.automaton.specs.Lent.{lentTable}
@@ -20,18 +20,54 @@ use Rattle.format.specs.Numbers.{flagSet, inserted, tableOf, numbers}
 
 -- Flags
 
--- the states of a list from q on, whatever their flags, are the numbers from q to below q + length
-flags-small :
-    (flag : State → ℕ) → ((z : State) → FlagsRight z → flag z ≤ 1) →
-    (q : ℕ) (zs : List State) → StatesRight zs → flagSet flag q zs + 2 ^ q ≤ 2 ^ (q + length zs)
-unfolding flagSet
-flags-small flag f q [] r = rw add-zero (omega arith)
-flags-small flag f q (z ∷ zs) r =
-    let h = flags-small flag f (suc q) zs (r .1) in
-    let e : suc q + length zs ≡ q + suc (length zs) = omega arith in
-    let h′ : flagSet flag (suc q) zs + 2 ^ suc q ≤ 2 ^ (q + suc (length zs)) = rw e at h in
-    let m : flag z * 2 ^ q ≤ 2 ^ q = rw one-mul at (mul-le-mul-right (2 ^ q) (f z (r .0))) in
-    omega (arith, pow-suc 2 q)
+-- a state with neither flag
+abbrev pub unflagged : State
+unflagged = record { initial = 0; recurring = 0 }
+
+-- the flags of some states, which f gives by number from q on, add up to the set of f between q and the number behind the last
+flags-sum :
+    (flag : State → ℕ) (f : ℕ → ℕ) (q : ℕ) (zs : List State) → ((i : ℕ) → i < length zs → flag (getD zs i unflagged) ≡ f (q + i)) →
+    setOf (q + length zs) f ≡ setOf q f + flagSet flag q zs
+unfolding setOf flagSet
+flags-sum flag f q [] h = rw (add-zero q) (sym (add-zero _))
+flags-sum flag f q (z ∷ zs) h =
+    let e : q + suc (length zs) ≡ suc q + length zs = omega arith in
+    let here : flag z ≡ f q = h 0 (omega arith) ∙ ap f (add-zero q) in
+    let later = flags-sum flag f (suc q) zs (λ i l. h (suc i) (omega arith) ∙ ap f (omega arith)) in
+    rw (e, later, here) (omega arith)
+
+pub flags-set :
+    (flag : State → ℕ) (f : ℕ → ℕ) (zs : List State) → ((i : ℕ) → i < length zs → flag (getD zs i unflagged) ≡ f i) → flagSet flag 0 zs ≡ setOf (length zs) f
+unfolding setOf
+flags-set flag f zs h = sym (ap (λ (m : ℕ). setOf m f) (sym (zero-add (length zs))) ∙ flags-sum flag f 0 zs (λ i l. h i l ∙ ap f (sym (zero-add i))) ∙ zero-add _)
+
+flags-right : (zs : List State) → StatesRight zs → (q : ℕ) → FlagsRight (getD zs q unflagged)
+flags-right [] r q = (omega arith, omega arith)
+flags-right (z ∷ zs) r zero = r .0
+flags-right (z ∷ zs) r (suc q) = flags-right zs (r .1) q
+
+-- the members of a set of flags are the states with the flag
+flags-are : (flag : State → ℕ) → ((z : State) → FlagsRight z → flag z ≤ 1) → (zs : List State) → StatesRight zs →
+    (q : ℕ) → Member (flagSet flag 0 zs) q ↔ ((q < length zs) × (flag (getD zs q unflagged) ≡ 1))
+flags-are flag small zs right q = (from, to)
+  where
+    f : ℕ → ℕ
+    f i = flag (getD zs i unflagged)
+
+    below : (i : ℕ) → f i < 2
+    below i = omega (arith, small (getD zs i unflagged) (flags-right zs right i))
+
+    is : flagSet flag 0 zs ≡ setOf (length zs) f
+    is = flags-set flag f zs (λ i l. refl)
+
+    from : Member (flagSet flag 0 zs) q → (q < length zs) × (f q ≡ 1)
+    from m =
+        let m′ : Member (setOf (length zs) f) q = subst (λ (x : ℕ). Member x q) is m in
+        let l = member-lt _ (length zs) q (setOf-lt (length zs) f below) m′ in
+        (l, sym (bit-setOf (length zs) f below q l) ∙ m′)
+
+    to : (q < length zs) × (f q ≡ 1) → Member (flagSet flag 0 zs) q
+    to (l, e) = subst (λ (x : ℕ). Member x q) (sym is) (bit-setOf (length zs) f below q l ∙ e)
 
 -- Transitions
 
@@ -39,7 +75,7 @@ abbrev pub transition : ℕ → ℕ → ℕ → Transition
 transition from letter to = record { from = from; letter = letter; to = to }
 
 -- one of the transitions of a list
-abbrev OneOf : List Transition → Transition → Type 0
+abbrev pub OneOf : List Transition → Transition → Type 0
 OneOf ts t = (i : ℕ) × (i < length ts) × (getD ts i (transition 0 0 0) ≡ t)
 
 -- the number of a transition's successor set
@@ -94,6 +130,14 @@ table-length (t ∷ ts) table = table-length ts (inserted table t) ∙ inserted-
 pub loosened : {n k least : ℕ} {t : Transition} → TransitionRight n k least t → TransitionRight n k 0 t
 loosened h = record { from = h .from; letter = h .letter; to = h .to; order = omega arith }
 
+-- state r is in the successor set number c by one of the transitions
+record Entered (n k : ℕ) (ts : List Transition) (c r : ℕ) : Type 0 where
+  pub by : Transition
+  pub one : OneOf ts by
+  pub right : TransitionRight n k 0 by
+  pub at : c ≡ cell by
+  pub to : r ≡ by .to
+
 module _ (n k : ℕ) (range : InRange n k) where
   -- a transition in range has a cell of its own among the 128
   cell-small : (t : Transition) → t .from < n → t .letter < k → cell t < 128
@@ -114,19 +158,18 @@ module _ (n k : ℕ) (range : InRange n k) where
 
     -- a member was one, or is a transition's
     table-from : (table : List ℕ) → length table ≡ 128 → (least : ℕ) (ts : List Transition) → TransitionsRight n k least ts →
-        Member (getD (tableOf table ts) c 0) r → Member (getD table c 0) r ⊎ ((t : Transition) × OneOf ts t × TransitionRight n k 0 t × (c ≡ cell t) × (r ≡ t .to))
+        Member (getD (tableOf table ts) c 0) r → Member (getD table c 0) r ⊎ Entered n k ts c r
     unfolding tableOf
     table-from table size least [] h m = inl m
     table-from table size least (t ∷ ts) h m = by (table-from (inserted table t) (inserted-length table t ∙ size) (place t + 1) ts (h .1) m)
       where
-        first : Member (getD table c 0) r ⊎ ((c ≡ cell t) × (r ≡ t .to)) → Member (getD table c 0) r ⊎ ((u : Transition) × OneOf (t ∷ ts) u × TransitionRight n k 0 u × (c ≡ cell u) × (r ≡ u .to))
+        first : Member (getD table c 0) r ⊎ ((c ≡ cell t) × (r ≡ t .to)) → Member (getD table c 0) r ⊎ Entered n k (t ∷ ts) c r
         first (inl a) = inl a
-        first (inr a) = inr (t, (0, omega arith, refl), loosened (h .0), a .0, a .1)
+        first (inr a) = inr (record { by = t; one = (0, omega arith, refl); right = loosened (h .0); at = a .0; to = a .1 })
 
-        by : Member (getD (inserted table t) c 0) r ⊎ ((u : Transition) × OneOf ts u × TransitionRight n k 0 u × (c ≡ cell u) × (r ≡ u .to)) →
-            Member (getD table c 0) r ⊎ ((u : Transition) × OneOf (t ∷ ts) u × TransitionRight n k 0 u × (c ≡ cell u) × (r ≡ u .to))
+        by : Member (getD (inserted table t) c 0) r ⊎ Entered n k ts c r → Member (getD table c 0) r ⊎ Entered n k (t ∷ ts) c r
         by (inl a) = first (inserted-from table t c r a)
-        by (inr a) = inr (a .0, (suc (a .1 .0), omega (arith, a .1 .1), a .1 .2), a .2, a .3, a .4)
+        by (inr a) = (let (i, l, e) = a .one in inr (record { by = a .by; one = (suc i, omega (arith, l), e); right = a .right; at = a .at; to = a .to }))
 
   -- each transition is in its cell
   table-new : (t : Transition) (table : List ℕ) → length table ≡ 128 → (least : ℕ) (ts : List Transition) → TransitionsRight n k least ts →
@@ -153,13 +196,11 @@ none-yet c r m = no-member r (subst (λ (x : ℕ). Member x r) (zeros 128 c) m)
 
 module _ (σ : Sheet) (right : Right σ) where
   -- the members of the successor sets are the transitions
-  member-is : (c r : ℕ) → Member (getD (numbers σ .table) c 0) r →
-      (t : Transition) × OneOf (σ .transitions) t × TransitionRight (σ .n) (σ .k) 0 t × (c ≡ cell t) × (r ≡ t .to)
+  member-is : (c r : ℕ) → Member (getD (numbers σ .table) c 0) r → Entered (σ .n) (σ .k) (σ .transitions) c r
   unfolding numbers
   member-is c r m = by (table-from (σ .n) (σ .k) (right .range) c r (replicate 128 0) refl 0 (σ .transitions) (right .transitions) m)
     where
-      by : Member (getD (replicate {A = ℕ} 128 0) c 0) r ⊎ ((t : Transition) × OneOf (σ .transitions) t × TransitionRight (σ .n) (σ .k) 0 t × (c ≡ cell t) × (r ≡ t .to)) →
-          (t : Transition) × OneOf (σ .transitions) t × TransitionRight (σ .n) (σ .k) 0 t × (c ≡ cell t) × (r ≡ t .to)
+      by : Member (getD (replicate {A = ℕ} 128 0) c 0) r ⊎ Entered (σ .n) (σ .k) (σ .transitions) c r → Entered (σ .n) (σ .k) (σ .transitions) c r
       by (inl a) = absurd (none-yet c r a)
       by (inr a) = a
 
@@ -175,22 +216,22 @@ module _ (σ : Sheet) (right : Right σ) where
       from : Edge (numbers σ) l q r → OneOf (σ .transitions) (transition q l r)
       from e =
           let m = member-is (8 * q + l) r (e .to) in
-          let t = m .0 in
-          let s = cell-same (σ .n) (σ .k) (right .range) (transition q l r) t (e .letter) (m .2 .letter) (m .3) in
-          let same : t ≡ transition q l r = λ i. record { from = sym (s .0) i; letter = sym (s .1) i; to = sym (m .4) i } in
-          (m .1 .0, m .1 .1, m .1 .2 ∙ same)
+          let s = cell-same (σ .n) (σ .k) (right .range) (transition q l r) (m .by) (e .letter) (m .right .letter) (m .at) in
+          let same : m .by ≡ transition q l r = λ i. record { from = sym (s .0) i; letter = sym (s .1) i; to = sym (m .to) i } in
+          let (i, l, is) = m .one in
+          (i, l, is ∙ same)
 
       to : OneOf (σ .transitions) (transition q l r) → Edge (numbers σ) l q r
       to o =
           let h = one-right (σ .n) (σ .k) (right .range) (transition q l r) 0 (σ .transitions) (right .transitions) o in
           record { letter = h .letter; from = h .from; to = member-of (transition q l r) o }
 
-  flags-within : (flag : State → ℕ) → ((z : State) → FlagsRight z → flag z ≤ 1) → length (σ .states) ≡ σ .n →
-      (q : ℕ) → Member (flagSet flag 0 (σ .states)) q → q < σ .n
-  flags-within flag f size q m =
-      let h : flagSet flag 0 (σ .states) + 1 ≤ 2 ^ (0 + length (σ .states)) = flags-small flag f 0 (σ .states) (right .states) in
-      let e : 0 + length (σ .states) ≡ σ .n = omega arith in
-      member-lt (flagSet flag 0 (σ .states)) (σ .n) q (rw e at (let l : flagSet flag 0 (σ .states) < 2 ^ (0 + length (σ .states)) = omega arith in l)) m
+  -- "initial 0 or 1 (3), must-recur 0 or 1 (3)": the members of the two sets are the states with the flag
+  right-flag : (flag : State → ℕ) → ((z : State) → FlagsRight z → flag z ≤ 1) → length (σ .states) ≡ σ .n →
+      (q : ℕ) → Member (flagSet flag 0 (σ .states)) q ↔ ((q < σ .n) × (flag (getD (σ .states) q unflagged) ≡ 1))
+  right-flag flag small all q =
+      subst (λ (n : ℕ). Member (flagSet flag 0 (σ .states)) q ↔ ((q < n) × (flag (getD (σ .states) q unflagged) ≡ 1))) all
+      (flags-are flag small (σ .states) (right .states) q)
 
   -- a cell outside n and k has no member
   cell-empty : (i : ℕ) → (i / 8 < σ .n → i % 8 < σ .k → ⊥) → getD (numbers σ .table) i 0 ≡ 0
@@ -201,26 +242,36 @@ module _ (σ : Sheet) (right : Right σ) where
       by (no e) =
           let w = some-member (getD (numbers σ .table) i 0) e in
           let m = member-is i (w .0) (w .1) in
-          let u : i ≡ cell (m .0) = m .3 in
-          let f : m .0 .from < σ .n = m .2 .from in
-          let l : m .0 .letter < σ .k = m .2 .letter in
+          let u : i ≡ cell (m .by) = m .at in
+          let f : m .by .from < σ .n = m .right .from in
+          let l : m .by .letter < σ .k = m .right .letter in
           let k : σ .k ≤ 8 = right .range .3 in
           absurd (out (omega arith) (omega arith))
 
   -- questions 4, 7 and 8 hold of the numbers
   right-fits : length (σ .states) ≡ σ .n → Fits (numbers σ)
   unfolding numbers
-  right-fits size = record {
+  right-fits all = record {
     range = right .range;
-    states = (flags-within (λ z. z .initial) (λ z h. h .0) size, flags-within (λ z. z .recurring) (λ z h. h .1) size);
-    cells = λ i. record { within = λ r m. (let w = member-is i r m in let u : r ≡ w .0 .to = w .4 in omega (arith, w .2 .to)); empty = cell-empty i };
+    states = (λ q m. right-flag (λ z. z .initial) (λ z h. h .0) all q .0 m .0, λ q m. right-flag (λ z. z .recurring) (λ z h. h .1) all q .0 m .0);
+    cells = λ i. record { within = λ r m. (let w = member-is i r m in let u : r ≡ w .by .to = w .to in omega (arith, w .right .to)); empty = cell-empty i };
   }
 
 pub sheet-fits : (s : List ℕ) (σ : Sheet) → FileIs s σ → Fits (numbers σ)
 sheet-fits s σ h = right-fits σ (h .right) (h .all-states)
 
-pub edge-is : (s : List ℕ) (σ : Sheet) → FileIs s σ → (l q r : ℕ) → Edge (numbers σ) l q r ↔ OneOf (σ .transitions) (transition q l r)
-edge-is s σ h = right-edge σ (h .right)
+-- WHAT THE NUMBERS OF A SHEET MEAN: its transitions, its initial states and its must-recur states
+module _ (s : List ℕ) (σ : Sheet) (file : FileIs s σ) where
+  pub transition-is : (l q r : ℕ) → Edge (numbers σ) l q r ↔ OneOf (σ .transitions) (transition q l r)
+  transition-is = right-edge σ (file .right)
+
+  pub initial-is : (q : ℕ) → Member (numbers σ .initial) q ↔ ((q < σ .n) × (getD (σ .states) q unflagged .initial ≡ 1))
+  unfolding numbers
+  initial-is = right-flag σ (file .right) (λ z. z .initial) (λ z h. h .0) (file .all-states)
+
+  pub recurring-is : (q : ℕ) → Member (numbers σ .recurring) q ↔ ((q < σ .n) × (getD (σ .states) q unflagged .recurring ≡ 1))
+  unfolding numbers
+  recurring-is = right-flag σ (file .right) (λ z. z .recurring) (λ z h. h .1) (file .all-states)
 
 -- WHAT IS READ: an answer's numbers, and a table of successor sets
 

@@ -13,26 +13,28 @@ use Rattle.automaton.specs.Automaton.{Automaton, Fits}
 use Rattle.format.specs.Format.{State, Transition}
 use Rattle.format.specs.Numbers.{flagSet, inserted, tableOf, numbers}
 use Rattle.format.specs.Written.{statesOf, placed, whereMember, transitionsOf, writtenSheet}
-use Rattle.format.specs.NumbersLaws.{inserted-length, inserted-new, inserted-other, table-length}
+use Rattle.format.specs.NumbersLaws.{unflagged, flags-set, inserted-length, inserted-new, inserted-other, table-length}
+use Rattle.writer.specs.States.{stateOf}
+use Rattle.writer.specs.LengthLaws.{statesOf-length}
 use Rattle.writer.specs.Same.{trimmed}
 
 -- The states' flags
 
-module _ (initial recurring : ℕ) (flag : State → ℕ) (x : ℕ) (reads : (q : ℕ) → flag (record { initial = bit initial q; recurring = bit recurring q }) ≡ bit x q) where
-  flags-sum : (m q : ℕ) → setOf (q + m) (bit x) ≡ setOf q (bit x) + flagSet flag q (statesOf initial recurring q m)
-  unfolding setOf flagSet statesOf
-  flags-sum zero q = rw (add-zero q) (sym (add-zero _))
-  flags-sum (suc m) q =
-      let e : q + suc m ≡ suc q + m = omega arith in
-      rw (e, flags-sum m (suc q), reads q) (omega arith)
+states-at : (initial recurring m q i : ℕ) → i < m → getD (statesOf initial recurring q m) i unflagged ≡ stateOf initial recurring (q + i)
+unfolding statesOf
+states-at initial recurring zero q i l = absurd (omega arith)
+states-at initial recurring (suc m) q zero l = rw (add-zero q)
+states-at initial recurring (suc m) q (suc i) l =
+    let e : q + suc i ≡ suc q + i = omega arith in
+    rw e (states-at initial recurring m (suc q) i (omega arith))
 
-  -- the flags of n states give back the set that they were taken from
-  flags-back : (n : ℕ) → x < 2 ^ n → flagSet flag 0 (statesOf initial recurring 0 n) ≡ x
-  unfolding setOf
-  flags-back n h =
-      let e = flags-sum n 0 in
-      let f : setOf n (bit x) ≡ 0 + flagSet flag 0 (statesOf initial recurring 0 n) = rw (zero-add n) at e in
-      sym (f ∙ zero-add _) ∙ set-is-sum n x h
+-- the flags of n states give back the set that they were taken from
+flags-back : (initial recurring : ℕ) (flag : State → ℕ) (x : ℕ) → ((q : ℕ) → flag (stateOf initial recurring q) ≡ bit x q) →
+    (n : ℕ) → x < 2 ^ n → flagSet flag 0 (statesOf initial recurring 0 n) ≡ x
+flags-back initial recurring flag x reads n h =
+    let size = statesOf-length initial recurring n 0 in
+    flags-set flag (bit x) (statesOf initial recurring 0 n) (λ i l. ap flag (states-at initial recurring n 0 i (omega arith)) ∙ reads (0 + i) ∙ ap (bit x) (zero-add i))
+    ∙ ap (λ (m : ℕ). setOf m (bit x)) size ∙ set-is-sum n x h
 
 -- One transition more
 
