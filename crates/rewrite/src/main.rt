@@ -7,7 +7,7 @@ fn wide(x: u16) -> u64 {
     x as u64
 }
 
-// A word of four letters, and the first numbers of a table.
+// A name, and the first `count` numbers of a table.
 fn print(name: &[u8], table: &[u16], count: usize) {
     io::write_all(STDOUT_FILENO, name);
     for i in 0..count {
