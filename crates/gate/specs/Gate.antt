@@ -12,6 +12,10 @@ use Rattle.gate.specs.declared.Written.the-variants.{Refused}
 abbrev pub refusal : ℕ → ℕ → Refusal
 refusal number line = record { number = number; line = line; length = 0 }
 
+-- the refusal of one of a file's faults: its number with its line
+abbrev pub RefusedBy : (ℕ → ℕ → Type 0) → Refusal → Type 0
+RefusedBy Fault r = (number : ℕ) × (line : ℕ) × Fault number line × (r ≡ refusal number line)
+
 -- the answer to the question whether P holds
 abbrev pub Decides : Bool → Type 0 → Type 0
 Decides answer P = (answer ≡ true → P) × (answer ≡ false → P → ⊥)

@@ -4,7 +4,7 @@ use mathlib.Core.Path.{_≡_}
 use mathlib.Core.List.{List}
 use mathlib.Core.Logic.{_⊎_}
 use lib.ListN.{length}
-use Rattle.gate.specs.Gate.{refusal, cleared}
+use Rattle.gate.specs.Gate.{refusal, RefusedBy, cleared}
 use Rattle.gate.specs.declared.Refusal.{Refusal}
 use Rattle.automaton.specs.Lent.{Tables, clearedTables}
 use Rattle.format.specs.Format.{Sheet}
@@ -23,7 +23,7 @@ TooLong room t u v w f g r =
 
 -- questions 12 to 14 on a plan file p over the sheet σ, and its verdict by numbers
 abbrev pub PlanJudged : Sheet → List ℕ → List ℕ → List ℕ → ℕ → Outcome → Type 0
-PlanJudged σ p tuples nexts count (Refused r) = (number : ℕ) × (line : ℕ) × Faulty σ p number line × (r ≡ refusal number line)
+PlanJudged σ p tuples nexts count (Refused r) = RefusedBy (Faulty σ p) r
 PlanJudged σ p tuples nexts count (Judged z) =
     (lead : List ℕ) × (cycle : List ℕ) × PlanIs σ p lead cycle
     × TableJudges tuples nexts count (letterAt lead cycle) (length lead) (length cycle) z

@@ -7,6 +7,7 @@ use native.Mathlib.Omega.{arith}
 use Rattle.names.specs.Name.{IsName, compose}
 use Rattle.format.specs.Format.{Sheet, NamesRight}
 use Rattle.sheet.specs.Letters.{StandsFor}
+use Rattle.sheet.specs.LettersLaws.{stands-for, stands-none}
 use Rattle.parser.specs.Phase.{letterOf}
 use Rattle.parser.specs.LetterLaws.{letter-first, letter-is, composed-at, distinct-at}
 
@@ -24,17 +25,11 @@ module _ (σ : Sheet) (all : length (σ .names) ≡ σ .k) (x : List ℕ) where
   abbrev found : ℕ
   found = letterOf (map compose (σ .names)) (compose x)
 
-  pub stands-for : IsName x → found < length (map compose (σ .names)) → StandsFor σ x found
-  stands-for is h = record {
-    letter = omega (arith, length-map (σ .names) compose);
-    is-name = is;
-    same = sym (composed-at (σ .names) found) ∙ letter-first (map compose (σ .names)) (compose x) .is h;
-  }
+  pub found-stands : IsName x → found < length (map compose (σ .names)) → StandsFor σ x found
+  found-stands is h = stands-for σ all x found (letter-first (map compose (σ .names)) (compose x)) is (omega (arith, length-map (σ .names) compose))
 
-  pub stands-none : (found < length (map compose (σ .names)) → ⊥) → (l : ℕ) → StandsFor σ x l → ⊥
-  stands-none f l h =
-      let m = letter-first (map compose (σ .names)) (compose x) in
-      m .first l (omega (arith, length-map (σ .names) compose, h .letter)) (composed-at (σ .names) l ∙ h .same)
+  pub found-none : (found < length (map compose (σ .names)) → ⊥) → (l : ℕ) → StandsFor σ x l → ⊥
+  found-none f = stands-none σ all x found (letter-first (map compose (σ .names)) (compose x)) (omega (arith, f, length-map (σ .names) compose))
 
   -- where names are distinct, a name stands for no other letter
   pub stands-found : NamesRight [] (σ .names) → (l : ℕ) → StandsFor σ x l → found ≡ l

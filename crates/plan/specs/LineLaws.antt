@@ -25,7 +25,7 @@ use Rattle.plan.specs.Plan.{nameLines, Known, none, more}
 use Rattle.plan.specs.declared.LetterLine.{LetterLine}
 use Rattle.plan.specs.declared.LetterLine.the-variants as L
 use Rattle.plan.specs.Parse.{Lettered, letterFrom, letterLineAt, withLetter, lettersAt}
-use Rattle.plan.specs.KnownLaws.{stands-for, stands-none, stands-found}
+use Rattle.plan.specs.KnownLaws.{found-stands, found-none, stands-found}
 
 -- THE FAULTS where a name is due
 pub data LetterFault (σ : Sheet) (rest : List ℕ) : ℕ → Type 0 where
@@ -96,10 +96,10 @@ module _ (σ : Sheet) (all : length (σ .names) ≡ σ .k) where
     where
       tell : (e : ℕ) → NameAt p at e → (t : Bool) → ltb (letterFrom composed p at e) (length composed) ≡ t
           → LineOutcome p at (choose t (L.Is (letterFrom composed p at e) e) L.Unknown)
-      tell e h true q = (h, stands-for σ all (stretch p at e) (h .name) (ltb-true (letterFrom composed p at e) (length composed) q))
+      tell e h true q = (h, found-stands σ all (stretch p at e) (h .name) (ltb-true (letterFrom composed p at e) (length composed) q))
       tell e h false q =
           let n = ltb-false (letterFrom composed p at e) (length composed) q in
-          unknown-name (stretch p at e) (drop (e + 1) p) (h .name) (h .line) (stands-none σ all (stretch p at e) (λ k. omega arith))
+          unknown-name (stretch p at e) (drop (e + 1) p) (h .name) (h .line) (found-none σ all (stretch p at e) (λ k. omega arith))
 
       by : (w : Ending) → nameEndAt p at ≡ w
           → LineOutcome p at (withEnding w (λ e. choose (ltb (letterFrom composed p at e) (length composed)) (L.Is (letterFrom composed p at e) e) L.Unknown) L.Bad)
@@ -154,7 +154,7 @@ module _ (σ : Sheet) (all : length (σ .names) ≡ σ .k) where
         line-read x after is e ∙ simp (le-ltb (letterOf composed (compose x)) (length composed) n)
       where
         by : Dec (letterOf composed (compose x) < length composed) → length composed ≤ letterOf composed (compose x)
-        by (yes l) = absurd (f (letterOf composed (compose x)) (stands-for σ all x is l))
+        by (yes l) = absurd (f (letterOf composed (compose x)) (found-stands σ all x is l))
         by (no l) = omega arith
 
     pub letters-fault : {number : ℕ} → LetterFault σ (drop at p) number → lettersAt composed p line at before (suc todo) ≡ refused number line

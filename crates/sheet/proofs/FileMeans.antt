@@ -4,7 +4,7 @@ use mathlib.Core.Path.{_≡_, sym, _∙_, ap, subst}
 use mathlib.Core.List.{List}
 use native.Mathlib.Omega.{arith}
 use lib.ListN.{length}
-use Rattle.gate.specs.Gate.{refusal, cleared}
+use Rattle.gate.specs.Gate.{RefusedBy, cleared}
 use Rattle.gate.specs.declared.Refusal.{Refusal}
 use Rattle.automaton.specs.Automaton.{InRange, AreNumbers}
 use Rattle.automaton.specs.declared.Numbers.{Numbers}
@@ -20,14 +20,6 @@ use Rattle.sheet.specs.Answers.{LettersOf, RowsRead}
 use Rattle.parser.specs.declared.File.{File}
 use Rattle.parser.specs.declared.File.the-variants as F
 
--- a file that is refused
-pub record FileRefused (s t u : List ℕ) (r : Refusal) : Type 0 where
-  pub number : ℕ
-  pub line : ℕ
-  pub faulty : Faulty s number line
-  pub is : r ≡ refusal number line
-  pub clear : u ≡ cleared t
-
 -- a file that is read
 pub record FileAccepted (s t u rows : List ℕ) (a : Numbers) : Type 0 where
   pub sheet : Sheet
@@ -41,12 +33,11 @@ pub record FileAccepted (s t u rows : List ℕ) (a : Numbers) : Type 0 where
   pub holds : HoldNames (contents .names) rows
 
 module _ (s t u rows : List ℕ) where
-  pub file-refused : (r : Refusal) → FileRead (parse s) t u rows (F.Refused r) → FileRefused s t u r
+  pub file-refused : (r : Refusal) → FileRead (parse s) t u rows (F.Refused r) → RefusedBy (Faulty s) r × (u ≡ cleared t)
   file-refused r = cases (parse s) (parse-means s)
     where
-      cases : (p : Phase Contents) → Means s p → FileRead p t u rows (F.Refused r) → FileRefused s t u r
-      cases (refused number line) m e =
-          record { number = number; line = line; faulty = m; is = (let d = e .0 in cc); clear = e .1 }
+      cases : (p : Phase Contents) → Means s p → FileRead p t u rows (F.Refused r) → RefusedBy (Faulty s) r × (u ≡ cleared t)
+      cases (refused number line) m e = ((number, line, m, (let d = e .0 in cc)), e .1)
       cases (passed c) m e = absurd (let d = e .0 in let z : _≡_ {A = ℕ} 0 1 = cc in omega arith)
 
   pub file-read : (a : Numbers) → FileRead (parse s) t u rows (F.Is a) → FileAccepted s t u rows a
@@ -70,7 +61,7 @@ module _ (s t u rows : List ℕ) where
           }
 
 -- its numbers and its letters
-module _ (s t u rows : List ℕ) (a : Numbers) (h : FileAccepted s t u rows a) where
+module _ {s t u rows : List ℕ} {a : Numbers} (h : FileAccepted s t u rows a) where
   pub are-numbers : AreNumbers (numbers (h .sheet)) a
   are-numbers = record {
     n = ap (λ (z : Numbers). z .n) (h .is) ∙ h .are .n;
@@ -79,7 +70,7 @@ module _ (s t u rows : List ℕ) (a : Numbers) (h : FileAccepted s t u rows a) w
     recurring = ap (λ (z : Numbers). z .recurring) (h .is) ∙ h .are .recurring;
   }
 
-  abbrev pub letters-of : LettersOf s rows a
+  letters-of : LettersOf s rows a
   letters-of = record {
     sheet = h .sheet;
     file = h .file;
@@ -91,5 +82,5 @@ module _ (s t u rows : List ℕ) (a : Numbers) (h : FileAccepted s t u rows a) w
 
 -- the answer on the letters
 pub letters-read : (s t u rows : List ℕ) (r : File) → FileRead (parse s) t u rows r → RowsRead s rows r
-letters-read s t u rows (F.Refused r) e = let h = file-refused s t u rows r e in (h .number, h .line, h .faulty, h .is)
-letters-read s t u rows (F.Is a) e = letters-of s t u rows a (file-read s t u rows a e)
+letters-read s t u rows (F.Refused r) e = file-refused s t u rows r e .0
+letters-read s t u rows (F.Is a) e = letters-of (file-read s t u rows a e)

@@ -1,13 +1,13 @@
 -- The answers on names, from what reading the letters gives. Assumes nothing.
-use Prim.Native.Nat.{ℕ, _-_, _≤_, _<_}
-use mathlib.Core.Path.{_≡_, sym, _∙_}
-use mathlib.Core.List.{List, [], map}
+use Prim.Native.Nat.{ℕ, _≤_, _<_}
+use mathlib.Core.Path.{_≡_}
+use mathlib.Core.List.{List, map}
 use native.Mathlib.Omega.{arith}
-use lib.ListN.{getD, List·getD-map}
 use Rattle.automaton.specs.declared.Numbers.{Numbers}
 use Rattle.names.specs.Name.{IsName, compose}
 use Rattle.format.specs.Numbers.{numbers}
 use Rattle.sheet.specs.Letters.{NoName, NameIs, StandsFor}
+use Rattle.sheet.specs.LettersLaws.{stands-for, stands-none}
 use Rattle.parser.specs.Rows.{FirstName}
 use Rattle.sheet.specs.Answers.{LettersOf}
 use Rattle.sheet.specs.Spelling.{spelling}
@@ -32,17 +32,9 @@ module _ {s rows : List ℕ} {a : Numbers} (h : LettersOf s rows a) where
     pub no-name : (IsName name → ⊥) → (l : ℕ) → StandsFor (h .sheet) name l → ⊥
     no-name f l g = f (g .is-name)
 
-    module _ (is : IsName name) (r : ℕ) (f : FirstName (map compose (h .sheet .names)) (compose name) r) where
-      composed-is : (l : ℕ) → getD (map compose (h .sheet .names)) l [] ≡ compose (getD (h .sheet .names) l [])
-      unfolding compose
-      composed-is l = List·getD-map compose (h .sheet .names) l []
-
-      pub letter-found : r < a .k → StandsFor (h .sheet) name r
-      letter-found b = record {
-        letter = let k = letters-are in omega arith;
-        is-name = is;
-        same = sym (composed-is r) ∙ f .is (let k = h .all in omega arith);
-      }
+    module _ (r : ℕ) (f : FirstName (map compose (h .sheet .names)) (compose name) r) where
+      pub letter-found : IsName name → r < a .k → StandsFor (h .sheet) name r
+      letter-found is b = stands-for (h .sheet) (h .file .all-names) name r f is (let k = letters-are in omega arith)
 
       pub letter-nowhere : a .k ≤ r → (l : ℕ) → StandsFor (h .sheet) name l → ⊥
-      letter-nowhere b l g = f .first l (let k = letters-are in let c = g .letter in omega arith) (composed-is l ∙ g .same)
+      letter-nowhere b = stands-none (h .sheet) (h .file .all-names) name r f (let k = letters-are in omega arith)

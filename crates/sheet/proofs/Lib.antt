@@ -1,3 +1,3 @@
 pub mod FileMeans
 pub mod LetterAnswers
-pub mod ReadLaws
+pub mod ReadAnswers

@@ -4,7 +4,7 @@ use mathlib.Core.Path.{_≡_}
 use mathlib.Core.List.{List, []}
 use mathlib.Core.Logic.{_⊎_}
 use lib.ListN.{getD}
-use Rattle.gate.specs.Gate.{refusal}
+use Rattle.gate.specs.Gate.{refusal, RefusedBy}
 use Rattle.gate.specs.declared.Refusal.{Refusal}
 use Rattle.names.specs.Name.{IsName, compose}
 use Rattle.sheet.specs.declared.Found.{Found}
@@ -35,6 +35,6 @@ pub record StandsFor (σ : Sheet) (name : List ℕ) (l : ℕ) : Type 0 where
 -- the search for a name: "Is each name known? No: 14." A stretch that is no name is no letter's
 abbrev pub Finds : List ℕ → List ℕ → Found → Type 0
 Finds s name (Refused r) =
-    ((number : ℕ) × (line : ℕ) × Faulty s number line × (r ≡ refusal number line))
+    RefusedBy (Faulty s) r
     ⊎ ((σ : Sheet) × FileIs s σ × ((letter : ℕ) → StandsFor σ name letter → ⊥) × (r ≡ refusal 14 0))
 Finds s name (Letter l) = (σ : Sheet) × FileIs s σ × StandsFor σ name l

@@ -2,5 +2,6 @@ pub mod Read
 pub mod Letters
 pub mod Spelling
 pub mod Answers
+pub mod LettersLaws
 pub mod ReadLaws
 pub mod SpellingLaws

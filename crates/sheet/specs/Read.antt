@@ -1,5 +1,5 @@
 -- What reading a sheet file answers, and what the lent tables hold then.
-use Prim.Native.Nat.{ℕ, _-_}
+use Prim.Native.Nat.{ℕ}
 use mathlib.Core.Path.{_≡_}
 use mathlib.Core.List.{List}
 use mathlib.Core.Logic.{_⊎_}
@@ -23,13 +23,15 @@ pub data Refuses (s : List ℕ) (v w : Tables) (r : Refusal) : Type 0 where
   faulty : (number line : ℕ) → Faulty s number line → r ≡ refusal number line → w ≡ clearedTables v → Refuses s v w r
   meeting : (σ : Sheet) → FileIs s σ → Meets (numbers σ) v w r → Refuses s v w r
 
--- READING. The successor sets' table was t and is u then.
--- "Refusal 1 asked first touches nothing; .. every other refusal leave the tables of that call all zero, except the witness of 10"
+-- the answer of questions 2 to 10, in tables that are long enough. The successor sets' table was t and is u then.
+abbrev pub ReadsLong : List ℕ → List ℕ → List ℕ → Tables → Tables → Read → Type 0
+ReadsLong s t u v w (Refused r) = Refuses s v w r × (u ≡ cleared t)
+ReadsLong s t u v w (Is a) =
+    (σ : Sheet) × Accepted s σ × AreNumbers (numbers σ) a × (u ≡ lentTable (numbers σ .table) t) × (w ≡ clearedTables v)
+
+-- READING. "Refusal 1 asked first touches nothing; .. every other refusal leave the tables of that call all zero, except the witness of 10"
 abbrev pub Reads : List ℕ → List ℕ → List ℕ → Tables → Tables → Read → Type 0
 Reads s t u v w (Refused r) =
     ((Lengths t v → ⊥) × (r ≡ refusal 1 0) × (u ≡ t) × (w ≡ v))
-    ⊎ (Lengths t v × Refuses s v w r × (u ≡ cleared t))
-Reads s t u v w (Is a) =
-    Lengths t v
-    × ((σ : Sheet) × Accepted s σ × AreNumbers (numbers σ) a × (u ≡ lentTable (numbers σ .table) t))
-    × (w ≡ clearedTables v)
+    ⊎ (Lengths t v × ReadsLong s t u v w (Refused r))
+Reads s t u v w (Is a) = Lengths t v × ReadsLong s t u v w (Is a)

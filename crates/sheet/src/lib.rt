@@ -44,8 +44,7 @@ pub fn read_sheet(
     gate::clear(word);
     gate::clear(one);
     gate::clear(other);
-    let mut rows = [0u8; 192];
-    reading::read_cleared(sheet, table, &mut rows, word, one, other)
+    reading::read_cleared(sheet, table, word, one, other)
 }
 
 // The name of a letter, as that very stretch of the sheet file, in the spelling found there; empty where there is none.

@@ -4,28 +4,27 @@ ghost use Prim.Native.Nat.{_≤_};
 ghost use lib.ListN.{length};
 ghost use Rattle.gate.specs.Gate.{cleared};
 ghost use Rattle.automaton.specs.Lent.{tables, Long, clearedTables};
-ghost use Rattle.sheet.specs.Answers.{ReadsCleared};
+ghost use Rattle.sheet.specs.Read.{ReadsLong};
 use super::Read;
 use gate::Refusal;
 use parser::File;
 use parser::whole_file::read_file;
 
-// The questions in tables that are long enough and all zero. Where all are answered yes, the rows hold the composed names.
-// With 10 the successor sets are cleared again.
+// The questions in tables that are long enough and all zero. With 10 the successor sets are cleared again.
 pub fn read_cleared(
     sheet: &[u8],
     table: &mut [u16],
-    rows: &mut [u8],
     word: &mut [u16],
     one: &mut [u16],
     other: &mut [u16],
 ) -> Read
     requires { ⌜ (128 ≤ length (now table)) × (now table ≡ cleared (now table)) × Long (tables (now word) (now one) (now other))
-        × (tables (now word) (now one) (now other) ≡ clearedTables (tables (now word) (now one) (now other))) × (192 ≤ length (now rows)) ⌝ }
-    ensures { λ r. ⌜ ReadsCleared (now (sheet .entry)) (now (table .entry)) (now (table .exit)) (now (rows .exit))
+        × (tables (now word) (now one) (now other) ≡ clearedTables (tables (now word) (now one) (now other))) ⌝ }
+    ensures { λ r. ⌜ ReadsLong (now (sheet .entry)) (now (table .entry)) (now (table .exit))
         (tables (now (word .entry)) (now (one .entry)) (now (other .entry))) (tables (now (word .exit)) (now (one .exit)) (now (other .exit))) r ⌝ }
 {
-    match read_file(sheet, table, rows) {
+    let mut rows = [0u8; 192];
+    match read_file(sheet, table, &mut rows) {
         File::Refused(r) => Read::Refused(r),
         File::Is(a) => {
             let length = walks::ask(a, &table[..128], word, one, other);

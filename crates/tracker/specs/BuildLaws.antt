@@ -30,21 +30,21 @@ numbers-refused {r = r} lent (inr (l, n)) c = BuildsNumbers.refused lent r n ref
 -- FROM A SHEET FILE
 
 pub read-fits : {s u : List ℕ} {v w : Tables} {a : Numbers} (t : List ℕ) → Reads s t u v w (ReadIs a) → Fits (automaton a (take 128 u))
-read-fits {s} {u} {a = a} t (l, (σ, x, n, z), q) = subst Fits (sym (read-is σ t n z)) (sheet-fits s σ (x .file))
+read-fits {s} {u} {a = a} t (l, (σ, x, n, z, q)) = subst Fits (sym (read-is σ t n z)) (sheet-fits s σ (x .file))
 
 module _ {s : List ℕ} {room : ℕ} {t u : List ℕ} {v w : Tables} {f g : Store} (lent : Lent room t v f) where
   pub file-refused : {r : Refusal} → Reads s t u v w (ReadRefused r) → g ≡ clearedStore f → Builds s room t u v w f g (Refused r)
   file-refused (inl (n, q, z, x)) c = absurd (n (lent .lengths))
-  file-refused {r} (inr (l, q, z)) c = Builds.refused lent r q refl z c
+  file-refused {r} (inr (l, (q, z))) c = Builds.refused lent r q refl z c
 
   -- 11: then the successor sets' table is o
   pub file-over : {a : Numbers} {r : Refusal} {o : List ℕ} → Reads s t u v w (ReadIs a) → Tracks (automaton a (take 128 u)) room f g (Refused r)
       → o ≡ cleared t → Builds s room t o v w f g (Refused r)
-  file-over {a} {r} (l, (σ, x, n, z), q) h e =
+  file-over {a} {r} (l, (σ, x, n, z, q)) h e =
       Builds.asked lent σ x q (subst (λ (A : Automaton). Tracks A room f g (Refused r)) (read-is σ t n z) h) e
 
   pub file-is : {a : Numbers} {y : Tracker} → Reads s t u v w (ReadIs a) → Tracks (automaton a (take 128 u)) room f g (Is y) → Builds s room t u v w f g (Is y)
-  file-is {a} {y} (l, (σ, x, n, z), q) h =
+  file-is {a} {y} (l, (σ, x, n, z, q)) h =
       Builds.asked lent σ x q (subst (λ (A : Automaton). Tracks A room f g (Is y)) (read-is σ t n z) h) z
 
 -- WHAT A TRACKER TELLS of the questions on the way to it

@@ -77,12 +77,12 @@ module _ {s u : List ℕ} {v w : Tables} where
   write-refused (inl (short, e, f, z)) answer =
       let (is, same) = refused-first answer e in
       Writes.short (λ l. short (record { cells = omega arith; long = l })) is z same
-  write-refused (inr (l, f, z)) answer = Writes.refused (l .long) _ f (answer .is) (answer .zero (refuses-number f))
+  write-refused (inr (l, (f, z))) answer = Writes.refused (l .long) _ f (answer .is) (answer .zero (refuses-number f))
 
   module _ {a : Numbers} (reads : Reads s fresh u v w (R.Is a)) where
     is : automaton a u ≡ numbers (reads .1 .0)
     is =
-        let (l, (σ, f, e, g), y) = reads in
+        let (l, (σ, f, e, g, y)) = reads in
         automaton-is σ e (g ∙ append-nil (numbers σ .table))
 
     pub write-asks : Writable (automaton a u)
@@ -90,7 +90,7 @@ module _ {s u : List ℕ} {v w : Tables} where
 
     pub write-finishes : {b c : List ℕ} {r : Written} → PutNamed (automaton a u) s b c r → Writes s v w b c r
     write-finishes {b} {c} {r} put =
-        let (l, (σ, f, e, g), y) = reads in
+        let (l, (σ, f, e, g, y)) = reads in
         Writes.asked (l .long) σ f y (subst (λ (A : Automaton). PutNamed A s b c r) is put σ (f .file) (letters σ))
 
 -- WRITING FROM NUMBERS
@@ -99,21 +99,21 @@ module _ {s u : List ℕ} {v w : Tables} where
 module _ {s : List ℕ} {v : Tables} where
   pub ask-names : {A : Automaton} {u : List ℕ} {w : Tables} {x : Refusal} → 128 ≤ length (A .table) → Reads s fresh u v w (R.Refused x) → Asks A s v w (K.Refused x)
   ask-names cells (inl (short, e, f, z)) = inl ((λ l. short (record { cells = omega arith; long = l .long })), e, z)
-  ask-names cells (inr (l, f, z)) = inr (record { cells = cells; long = l .long }, NamedRefuse.by-names f)
+  ask-names cells (inr (l, (f, z))) = inr (record { cells = cells; long = l .long }, NamedRefuse.by-names f)
 
   pub ask-letters : {A : Automaton} {a : Numbers} {u : List ℕ} {w : Tables} {x : Refusal} → 128 ≤ length (A .table) → Reads s fresh u v w (R.Is a)
       → (a .k ≡ A .k → ⊥) → x ≡ refusal 4 0 → Asks A s v w (K.Refused x)
-  ask-letters cells (l, (σ, f, e, g), z) differ is =
+  ask-letters cells (l, (σ, f, e, g, z)) differ is =
       inr (record { cells = cells; long = l .long }, NamedRefuse.by-letters σ f (λ same. differ (e .k ∙ sym (letters σ) ∙ same)) is z)
 
   pub ask-numbers : (A : Automaton) {a : Numbers} {u : List ℕ} {w : Tables} → 128 ≤ length (A .table) → Reads s fresh u v w (R.Is a)
       → a .k ≡ A .k → (x : Tables) (r : Checked) → Checks A w x r → Asks A s v x r
-  ask-numbers A cells (l, (σ, f, e, g), z) same x (K.Refused y) (inl (short, i, j)) =
+  ask-numbers A cells (l, (σ, f, e, g, z)) same x (K.Refused y) (inl (short, i, j)) =
       absurd (short (record { cells = cells; long = subst Long (sym z) (long-cleared v (l .long)) }))
-  ask-numbers A cells (l, (σ, f, e, g), z) same x (K.Refused y) (inr (i, refuse)) =
+  ask-numbers A cells (l, (σ, f, e, g, z)) same x (K.Refused y) (inr (i, refuse)) =
       let cleared-refuse = refuse-cleared v (subst (λ (z : Tables). NumbersRefuse A z x y) z refuse) in
       inr (record { cells = cells; long = l .long }, NamedRefuse.by-numbers σ f (letters σ ∙ sym (e .k) ∙ same) cleared-refuse)
-  ask-numbers A cells (l, (σ, f, e, g), z) same x K.Free (i, fits, free, j) = (
+  ask-numbers A cells (l, (σ, f, e, g, z)) same x K.Free (i, fits, free, j) = (
     record { cells = cells; long = l .long },
     (σ, record { names = f; letters = letters σ ∙ sym (e .k) ∙ same; fits = fits; free = free }),
     j ∙ ap clearedTables z ∙ tables-twice v,

@@ -77,7 +77,7 @@ returns-3 : tie.Need-returns-3
 returns-3 c =
     let h = letters (c .before .before .before .before .before .before) in
     let name = now (c .before .before .before .before .before .before .before .before .before .before .before .before .before .before .args .name) in
-    (h .sheet, h .file, letter-found h name (is-one (c .before .before .before .before)) (c .before .before .letter-of .result) (first (c .before .before)) (c .if2 .taken))
+    (h .sheet, h .file, letter-found h name (c .before .before .letter-of .result) (first (c .before .before)) (is-one (c .before .before .before .before)) (c .if2 .taken))
 
 returns-4 : tie.Need-returns-4
 returns-4 c =
@@ -86,7 +86,7 @@ returns-4 c =
     inr (
       h .sheet,
       h .file,
-      letter-nowhere h name (is-one (c .before .before .before .before)) (c .before .before .letter-of .result) (first (c .before .before)) (c .if2 .left),
+      letter-nowhere h name (c .before .before .letter-of .result) (first (c .before .before)) (c .if2 .left),
       refl,
     )
 

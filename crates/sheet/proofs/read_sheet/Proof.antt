@@ -4,7 +4,7 @@ use mathlib.Core.Logic._⊎_.{inl}
 use borrow.Author.Tests.{not-true, not-false}
 use Rattle.automaton.specs.Lent.{Tables, tables, Lengths, clearedTables}
 use Rattle.automaton.specs.LentLaws.{tables-cleared}
-use Rattle.sheet.proofs.ReadLaws.{ready, reads}
+use Rattle.sheet.proofs.ReadAnswers.{ready, reads}
 use borrow.Author.Needs.{needs}
 use Rattle.sheet.proofs.read_sheet.Statement.{statement}
 use Rattle.sheet.proofs.read_sheet.Tie as tie
@@ -65,14 +65,10 @@ clear-requires-3 c κs = search needs
 clear-requires-4 : tie.Need-clear-requires-4
 clear-requires-4 c κs = search needs
 
-slice-aggregate-read-cleared : tie.Need-slice-aggregate-read-cleared
-slice-aggregate-read-cleared c = search needs
-
 read-cleared-requires : tie.Need-read-cleared-requires
 read-cleared-requires c κs =
-    let k = c .before .before .before .before .before .before .before in
-    let r = ready (table-cleared k .clear .ensures) (empty k) (enough (asked k)) in
-    (r .0, r .1, r .2, r .3, search needs)
+    let k = c .before .before .before .before .before .before in
+    ready (table-cleared k .clear .ensures) (empty k) (enough (asked k))
 
 same-length-5 : tie.Need-same-length-5
 same-length-5 c = search needs
@@ -88,11 +84,11 @@ same-length-8 c = search needs
 
 returns-2 : tie.Need-returns-2
 returns-2 c =
-    let read = c .before .before .before .before .before .before .before .before .before in
-    let k = read .before .before .before .before .before .before .before .before in
+    let read = c .before .before .before .before .before .before .before .before in
+    let k = read .before .before .before .before .before .before .before in
     let g = read .read-cleared in
-    reads (table-cleared k .clear .ensures) (empty k) (enough (asked k)) (start (asked k .before) .args .sheet .now) (g .last .1 .0) (g .last .1 .1 .0)
-    (tables (g .last .1 .1 .1 .0) (g .last .1 .1 .1 .1 .0) (g .last .1 .1 .1 .1 .1 .0)) (g .result) (g .ensures)
+    reads (table-cleared k .clear .ensures) (empty k) (enough (asked k)) (start (asked k .before) .args .sheet .now) (g .last .1 .0)
+    (tables (g .last .1 .1 .0) (g .last .1 .1 .1 .0) (g .last .1 .1 .1 .1 .0)) (g .result) (g .ensures)
 
 pub read-sheet-spec : {M : Type 1} → statement M
 read-sheet-spec =
@@ -108,7 +104,6 @@ read-sheet-spec =
     clear-requires-2
     clear-requires-3
     clear-requires-4
-    slice-aggregate-read-cleared
     read-cleared-requires
     same-length-5
     same-length-6

@@ -1,28 +1,59 @@
--- The file's answer, then the walk check's on its automaton: ReadLaws. Assumes nothing.
+-- The file's answer, then the walk check's on its automaton: ReadAnswers. Assumes nothing.
 use Prim.Native.Nat.{ℕ}
-use mathlib.Core.Path.{_≡_, sym, _∙_, ap}
+use mathlib.Core.Path.{_≡_, sym, _∙_, ap, subst}
 use native.Mathlib.Omega.{arith}
-use denote.Ref.{now}
 use lib.ListN.{length, replicate}
 use lib.Seq.{length-take-le}
-use Rattle.automaton.specs.Lent.{tables}
+use Rattle.automaton.specs.Lent.{Tables, tables, clearedTables}
+use Rattle.parser.specs.Parse.{parse}
+use Rattle.parser.specs.PhaseAnswers.{FileRead}
+use Rattle.parser.specs.declared.File.{File}
 use Rattle.sheet.proofs.FileMeans.{FileAccepted, file-read}
-use Rattle.sheet.proofs.ReadLaws.{asked, free-accepts, meeting-refuses, fault-refuses}
+use Rattle.sheet.proofs.ReadAnswers.{asked, free-accepts, meeting-refuses, fault-refuses}
 use borrow.Author.Needs.{needs}
 use Rattle.sheet.proofs.reading.read_cleared.Statement.{statement}
 use Rattle.sheet.proofs.reading.read_cleared.Tie as tie
 
+abbrev start : tie.After-read-file → tie.Start
+start c = c .before .before .before .before .before .before .before .before
+
+abbrev lent : tie.Start → Tables
+lent s = tables (s .args .word .now) (s .args .one .now) (s .args .other .now)
+
+-- the states behind the reading of the file: it is refused, or it is read and its automaton asked
+abbrev read-refused : tie.After-known-told → tie.After-read-file
+read-refused c = c .before .before .before .before .before .before
+
+abbrev read : tie.After-known-told2 → tie.After-read-file
+read c = c .before .before .before .before .before .before
+
+abbrev told : tie.After-ask → tie.After-known-told2
+told c = c .before .before .before .before .before
+
+zeros : (c : tie.After-read-file) → lent (start c) ≡ clearedTables (lent (start c))
+zeros c = start c .pre .3
+
+kept : (c : tie.After-read-file) → length (c .read-file .last .1 .0) ≡ length (start c .args .table .now)
+kept c = c .read-file .kept .1 .0
+
+-- the answer x on the file
+abbrev Read-as : tie.After-read-file → File → Type 0
+Read-as c x = FileRead (parse (start c .args .sheet .now)) (start c .args .table .now) (c .read-file .last .1 .0) (c .read-file .last .1 .1 .0) x
+
 -- the file is read
 reads-file :
     (c : tie.After-known-told2) →
-    let a = c .before .before .before .before .before .before .before .before .before .before .before .before .before .before .before .before .args in
-    let z = c .before .before .before .before .before .before .before .read-file in
-    FileAccepted (now (a .sheet)) (now (a .table)) (z .last .1 .0) (z .last .1 .1 .0) (c .before .a .given .0 .0)
+    let s = start (read c) in
+    let z = read c .read-file in
+    FileAccepted (s .args .sheet .now) (s .args .table .now) (z .last .1 .0) (z .last .1 .1 .0) (c .before .a .given .0 .0)
 reads-file c =
-    let a = c .before .before .before .before .before .before .before .before .before .before .before .before .before .before .before .before .args in
-    let z = c .before .before .before .before .before .before .before .read-file in
-    file-read (now (a .sheet)) (now (a .table)) (z .last .1 .0) (z .last .1 .1 .0) (c .before .a .given .0 .0)
-    (rw (c .before .a .given .1) at (z .ensures))
+    let s = start (read c) in
+    let z = read c .read-file in
+    file-read (s .args .sheet .now) (s .args .table .now) (z .last .1 .0) (z .last .1 .1 .0) (c .before .a .given .0 .0)
+    (subst (Read-as (read c)) (c .before .a .given .1) (z .ensures))
+
+slice-aggregate-read-file : tie.Need-slice-aggregate-read-file
+slice-aggregate-read-file c = search needs
 
 read-file-requires : tie.Need-read-file-requires
 read-file-requires c κs = search needs
@@ -38,17 +69,13 @@ slice-reshare-prefix-ask c = search needs
 
 slice-aggregate-ask : tie.Need-slice-aggregate-ask
 slice-aggregate-ask c =
-    let z = c .before .before .before .before .before .before .before .before .read-file in
-    let same : length (z .last .1 .0) ≡ length (now (c .before .before .before .before .before .before .before .before .before .before .before .before .before .before .before .before .before .args .table)) = z .kept .1 .0 in
-    sym (length-take-le 128 (z .last .1 .0) (omega arith))
+    let same = kept (read (c .before)) in
+    sym (length-take-le 128 (read (c .before) .read-file .last .1 .0) (omega arith))
 
 ask-requires : tie.Need-ask-requires
 ask-requires c κs =
-    let a = c .before .before .before .before .before .before .before .before .before .before .before .before .before .before .before .before .before .before .before .before .args in
-    let z = c .before .before .before .before .before .before .before .before .before .before .before .read-file in
-    let p = c .before .before .before .before .before .before .before .before .before .before .before .before .before .before .before .before .before .before .before .before .pre in
-    asked (now (a .sheet)) (now (a .table)) (z .last .1 .0) (z .last .1 .1 .0) (c .before .before .before .before .before .a .given .0 .0) (reads-file (c .before .before .before .before))
-    (tables (now (a .word)) (now (a .one)) (now (a .other))) (p .3) (p .2)
+    let k = c .before .before .before .before in
+    asked (reads-file k) (zeros (read k)) (start (read k) .pre .2)
 
 same-length : tie.Need-same-length
 same-length c = search needs
@@ -62,20 +89,23 @@ same-length-3 c = search needs
 same-length-4 : tie.Need-same-length-4
 same-length-4 c = search needs
 
-same-length-5 : tie.Need-same-length-5
-same-length-5 c = search needs
-
 returns : tie.Need-returns
 returns c =
-    let a = c .before .before .before .before .before .before .before .before .before .before .before .before .before .before .before .before .before .before .before .before .before .before .before .before .before .before .before .before .args in
-    let z = c .before .before .before .before .before .before .before .before .before .before .before .before .before .before .before .before .before .before .before .read-file in
-    let g = c .before .before .before .before .before .before .before .ask in
-    free-accepts (now (a .sheet)) (now (a .table)) (z .last .1 .0) (z .last .1 .1 .0) (c .before .before .before .before .before .before .before .before .before .before .before .before .before .a .given .0 .0) (reads-file (c .before .before .before .before .before .before .before .before .before .before .before .before))
-    (tables (now (a .word)) (now (a .one)) (now (a .other))) (c .before .before .before .before .before .before .before .before .before .before .before .before .before .before .before .before .before .before .before .before .before .before .before .before .before .before .before .before .pre .3)
-    (tables (g .last .1 .1 .0) (g .last .1 .1 .1 .0) (g .last .1 .1 .1 .1 .0)) (g .result) (g .ensures) (c .if1 .taken)
+    let g = c .before .before .before .before .before .before .before in
+    free-accepts (reads-file (told g)) (zeros (read (told g))) (g .ask .ensures) (c .if1 .taken)
 
 clear-requires : tie.Need-clear-requires
 clear-requires c κs = search needs
+
+same-length-5 : tie.Need-same-length-5
+same-length-5 c = search needs
+
+returns-2 : tie.Need-returns-2
+returns-2 c =
+    let s = start (read-refused c) in
+    let z = read-refused c .read-file in
+    fault-refuses (s .args .sheet .now) (s .args .table .now) (z .last .1 .0) (z .last .1 .1 .0) (c .before .r .given .0 .0)
+    (subst (Read-as (read-refused c)) (c .before .r .given .1) (z .ensures)) (zeros (read-refused c))
 
 same-length-6 : tie.Need-same-length-6
 same-length-6 c = search needs
@@ -83,43 +113,25 @@ same-length-6 c = search needs
 same-length-7 : tie.Need-same-length-7
 same-length-7 c = search needs
 
-returns-2 : tie.Need-returns-2
-returns-2 c =
-    let a = c .before .before .before .before .before .before .before .before .before .before .before .before .before .before .before .before .args in
-    let z = c .before .before .before .before .before .before .before .read-file in
-    fault-refuses (now (a .sheet)) (now (a .table)) (z .last .1 .0) (z .last .1 .1 .0) (c .before .r .given .0 .0)
-    (tables (now (a .word)) (now (a .one)) (now (a .other))) (rw (c .before .r .given .1) at (z .ensures)) (c .before .before .before .before .before .before .before .before .before .before .before .before .before .before .before .before .pre .3)
-
 same-length-8 : tie.Need-same-length-8
 same-length-8 c = search needs
 
 same-length-9 : tie.Need-same-length-9
 same-length-9 c = search needs
 
-same-length-10 : tie.Need-same-length-10
-same-length-10 c = search needs
-
-same-length-11 : tie.Need-same-length-11
-same-length-11 c = search needs
-
-same-length-12 : tie.Need-same-length-12
-same-length-12 c = search needs
-
 returns-3 : tie.Need-returns-3
 returns-3 c =
-    let a = c .before .before .before .before .before .before .before .before .before .before .before .before .before .before .before .before .before .before .before .before .before .before .before .before .before .before .before .before .before .before .before .before .args in
-    let z = c .before .before .before .before .before .before .before .before .before .before .before .before .before .before .before .before .before .before .before .before .before .before .before .read-file in
-    let g = c .before .before .before .before .before .before .before .before .before .before .before .ask in
-    let same : length (z .last .1 .0) ≡ length (now (a .table)) = z .kept .1 .0 in
-    meeting-refuses (now (a .sheet)) (now (a .table)) (z .last .1 .0) (z .last .1 .1 .0) (c .before .before .before .before .before .before .before .before .before .before .before .before .before .before .before .before .before .a .given .0 .0) (reads-file (c .before .before .before .before .before .before .before .before .before .before .before .before .before .before .before .before))
-    (tables (now (a .word)) (now (a .one)) (now (a .other))) (c .before .before .before .before .before .before .before .before .before .before .before .before .before .before .before .before .before .before .before .before .before .before .before .before .before .before .before .before .before .before .before .before .pre .3)
-    (tables (g .last .1 .1 .0) (g .last .1 .1 .1 .0) (g .last .1 .1 .1 .1 .0)) (g .result) (g .ensures) (c .before .before .before .before .if1 .left)
-    (c .before .before .clear .last .0) (c .before .before .clear .ensures ∙ ap (λ (n : ℕ). replicate {A = ℕ} n 0) same)
+    let k = c .before .before in
+    let e = k .before .before in
+    let g = e .before .before .before .before .before .before .before in
+    meeting-refuses (reads-file (told g)) (zeros (read (told g))) (g .ask .ensures) (e .if1 .left)
+    (k .clear .ensures ∙ ap (λ (n : ℕ). replicate {A = ℕ} n 0) (kept (read (told g))))
 
 pub read-cleared-spec : {M : Type 1} → statement M
 read-cleared-spec =
     tie.close
     (tie.spec
+    slice-aggregate-read-file
     read-file-requires
     enum-known-r
     enum-known-a
@@ -130,15 +142,12 @@ read-cleared-spec =
     same-length-2
     same-length-3
     same-length-4
-    same-length-5
     returns
     clear-requires
+    same-length-5
+    returns-2
     same-length-6
     same-length-7
-    returns-2
     same-length-8
     same-length-9
-    same-length-10
-    same-length-11
-    same-length-12
     returns-3)

@@ -12,29 +12,28 @@ use Rattle.gate.specs.declared.Refusal.{Refusal}
 use Rattle.automaton.specs.Automaton.{Automaton, automaton, Fits}
 use Rattle.automaton.specs.declared.Numbers.{Numbers}
 use Rattle.automaton.specs.Meeting.{Everywhere}
-use Rattle.automaton.specs.Lent.{Tables, tables, Long, clearedTables, lentTable, Lengths}
+use Rattle.automaton.specs.Lent.{Tables, Long, clearedTables, lentTable, Lengths}
 use Rattle.walks.specs.CheckLaws.{meets-answered}
 use Rattle.meeting.specs.Answer.{Asked, Answered}
 use Rattle.format.specs.Numbers.{numbers}
 use Rattle.format.specs.NumbersLaws.{sheet-fits, numbers-length, read-is}
 use Rattle.sheet.specs.Read as read
 use Rattle.parser.specs.PhaseAnswers.{FileRead}
-use Rattle.sheet.specs.Answers.{ReadsCleared}
 use Rattle.parser.specs.Parse.{parse}
 use Rattle.parser.specs.declared.File.the-variants as F
 use Rattle.sheet.specs.declared.Read.{Read}
 use Rattle.sheet.specs.declared.Read.the-variants as R
-use Rattle.sheet.proofs.FileMeans.{FileAccepted, file-refused, are-numbers, letters-of}
+use Rattle.sheet.proofs.FileMeans.{FileAccepted, file-refused, are-numbers}
 
 -- THE AUTOMATON of a file that is read
-module _ (s t u rows : List ℕ) (a : Numbers) (h : FileAccepted s t u rows a) where
+module _ {s t u rows : List ℕ} {a : Numbers} (h : FileAccepted s t u rows a) where
   table-is : u ≡ lentTable (numbers (h .sheet) .table) t
   table-is = h .table ∙ ap (λ (x : List ℕ). lentTable x t) (h .are .table)
 
-  pub sheet-automaton : automaton a (take 128 u) ≡ numbers (h .sheet)
-  sheet-automaton = read-is (h .sheet) t (are-numbers s t u rows a h) table-is
+  sheet-automaton : automaton a (take 128 u) ≡ numbers (h .sheet)
+  sheet-automaton = read-is (h .sheet) t (are-numbers h) table-is
 
-  module _ (v : Tables) (zeros : v ≡ clearedTables v) where
+  module _ {v : Tables} (zeros : v ≡ clearedTables v) where
     pub asked : Long v → Asked (automaton a (take 128 u)) v
     asked long = record {
       fits = subst Fits (sym sheet-automaton) (sheet-fits s (h .sheet) (h .file));
@@ -43,54 +42,48 @@ module _ (s t u rows : List ℕ) (a : Numbers) (h : FileAccepted s t u rows a) w
       zeros = zeros;
     }
 
-    module _ (w : Tables) (r : ℕ) (answer : Answered (automaton a (take 128 u)) Everywhere v w r) where
+    module _ {w : Tables} {r : ℕ} (answer : Answered (automaton a (take 128 u)) Everywhere v w r) where
       answered : Answered (numbers (h .sheet)) Everywhere v w r
       answered = subst (λ (A : Automaton). Answered A Everywhere v w r) sheet-automaton answer
 
-      pub free-accepts : r ≡ 0 → ReadsCleared s t u rows v w (R.Is a)
-      free-accepts e = record {
-        letters = letters-of s t u rows a h;
-        free = answered .free e;
-        table = table-is;
-        clear = answered .kept e ∙ zeros;
-      }
+      pub free-accepts : r ≡ 0 → read.ReadsLong s t u v w (R.Is a)
+      free-accepts e = (h .sheet, record { file = h .file; free = answered .free e }, are-numbers h, table-is, answered .kept e ∙ zeros)
 
-      pub meeting-refuses : (r ≡ 0 → ⊥) → (u′ : List ℕ) → u′ ≡ cleared t → ReadsCleared s t u′ rows v w (R.Refused (record { number = 10; line = 0; length = r }))
-      meeting-refuses e u′ z = (
+      pub meeting-refuses : (r ≡ 0 → ⊥) → {u′ : List ℕ} → u′ ≡ cleared t → read.ReadsLong s t u′ v w (R.Refused (record { number = 10; line = 0; length = r }))
+      meeting-refuses e z = (
         read.Refuses.meeting (h .sheet) (h .file) (meets-answered answered e),
         z,
       )
 
 pub fault-refuses :
-    (s t u rows : List ℕ) (r : Refusal) (v : Tables) → FileRead (parse s) t u rows (F.Refused r) → v ≡ clearedTables v → ReadsCleared s t u rows v v (R.Refused r)
-fault-refuses s t u rows r v e zeros =
-    let h = file-refused s t u rows r e in
-    (read.Refuses.faulty (h .number) (h .line) (h .faulty) (h .is) zeros, h .clear)
+    (s t u rows : List ℕ) (r : Refusal) {v : Tables} → FileRead (parse s) t u rows (F.Refused r) → v ≡ clearedTables v → read.ReadsLong s t u v v (R.Refused r)
+fault-refuses s t u rows r e zeros =
+    let ((number, line, faulty, is), clear) = file-refused s t u rows r e in
+    (read.Refuses.faulty number line faulty is zeros, clear)
 
 -- TABLES THAT ARE CLEARED FIRST
-pub answered-cleared :
-    (s t u rows : List ℕ) (v w : Tables) (r : Read) → Lengths t v → ReadsCleared s (cleared t) u rows (clearedTables v) w r → read.Reads s t u v w r
-answered-cleared s t u rows v w (R.Refused r) long j = inr (long, refuses (j .0), j .1 ∙ cleared-twice t)
+answered-cleared :
+    (s t u : List ℕ) (v w : Tables) (r : Read) → Lengths t v → read.ReadsLong s (cleared t) u (clearedTables v) w r → read.Reads s t u v w r
+answered-cleared s t u v w (R.Refused r) long j = inr (long, (refuses (j .0), j .1 ∙ cleared-twice t))
   where
     refuses : read.Refuses s (clearedTables v) w r → read.Refuses s v w r
     refuses (read.Refuses.faulty number line f e c) = read.Refuses.faulty number line f e (c ∙ tables-twice v)
     refuses (read.Refuses.meeting σ f m) = read.Refuses.meeting σ f (meets-cleared v m)
-answered-cleared s t u rows v w (R.Is a) long j =
-    let σ = j .letters .sheet in (
-      long,
-      (
-        σ,
-        record { file = j .letters .file; free = j .free },
-        j .letters .are,
-        j .table ∙ ap (λ (n : ℕ). numbers σ .table ++ replicate {A = ℕ} (n - 128) 0) (length-cleared t),
-      ),
-      j .clear ∙ tables-twice v,
-    )
+answered-cleared s t u v w (R.Is a) long (σ, accepted, are, table, clear) = (
+  long,
+  (
+    σ,
+    accepted,
+    are,
+    table ∙ ap (λ (n : ℕ). numbers σ .table ++ replicate {A = ℕ} (n - 128) 0) (length-cleared t),
+    clear ∙ tables-twice v,
+  ),
+)
 
 -- the tables once they are cleared
 module _ {t t′ : List ℕ} {v v′ : Tables} (et : t′ ≡ cleared t) (ev : v′ ≡ clearedTables v) (long : Lengths t v) where
   pub ready : (128 ≤ length t′) × (t′ ≡ cleared t′) × Long v′ × (v′ ≡ clearedTables v′)
   ready = rw (et, ev) (rw (length-cleared t) (long .cells), sym (cleared-twice t), long-cleared v (long .long), sym (tables-twice v))
 
-  pub reads : (s u rows : List ℕ) (w : Tables) (r : Read) → ReadsCleared s t′ u rows v′ w r → read.Reads s t u v w r
-  reads s u rows w r j = answered-cleared s t u rows v w r long (rw (et, ev) at j)
+  pub reads : (s u : List ℕ) (w : Tables) (r : Read) → read.ReadsLong s t′ u v′ w r → read.Reads s t u v w r
+  reads s u w r j = answered-cleared s t u v w r long (rw (et, ev) at j)
