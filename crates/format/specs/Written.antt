@@ -1,5 +1,5 @@
 -- The writing of an automaton with names: composed letters, transitions in order.
-use Prim.Native.Nat.{ℕ, zero, suc, _+_, _/_, _%_}
+use Prim.Native.Nat.{ℕ, zero, suc, _/_, _%_}
 use mathlib.Core.List.{List, [], _∷_, _++_, map}
 use lib.ListN.{getD}
 use Rattle.names.specs.Name.{compose}
@@ -7,12 +7,20 @@ use Rattle.sets.specs.Sets.{bit}
 use Rattle.automaton.specs.Automaton.{Automaton}
 use Rattle.format.specs.Format.{State, Transition, Sheet, lines, endLine}
 
--- the state lines of n states from q on, by their flags in two sets
+-- the flags of state q in two sets
+abbrev pub stateOf : ℕ → ℕ → ℕ → State
+stateOf initial recurring q = record { initial = bit initial q; recurring = bit recurring q }
+
+-- the states from q on, of which there are n
 unfoldable pub statesOf : ℕ → ℕ → ℕ → ℕ → List State
 statesOf initial recurring q zero = []
-statesOf initial recurring q (suc n) = record { initial = bit initial q; recurring = bit recurring q } ∷ statesOf initial recurring (suc q) n
+statesOf initial recurring q (suc n) = stateOf initial recurring q ∷ statesOf initial recurring (suc q) n
 
--- a transition at place i of the order
+-- "strictly ascending by these three": there are 2048 places, 16 to a cell of the table
+abbrev pub places : ℕ
+places = 2048
+
+-- the transition at place i
 abbrev pub placed : ℕ → Transition
 placed i = record { from = i / 128; letter = i / 16 % 8; to = i % 16 }
 
@@ -26,15 +34,19 @@ unfoldable pub transitionsOf : List ℕ → ℕ → ℕ → List Transition
 transitionsOf table i zero = []
 transitionsOf table i (suc left) = whereMember (bit (getD table (i / 16) 0) (i % 16)) (placed i) (transitionsOf table (suc i) left)
 
--- the sheet that is written: an automaton's numbers, and names as they are given, composed
-unfoldable pub writtenSheet : Automaton → List (List ℕ) → Sheet
-writtenSheet A names = record {
+-- the sheet of an automaton's numbers, with names
+unfoldable pub sheetOf : Automaton → List (List ℕ) → Sheet
+sheetOf A names = record {
   n = A .n;
   k = A .k;
-  names = map compose names;
+  names = names;
   states = statesOf (A .initial) (A .recurring) 0 (A .n);
-  transitions = transitionsOf (A .table) 0 2048;
+  transitions = transitionsOf (A .table) 0 places;
 }
+
+-- the sheet that is written: its names are those that are given, composed
+unfoldable pub writtenSheet : Automaton → List (List ℕ) → Sheet
+writtenSheet A names = sheetOf A (map compose names)
 
 -- the text that is written
 unfoldable pub written : Automaton → List (List ℕ) → List ℕ

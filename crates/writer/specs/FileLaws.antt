@@ -10,8 +10,8 @@ use Rattle.sets.specs.Sets.{bit, Member}
 use Rattle.sets.specs.SetLaws.{bit-lt}
 use Rattle.automaton.specs.Automaton.{Automaton, Fits}
 use Rattle.automaton.specs.EdgeLaws.{edge-of, edge-state}
-use Rattle.format.specs.Format.{Distinct, NamesRight, StatesRight, TransitionRight, TransitionsRight, Right, most, place, FileIs, nameLines}
-use Rattle.format.specs.Written.{statesOf, placed, whereMember, transitionsOf, writtenSheet, written}
+use Rattle.format.specs.Format.{Distinct, NamesRight, StatesRight, TransitionRight, TransitionsRight, Right, place, FileIs, nameLines}
+use Rattle.format.specs.Written.{statesOf, places, placed, whereMember, transitionsOf, sheetOf, writtenSheet, written}
 use Rattle.format.specs.FormatLaws.{name-length}
 use Rattle.writer.specs.LengthLaws.{statesOf-length, transitionsOf-most}
 use Rattle.writer.specs.TextLaws.{written-length}
@@ -74,24 +74,24 @@ module _ (A : Automaton) (fits : Fits A) where
 
 module _ (A : Automaton) (fits : Fits A) (names : List (List ℕ)) (right : NamesRight [] names) (all : length names ≡ A .k) where
   written-right : Right (writtenSheet A names)
-  unfolding writtenSheet
+  unfolding sheetOf writtenSheet
   written-right = record {
     range = fits .range;
     names = names-composed names [] right;
     states = states-right (A .initial) (A .recurring) (A .n) 0;
-    transitions = transitions-right A fits 2048 0 0 (omega arith);
+    transitions = transitions-right A fits places 0 0 (omega arith);
   }
 
   -- 12 for the first line, 8 names of 30, 16 states and 2048 transitions of 11, 4 for END
-  pub longest : length (written A names) ≤ 22960
+  longest : length (written A names) ≤ 22960
   longest =
       let composed = names-composed names [] right in
       let k : length (map compose names) ≡ A .k = length-map names compose ∙ all in
-      omega (arith, written-length A names, names-most (map compose names) [] 0 composed, transitionsOf-most (A .table) 2048 0, fits .range)
+      omega (arith, written-length A names, names-most (map compose names) [] 0 composed, transitionsOf-most (A .table) places 0, fits .range)
 
   -- WHAT IS WRITTEN IS THE FILE of the sheet that is written
   pub written-file : FileIs (written A names) (writtenSheet A names)
-  unfolding written writtenSheet
+  unfolding written sheetOf writtenSheet
   written-file = record {
     size = omega (arith, longest);
     right = written-right;

@@ -5,7 +5,7 @@ use mathlib.Core.List.{List}
 use native.Mathlib.Omega.{arith}
 use lib.ListN.{length, getD}
 use Rattle.sets.specs.Sets.{bit}
-use Rattle.format.specs.Written.{statesOf, placed, whereMember, transitionsOf, written}
+use Rattle.format.specs.Written.{statesOf, placed, whereMember, transitionsOf}
 
 pub statesOf-length : (initial recurring n q : ℕ) → length (statesOf initial recurring q n) ≡ n
 unfolding statesOf

@@ -1,6 +1,5 @@
 pub mod Write
 pub mod Same
-pub mod States
 pub mod Places
 pub mod RowNames
 pub mod Text

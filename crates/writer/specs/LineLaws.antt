@@ -29,12 +29,13 @@ head-stored out at n k =
     let eleven : at + 11 ≡ suc (suc (suc (suc (suc (suc (suc (suc (suc (suc (suc at)))))))))) = omega arith in
     rw (five, eight, eleven)
 
-pub columns-stored : (out : List ℕ) (at letter a b c : ℕ) →
-    set (sets (sets (sets (set out at letter) (at + 1) (column 3 a)) (at + 4) (column 3 b)) (at + 7) (column 3 c)) (at + 10) lf ≡ sets out at (threeNumbers letter a b c [])
+pub columns-stored : (out : List ℕ) (at letter a b c : ℕ) {o₁ o₂ o₃ : List ℕ} →
+    o₁ ≡ sets (set out at letter) (at + 1) (column 3 a) → o₂ ≡ sets o₁ (at + 4) (column 3 b) → o₃ ≡ sets o₂ (at + 7) (column 3 c) →
+    set o₃ (at + 10) lf ≡ sets out at (threeNumbers letter a b c [])
 unfolding column
-columns-stored out at letter a b c =
+columns-stored out at letter a b c e₁ e₂ e₃ =
     let one : at + 1 ≡ suc at = omega arith in
     let four : at + 4 ≡ suc (suc (suc (suc at))) = omega arith in
     let seven : at + 7 ≡ suc (suc (suc (suc (suc (suc (suc at)))))) = omega arith in
     let ten : at + 10 ≡ suc (suc (suc (suc (suc (suc (suc (suc (suc (suc at))))))))) = omega arith in
-    rw (one, four, seven, ten)
+    rw (e₃, e₂, e₁, one, four, seven, ten)

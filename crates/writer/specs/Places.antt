@@ -5,11 +5,7 @@ use mathlib.Core.List.{List}
 use lib.ListN.{getD}
 use Rattle.sets.specs.Sets.{Member}
 use Rattle.format.specs.Format.{Transition}
-use Rattle.format.specs.Written.{transitionsOf}
-
--- "strictly ascending by these three": there are 2048 places, 16 to a cell of the table
-abbrev pub places : ℕ
-places = 2048
+use Rattle.format.specs.Written.{places, transitionsOf}
 
 -- the transitions at the places from i on
 abbrev pub transitionsFrom : List ℕ → ℕ → List Transition
@@ -19,13 +15,13 @@ transitionsFrom table i = transitionsOf table i (places - i)
 abbrev pub At : List ℕ → ℕ → Type 0
 At table i = Member (getD table (i / 16) 0) (i % 16)
 
--- a transition stands at place i, or i is 2048
+-- a transition stands at place i, or i is behind the last place
 pub record Stop (table : List ℕ) (i : ℕ) : Type 0 where
   pub most : i ≤ places
   pub there : i < places → At table i
 
 -- i is the first such place from `start` on
-pub record First (table : List ℕ) (start i : ℕ) : Type 0 where
+pub record NextPlace (table : List ℕ) (start i : ℕ) : Type 0 where
   pub from : start ≤ i
   pub stop : Stop table i
   pub none-before : transitionsFrom table start ≡ transitionsFrom table i

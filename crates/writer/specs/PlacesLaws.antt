@@ -12,9 +12,9 @@ use Rattle.text.specs.SetsLaws.{sets-append}
 use Rattle.sets.specs.Sets.{bit}
 use Rattle.sets.specs.SetLaws.{bit-zero}
 use Rattle.format.specs.Format.{transitionLine, transitionLines}
-use Rattle.format.specs.Written.{placed, whereMember, transitionsOf}
+use Rattle.format.specs.Written.{places, placed, whereMember, transitionsOf}
 use Rattle.format.specs.FormatLaws.{transition-length}
-use Rattle.writer.specs.Places.{places, transitionsFrom, At, Stop, First}
+use Rattle.writer.specs.Places.{transitionsFrom, At, Stop, NextPlace}
 
 module _ (T : List ℕ) where
   place-step : (i : ℕ) → i < places → transitionsFrom T i ≡ whereMember (bit (getD T (i / 16) 0) (i % 16)) (placed i) (transitionsFrom T (i + 1))
@@ -42,7 +42,7 @@ module _ (T : List ℕ) where
 
 module _ {T : List ℕ} {i : ℕ} (stop : Stop T i) where
   module _ (h : i < places) where
-    module _ {j : ℕ} (next : First T (i + 1) j) where
+    module _ {j : ℕ} (next : NextPlace T (i + 1) j) where
       place-next : transitionsFrom T i ≡ placed i ∷ transitionsFrom T j
       place-next = place-here T i h (stop .there h) ∙ ap (placed i ∷_) (next .none-before)
 

@@ -10,7 +10,7 @@ use Rattle.automaton.specs.Automaton.{Automaton, Fits}
 use Rattle.automaton.specs.Meeting.{Free, Everywhere}
 use Rattle.format.specs.Format.{Sheet, NamesRight, FileIs, lines, endLine}
 use Rattle.format.specs.Numbers.{numbers}
-use Rattle.format.specs.Written.{statesOf, transitionsOf, writtenSheet, written}
+use Rattle.format.specs.Written.{sheetOf, writtenSheet, written}
 use Rattle.format.specs.NumbersLaws.{sheet-fits, numbers-length}
 use Rattle.sheet.specs.Read.{Accepted}
 use Rattle.parser.specs.UniqueLaws.{file-unique}
@@ -23,10 +23,7 @@ use Rattle.writer.specs.FileLaws.{written-file}
 
 written-composed : (A : Automaton) (xs ys : List (List ℕ)) → map compose xs ≡ map compose ys → written A xs ≡ written A ys
 unfolding written writtenSheet
-written-composed A xs ys e = ap (λ names. lines (sheet names) ++ endLine) e
-  where
-    sheet : List (List ℕ) → Sheet
-    sheet names = record { n = A .n; k = A .k; names = names; states = statesOf (A .initial) (A .recurring) 0 (A .n); transitions = transitionsOf (A .table) 0 2048 }
+written-composed A xs ys e = ap (λ names. lines (sheetOf A names) ++ endLine) e
 
 -- THE SAME SHEET IS WRITTEN AS THE SAME BYTES
 pub same-bytes : (σ τ : Sheet) → SameSheet σ τ → writing σ ≡ writing τ
@@ -38,7 +35,7 @@ composed-twice [] = refl
 composed-twice (x ∷ xs) = ap₂ _∷_ (compose-idempotent x) (composed-twice xs)
 
 names-written : (A : Automaton) (names : List (List ℕ)) → map compose (writtenSheet A names .names) ≡ map compose names
-unfolding writtenSheet
+unfolding sheetOf writtenSheet
 names-written A names = composed-twice names
 
 -- FROM NUMBERS with names

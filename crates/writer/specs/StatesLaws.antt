@@ -8,9 +8,8 @@ use lib.Seq.{sets}
 use Rattle.text.specs.LeftLaws.{left-more}
 use Rattle.text.specs.SetsLaws.{sets-append}
 use Rattle.format.specs.Format.{stateLine, stateLines}
-use Rattle.format.specs.Written.{statesOf}
+use Rattle.format.specs.Written.{stateOf, statesOf}
 use Rattle.format.specs.FormatLaws.{state-length}
-use Rattle.writer.specs.States.{stateOf}
 
 module _ (out : List ℕ) (at initial recurring n q : ℕ) where
   pub states-next : q < n →

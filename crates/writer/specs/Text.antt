@@ -10,7 +10,7 @@ use Rattle.automaton.specs.Lent.{Tables, clearedTables, Lengths}
 use Rattle.walks.specs.declared.Checked.{Checked}
 use Rattle.walks.specs.declared.Checked.the-variants as K
 use Rattle.format.specs.Format.{Sheet, FileIs, headLine, nameLines, stateLines, transitionLines, endLine}
-use Rattle.format.specs.Written.{written, statesOf, transitionsOf}
+use Rattle.format.specs.Written.{written, statesOf, places, transitionsOf}
 use Rattle.gate.specs.declared.Written.{Written}
 use Rattle.gate.specs.declared.Written.the-variants.{Refused}
 use Rattle.writer.specs.RowNames.{rowNames}
@@ -20,7 +20,7 @@ use Rattle.writer.specs.Write.{Put, NamedRefuse, NamedAccepted}
 unfoldable pub textOf : Automaton → List (List ℕ) → List ℕ
 textOf A names =
     headLine (A .n) (A .k)
-    ++ (nameLines 0 names ++ (stateLines 0 (statesOf (A .initial) (A .recurring) 0 (A .n)) ++ (transitionLines (transitionsOf (A .table) 0 2048) ++ endLine)))
+    ++ (nameLines 0 names ++ (stateLines 0 (statesOf (A .initial) (A .recurring) 0 (A .n)) ++ (transitionLines (transitionsOf (A .table) 0 places) ++ endLine)))
 
 abbrev pub rowsText : Automaton → List ℕ → List ℕ
 rowsText A rows = textOf A (rowNames rows 0 (A .k))

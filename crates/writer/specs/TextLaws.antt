@@ -1,5 +1,5 @@
 -- The text is its parts, stored one behind the other. Assumes nothing.
-use Prim.Native.Nat.{ℕ, _+_, _-_, _*_}
+use Prim.Native.Nat.{ℕ, _+_, _*_}
 use mathlib.Core.Path.{_≡_, sym, ap, _∙_}
 use mathlib.Core.List.{List, map, append-assoc}
 use lib.ListN.{length, length-append}
@@ -8,23 +8,23 @@ use Rattle.text.specs.SetsLaws.{sets-append}
 use Rattle.names.specs.Name.{compose}
 use Rattle.automaton.specs.Automaton.{Automaton}
 use Rattle.format.specs.Format.{headLine, nameLines, stateLines, transitionLines, endLine, lines}
-use Rattle.format.specs.Written.{statesOf, transitionsOf, writtenSheet, written}
+use Rattle.format.specs.Written.{statesOf, places, transitionsOf, sheetOf, writtenSheet, written}
 use Rattle.format.specs.FormatLaws.{head-length, states-length, transitions-length}
 use Rattle.writer.specs.LengthLaws.{statesOf-length}
 use Rattle.writer.specs.Text.{textOf}
 
 pub text-written : (A : Automaton) (names : List (List ℕ)) → textOf A (map compose names) ≡ written A names
-unfolding textOf written writtenSheet lines
+unfolding textOf written sheetOf writtenSheet lines
 text-written A names = simp append-assoc
 
 -- 12 bytes for the first line, 11 for each state and each transition, 4 for END
 pub text-length : (A : Automaton) (names : List (List ℕ))
-    → length (textOf A names) ≡ 12 + (length (nameLines 0 names) + (11 * A .n + (11 * length (transitionsOf (A .table) 0 2048) + 4)))
+    → length (textOf A names) ≡ 12 + (length (nameLines 0 names) + (11 * A .n + (11 * length (transitionsOf (A .table) 0 places) + 4)))
 unfolding textOf
 text-length A names = simp (length-append, head-length, states-length, transitions-length, statesOf-length)
 
 pub written-length : (A : Automaton) (names : List (List ℕ))
-    → length (written A names) ≡ 12 + (length (nameLines 0 (map compose names)) + (11 * A .n + (11 * length (transitionsOf (A .table) 0 2048) + 4)))
+    → length (written A names) ≡ 12 + (length (nameLines 0 (map compose names)) + (11 * A .n + (11 * length (transitionsOf (A .table) 0 places) + 4)))
 written-length A names = ap length (sym (text-written A names)) ∙ text-length A (map compose names)
 
 -- the parts of a text, stored one behind the other
@@ -33,8 +33,8 @@ module _ (A : Automaton) (names : List (List ℕ)) where
       o₁ ≡ sets out 0 (headLine (A .n) (A .k)) →
       o₂ ≡ sets o₁ 12 (nameLines 0 names) → a ≡ 12 + length (nameLines 0 names) →
       o₃ ≡ sets o₂ a (stateLines 0 (statesOf (A .initial) (A .recurring) 0 (A .n))) → b ≡ a + 11 * A .n →
-      o₄ ≡ sets o₃ b (transitionLines (transitionsOf (A .table) 0 2048)) → c ≡ b + 11 * length (transitionsOf (A .table) 0 2048) →
+      o₄ ≡ sets o₃ b (transitionLines (transitionsOf (A .table) 0 places)) → c ≡ b + 11 * length (transitionsOf (A .table) 0 places) →
       o₅ ≡ sets o₄ c endLine → o₅ ≡ sets out 0 (textOf A names)
   unfolding textOf
   text-stored out e₁ e₂ f e₃ g e₄ h e₅ =
-      rw (e₅, e₄, h, e₃, g, e₂, f, e₁, sets-append (headLine (A .n) (A .k)), sets-append (nameLines 0 names), sets-append (stateLines 0 (statesOf (A .initial) (A .recurring) 0 (A .n))), sets-append (transitionLines (transitionsOf (A .table) 0 2048)), head-length, states-length, transitions-length, statesOf-length)
+      rw (e₅, e₄, h, e₃, g, e₂, f, e₁, sets-append (headLine (A .n) (A .k)), sets-append (nameLines 0 names), sets-append (stateLines 0 (statesOf (A .initial) (A .recurring) 0 (A .n))), sets-append (transitionLines (transitionsOf (A .table) 0 places)), head-length, states-length, transitions-length, statesOf-length)

@@ -9,13 +9,13 @@ use Rattle.names.specs.Name.{compose}
 use Rattle.sets.specs.Sets.{bit, Member}
 use Rattle.automaton.specs.Automaton.{Automaton, Edge, Fits}
 use Rattle.automaton.specs.Meeting.{Walk, Free, Everywhere}
-use Rattle.format.specs.Format.{Sheet, Transition, lines, endLine}
+use Rattle.format.specs.Format.{Sheet, lines, endLine}
 use Rattle.format.specs.Numbers.{numbers}
-use Rattle.format.specs.Written.{statesOf, whereMember, placed, transitionsOf, writtenSheet, written}
+use Rattle.format.specs.Written.{places, whereMember, placed, transitionsOf, sheetOf, writtenSheet, written}
 use Rattle.format.specs.NumbersLaws.{numbers-length}
 use Rattle.writer.specs.Same.{trimmed}
 
-transitions-trimmed : (T : List ℕ) (left i : ℕ) → i + left ≤ 2048 → transitionsOf (take 128 T) i left ≡ transitionsOf T i left
+transitions-trimmed : (T : List ℕ) (left i : ℕ) → i + left ≤ places → transitionsOf (take 128 T) i left ≡ transitionsOf T i left
 unfolding transitionsOf
 transitions-trimmed T zero i h = refl
 transitions-trimmed T (suc left) i h =
@@ -40,12 +40,15 @@ free-trimmed A fits free w t x y m = free w t x y (record {
   counts = m .counts;
 })
 
+sheet-trimmed : (A : Automaton) (names : List (List ℕ)) → sheetOf (trimmed A) names ≡ sheetOf A names
+unfolding sheetOf
+sheet-trimmed A names =
+    let σ = sheetOf A names in
+    λ i. record { n = σ .n; k = σ .k; names = σ .names; states = σ .states; transitions = transitions-trimmed (A .table) places 0 (omega arith) i }
+
 pub written-trimmed : (A : Automaton) (names : List (List ℕ)) → written (trimmed A) names ≡ written A names
 unfolding written writtenSheet
-written-trimmed A names = ap (λ ts. lines (sheet ts) ++ endLine) (transitions-trimmed (A .table) 2048 0 (omega arith))
-  where
-    sheet : List Transition → Sheet
-    sheet ts = record { n = A .n; k = A .k; names = map compose names; states = statesOf (A .initial) (A .recurring) 0 (A .n); transitions = ts }
+written-trimmed A names = ap (λ σ. lines σ ++ endLine) (sheet-trimmed A (map compose names))
 
 -- a sheet has no such cells
 pub trimmed-numbers : (σ : Sheet) → trimmed (numbers σ) ≡ numbers σ

@@ -5,8 +5,7 @@ ghost use lib.ListN.{length};
 ghost use lib.Seq.{sets};
 ghost use Rattle.sets.specs.Sets.{bit};
 ghost use Rattle.format.specs.Format.{stateLine, stateLines};
-ghost use Rattle.format.specs.Written.{statesOf};
-ghost use Rattle.writer.specs.States.{stateOf};
+ghost use Rattle.format.specs.Written.{stateOf, statesOf};
 use crate::lines;
 
 // 1 where q is a member of the set, and 0 where it is not.

@@ -4,14 +4,14 @@ ghost use Prim.Native.Nat.{_+_, _*_, _≤_};
 ghost use lib.ListN.{length};
 ghost use lib.Seq.{sets};
 ghost use Rattle.format.specs.Format.{transitionLine, transitionLines};
-ghost use Rattle.format.specs.Written.{placed, transitionsOf};
-ghost use Rattle.writer.specs.Places.{places, First};
+ghost use Rattle.format.specs.Written.{places, placed, transitionsOf};
+ghost use Rattle.writer.specs.Places.{NextPlace};
 use crate::lines;
 
 // The first place from `start` on at which a transition stands, or 2048. An empty cell is passed at once.
 fn next_place(table: &[u16], start: usize) -> usize
     requires { ⌜ (128 ≤ length (now table)) × (start ≤ places) ⌝ }
-    ensures { λ r. ⌜ First (now (table .entry)) start r ⌝ }
+    ensures { λ r. ⌜ NextPlace (now (table .entry)) start r ⌝ }
 {
     let mut i = start;
     while i < 2048 {

@@ -2,6 +2,7 @@
 use native.Mathlib.Omega.{arith}
 use denote.Ref.{now}
 use Rattle.automaton.specs.Automaton.{automaton}
+use Rattle.format.specs.Written.{places}
 use Rattle.writer.specs.RowNames.{rowNames}
 use Rattle.writer.specs.LengthLaws.{transitionsOf-most}
 use Rattle.writer.specs.TextLaws.{text-length}
@@ -25,10 +26,10 @@ count-transitions-requires : tie.Need-count-transitions-requires
 count-transitions-requires c κs = search needs
 
 mul-result-2 : tie.Need-mul-result-2
-mul-result-2 c = omega (arith, transitionsOf-most (now (c .before .before .before .before .before .args .table)) 2048 0)
+mul-result-2 c = omega (arith, transitionsOf-most (now (c .before .before .before .before .before .args .table)) places 0)
 
 add-result-3 : tie.Need-add-result-3
-add-result-3 c = omega (arith, transitionsOf-most (now (c .before .before .before .before .before .args .table)) 2048 0)
+add-result-3 c = omega (arith, transitionsOf-most (now (c .before .before .before .before .before .args .table)) places 0)
 
 returns : tie.Need-returns
 returns c =

@@ -7,7 +7,8 @@ use native.Mathlib.Nat.{zero-add}
 use borrow.Author.Needs.{needs}
 use denote.Ref.{now}
 use lib.ListN.{length}
-use Rattle.writer.specs.Places.{places, transitionsFrom, Stop}
+use Rattle.format.specs.Written.{places}
+use Rattle.writer.specs.Places.{transitionsFrom, Stop}
 use Rattle.writer.specs.PlacesLaws.{count-next, count-last}
 use Rattle.writer.specs.LengthLaws.{transitionsOf-most}
 use Rattle.writer.proofs.transition_lines.count_transitions.Statement.{statement}

@@ -6,7 +6,8 @@ use mathlib.Core.Path.{_≡_, refl, _∙_}
 use native.Mathlib.Omega.{arith}
 use borrow.Author.Needs.{needs}
 use Rattle.sets.specs.SetLaws.{bit-out}
-use Rattle.writer.specs.Places.{places, transitionsFrom}
+use Rattle.format.specs.Written.{places}
+use Rattle.writer.specs.Places.{transitionsFrom}
 use Rattle.writer.specs.PlacesLaws.{place-empty, cell-empty}
 use Rattle.writer.proofs.transition_lines.next_place.Statement.{statement}
 use Rattle.writer.proofs.transition_lines.next_place.Tie as tie

@@ -7,7 +7,8 @@ use borrow.Author.Needs.{needs}
 use lib.ListN.{length}
 use lib.Seq.{sets}
 use Rattle.format.specs.Format.{transitionLines}
-use Rattle.writer.specs.Places.{places, transitionsFrom, Stop}
+use Rattle.format.specs.Written.{places}
+use Rattle.writer.specs.Places.{transitionsFrom, Stop}
 use Rattle.writer.specs.PlacesLaws.{count-next, count-here, count-last, lines-next, lines-last}
 use Rattle.writer.proofs.transition_lines.put_transitions.Statement.{statement}
 use Rattle.writer.proofs.transition_lines.put_transitions.Tie as tie
