@@ -9,8 +9,8 @@ use Rattle.automaton.specs.Automaton.{Automaton}
 use Rattle.automaton.specs.Lent.{Tables, clearedTables, Lengths}
 use Rattle.walks.specs.declared.Checked.{Checked}
 use Rattle.walks.specs.declared.Checked.the-variants as K
-use Rattle.format.specs.Format.{Sheet, FileIs, headLine, nameLines, stateLines, transitionLines, endLine}
-use Rattle.format.specs.Written.{written, statesOf, places, transitionsOf}
+use Rattle.format.specs.Format.{Sheet, FileIs, lines, endLine}
+use Rattle.format.specs.Written.{sheetOf, written}
 use Rattle.gate.specs.declared.Written.{Written}
 use Rattle.gate.specs.declared.Written.the-variants.{Refused}
 use Rattle.writer.specs.RowNames.{rowNames}
@@ -18,9 +18,7 @@ use Rattle.writer.specs.Write.{Put, NamedRefuse, NamedAccepted}
 
 -- the text of an automaton with names that are composed
 unfoldable pub textOf : Automaton → List (List ℕ) → List ℕ
-textOf A names =
-    headLine (A .n) (A .k)
-    ++ (nameLines 0 names ++ (stateLines 0 (statesOf (A .initial) (A .recurring) 0 (A .n)) ++ (transitionLines (transitionsOf (A .table) 0 places) ++ endLine)))
+textOf A names = lines (sheetOf A names) ++ endLine
 
 abbrev pub rowsText : Automaton → List ℕ → List ℕ
 rowsText A rows = textOf A (rowNames rows 0 (A .k))
