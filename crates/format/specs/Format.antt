@@ -1,6 +1,7 @@
 -- Document 01, "The files" and "The gate questions": what a sheet file is, and which line of a file that is none is at fault.
 use Prim.Native.Nat.{ℕ, suc, _+_, _*_, _≤_, _<_}
 use mathlib.Core.Path.{_≡_}
+use mathlib.Core.Logic.{_⊎_}
 use mathlib.Core.List.{List, [], _∷_, _++_}
 use lib.ListN.{length, getD}
 use Rattle.text.specs.Bytes.{lf, space}
@@ -88,9 +89,17 @@ abbrev pub StatesRight : List State → Type 0
 StatesRight [] = Unit
 StatesRight (z ∷ zs) = FlagsRight z × StatesRight zs
 
+-- "The successor set of state q on letter l is number 8q+l of its table."
+abbrev pub cell : Transition → ℕ
+cell t = 8 * t .from + t .letter
+
 -- a transition's place in the order by from, letter and to
 abbrev pub place : Transition → ℕ
-place t = (8 * t .from + t .letter) * 16 + t .to
+place t = cell t * 16 + t .to
+
+-- t stands before u in that order; in range this is the order of places (`place-before` in FormatLaws)
+abbrev pub Before : Transition → Transition → Type 0
+Before t u = (t .from < u .from) ⊎ ((t .from ≡ u .from) × ((t .letter < u .letter) ⊎ ((t .letter ≡ u .letter) × (t .to < u .to))))
 
 -- "in range and in order": not below the least place that is still free
 pub record TransitionRight (n k least : ℕ) (t : Transition) : Type 0 where

@@ -94,7 +94,8 @@ statesAt s line at q initial recurring (suc todo) =
 -- a transition in range whose place is not below `least`
 unfoldable pub transitionOf : ℕ → ℕ → ℕ → ℕ → ℕ → ℕ → TransitionLine
 transitionOf n k least from letter to =
-    choose (ltb from n && (ltb letter k && (ltb to n && leb least ((8 * from + letter) * 16 + to)))) (T.Is from letter to) T.Bad
+    choose (ltb from n && (ltb letter k && (ltb to n && leb least (place (record { from = from; letter = letter; to = to })))))
+    (T.Is from letter to) T.Bad
 
 -- the line of a transition, behind its T
 unfoldable pub transitionLineAt : List ℕ → ℕ → ℕ → ℕ → ℕ → TransitionLine

@@ -58,7 +58,7 @@ module _ (n k least : ℕ) where
       let h1 = ltb-true from n (e1 .0) in
       let h2 = ltb-true letter k (e2 .0) in
       let h3 = ltb-true to n (e3 .0) in
-      let h4 = leb-true least ((8 * from + letter) * 16 + to) (e3 .1) in
+      let h4 = leb-true least (place (transition from letter to)) (e3 .1) in
       (record { from = omega arith; letter = omega arith; to = omega arith; order = omega arith }, a, b, c)
 
   module _ (s : List ℕ) (at : ℕ) where
