@@ -1,13 +1,15 @@
--- How long the lines of a sheet are, and the order of its transitions. Assumes nothing.
+-- The lines of a sheet: how long they are, what stands behind them, and the order of transitions. Assumes nothing.
 use Prim.Native.Nat.{ℕ, suc, _+_, _*_, _<_}
-use mathlib.Core.Path.{_≡_, refl}
+use mathlib.Core.Path.{_≡_, refl, _∙_}
 use mathlib.Core.Logic.{inl, inr, _↔_}
-use mathlib.Core.List.{List, [], _∷_}
-use lib.ListN.{length, length-append}
+use mathlib.Core.List.{List, [], _∷_, _++_, append-assoc}
+use lib.ListN.{length, drop, length-append}
 use native.Mathlib.Omega.{arith}
 use native.Mathlib.Decide.{decLt}
+use Rattle.text.specs.Bytes.{lf, space}
+use Rattle.text.specs.BytesLaws.{stretch-rest}
 use Rattle.text.specs.Column.{column}
-use Rattle.format.specs.Format.{State, Transition, headLine, nameLine, stateLine, transitionLine, stateLines, transitionLines, place, Before}
+use Rattle.format.specs.Format.{State, Transition, Sheet, headLine, nameLine, stateLine, transitionLine, nameLines, stateLines, transitionLines, lines, place, Before}
 
 pub head-length : (n k : ℕ) → length (headLine n k) ≡ 12
 unfolding headLine column
@@ -34,6 +36,28 @@ pub transitions-length : (ts : List Transition) → length (transitionLines ts) 
 unfolding transitionLines
 transitions-length [] = refl
 transitions-length (t ∷ ts) = simp (length-append, transition-length, transitions-length ts) (omega arith)
+
+-- the lines kind by kind, and what stands behind them
+pub lines-parted :
+    (σ : Sheet) (rest : List ℕ) →
+    lines σ ++ rest ≡ headLine (σ .n) (σ .k) ++ (nameLines 0 (σ .names) ++ (stateLines 0 (σ .states) ++ (transitionLines (σ .transitions) ++ rest)))
+unfolding lines
+lines-parted σ rest = simp append-assoc
+
+-- a name line in parts: its name, and what stands behind it
+pub name-parted : (l : ℕ) (x rest : List ℕ) → nameLine l x ++ rest ≡ 78 ∷ (column 3 l ++ (space ∷ (x ++ (lf ∷ rest))))
+unfolding nameLine
+name-parted l x rest = simp append-assoc
+
+module _ (s : List ℕ) (at l : ℕ) (x rest : List ℕ) (e : drop at s ≡ nameLine l x ++ rest) where
+  pub name-behind : drop (at + 5) s ≡ x ++ (lf ∷ rest)
+  unfolding column
+  name-behind = stretch-rest s at (78 ∷ (column 3 l ++ (space ∷ []))) (x ++ (lf ∷ rest)) (e ∙ name-parted l x rest)
+
+  pub name-rest : drop (at + 5 + length x + 1) s ≡ rest
+  name-rest =
+      let p : at + length (nameLine l x) ≡ at + 5 + length x + 1 = omega (arith, name-length l x) in
+      rw p at (stretch-rest s at (nameLine l x) rest e)
 
 -- "strictly ascending by these three": the order of places is that of from, then letter, then to
 module _ (t u : Transition) (l : t .letter < 8) (m : u .letter < 8) (a : t .to < 16) (b : u .to < 16) where

@@ -1,15 +1,15 @@
 -- The other way round: the lines of a sheet's upper part are read through, and behind them its fault is met, or its end. Assumes nothing.
 use Prim.Native.Nat.{ℕ, suc, _+_, _-_, _*_, _≤_, _<_}
 use mathlib.Core.Path.{_≡_, refl, ap, _∙_}
-use mathlib.Core.List.{List, [], _++_, map, append-assoc}
+use mathlib.Core.List.{List, [], _++_, map}
 use lib.ListN.{length, drop, replicate, length-append, length-drop}
 use borrow.Author.Tests.{lt-ltb, le-ltb}
 use native.Mathlib.Omega.{arith}
 use native.Mathlib.Nat.{zero-add}
 use Rattle.names.specs.Name.{compose}
-use Rattle.format.specs.Format.{State, Sheet, headLine, nameLines, stateLines, transitionLines, endLine, lines, FlagsRight, stateLine, leastAfter, most, FileIs, Above, NameDue, StateDue, lineDue, Faulty}
+use Rattle.format.specs.Format.{State, Sheet, headLine, nameLines, stateLines, transitionLines, endLine, FlagsRight, stateLine, leastAfter, most, FileIs, Above, NameDue, StateDue, lineDue, Faulty}
 use Rattle.format.specs.Numbers.{flagSet, tableOf}
-use Rattle.format.specs.FormatLaws.{head-length, states-length, transitions-length}
+use Rattle.format.specs.FormatLaws.{head-length, states-length, transitions-length, lines-parted}
 use Rattle.parser.specs.declared.Sizes.{Sizes}
 use Rattle.parser.specs.declared.Sets.{Sets}
 use Rattle.parser.specs.declared.StateLine.the-variants as S
@@ -36,8 +36,8 @@ module _ (s : List ℕ) (σ : Sheet) (rest : List ℕ) (above : Above s σ rest)
   behind-head = nameLines 0 (σ .names) ++ behind-names
 
   text : s ≡ headLine (σ .n) (σ .k) ++ behind-head
-  unfolding lines behind-head behind-names behind-states
-  text = above .text ∙ simp append-assoc
+  unfolding behind-head behind-names behind-states
+  text = above .text ∙ lines-parted σ rest
 
   from-names : drop 12 s ≡ behind-head
   from-names = rw head-length at (stretch-rest s 0 (headLine (σ .n) (σ .k)) behind-head text)

@@ -20,10 +20,10 @@ use Rattle.names.specs.ScanLaws.{name-is, name-ends}
 use Rattle.names.specs.declared.Ending.{Ending}
 use Rattle.names.specs.declared.Ending.the-variants as E
 use Rattle.format.specs.Format.{nameLine, nameLines, Distinct, NamesRight}
-use Rattle.format.specs.FormatLaws.{name-length}
+use Rattle.format.specs.FormatLaws.{name-parted, name-behind, name-rest}
 use Rattle.parser.specs.Parse.{Named, nameLineAt, namesAt}
 use Rattle.parser.specs.Phase.{Phase, refused, passed, withEnding, letterOf}
-use Rattle.text.specs.BytesLaws.{length-more, stretch-rest, stretch-is}
+use Rattle.text.specs.BytesLaws.{length-more, stretch-is}
 use Rattle.parser.specs.LetterLaws.{distinct-letter, letter-distinct}
 use Rattle.text.specs.ChoiceLaws.{test-true}
 
@@ -32,22 +32,15 @@ use Rattle.text.specs.ChoiceLaws.{test-true}
 bad-is-not : (e : ℕ) → E.Bad ≡ E.At e → ⊥
 bad-is-not e h = let z : _≡_ {A = ℕ} 0 1 = cc in omega arith
 
-bracketed : (l : ℕ) (x rest : List ℕ) → nameLine l x ++ rest ≡ 78 ∷ (column 3 l ++ (space ∷ (x ++ (lf ∷ rest))))
-unfolding nameLine
-bracketed l x rest = simp append-assoc
-
 module _ (s : List ℕ) (at l : ℕ) where
-  p5 : at + 4 + 1 ≡ at + 5
-  p5 = omega arith
-
   pub name-line-of : (x rest : List ℕ) → l < 1000 → IsName x → drop at s ≡ nameLine l x ++ rest →
       (nameLineAt s at l ≡ E.At (at + 5 + length x)) × (stretch s (at + 5) (at + 5 + length x) ≡ x)
   unfolding nameLineAt
   name-line-of x rest hl h e =
-      let (opening, behind) = numbered-of s at 78 l (space ∷ (x ++ (lf ∷ rest))) hl (e ∙ bracketed l x rest) in
-      let gap = goes-on s (at + 4) space (x ++ (lf ∷ rest)) behind in
-      let name : drop (at + 5) s ≡ x ++ (lf ∷ rest) = rw p5 at (gap .1) in
-      (simp (opening, eq-eqb _ _ (gap .0)) (name-ends s x rest (at + 5) h name), stretch-is s (at + 5) x (lf ∷ rest) name)
+      let (opening, behind) = numbered-of s at 78 l (space ∷ (x ++ (lf ∷ rest))) hl (e ∙ name-parted l x rest) in
+      let gap = goes-on s (at + 4) space (x ++ (lf ∷ rest)) behind .0 in
+      let name = name-behind s at l x rest e in
+      (simp (opening, eq-eqb _ _ gap) (name-ends s x rest (at + 5) h name), stretch-is s (at + 5) x (lf ∷ rest) name)
 
   -- a line whose LF stands at e, and what follows
   pub record NameLine (e : ℕ) : Type 0 where
@@ -60,12 +53,13 @@ module _ (s : List ℕ) (at l : ℕ) where
       let (tests, ends) = test-true (bad-is-not e) _ (nameEndAt s (at + 5)) h in
       let (opening, gap) = and-eq-true-iff (isNumbered s at 78 l) _ .0 tests in
       let name = name-is s (at + 5) e ends in
-      let behind : drop (at + 4) s ≡ space ∷ drop (at + 5) s = rw p5 at (byte-is s (at + 4) space (omega arith) (eqb-true _ _ gap)) in
+      let p : at + 4 + 1 ≡ at + 5 = omega arith in
+      let behind : drop (at + 4) s ≡ space ∷ drop (at + 5) s = rw p at (byte-is s (at + 4) space (omega arith) (eqb-true _ _ gap)) in
       record {
         is-name = name .name;
         text =
             numbered-is s at 78 l (omega arith) opening
-            ∙ (ap (λ (y : List ℕ). 78 ∷ (column 3 l ++ y)) (behind ∙ ap (space ∷_) (name .line)) ∙ sym (bracketed l (stretch s (at + 5) e) (drop (e + 1) s)));
+            ∙ (ap (λ (y : List ℕ). 78 ∷ (column 3 l ++ y)) (behind ∙ ap (space ∷_) (name .line)) ∙ sym (name-parted l (stretch s (at + 5) e) (drop (e + 1) s)));
       }
 
 -- THE FAULTS where a name is due behind earlier ones
@@ -234,7 +228,6 @@ names-along s rest [] todo line at earlier hl h e =
     record { behind = at; text = e; goes = simp (zero-add, add-zero, append-nil) }
 names-along s rest (x ∷ names) todo line at earlier hl h e =
     let e1 : drop at s ≡ nameLine (length earlier) x ++ (nameLines (suc (length earlier)) names ++ rest) = rw append-assoc at e in
-    let p : at + length (nameLine (length earlier) x) ≡ at + 5 + length x + 1 = omega (arith, name-length (length earlier) x) in
-    let e2 : drop (at + 5 + length x + 1) s ≡ nameLines (length (earlier ++ (x ∷ []))) names ++ rest = rw length-more (rw p at (stretch-rest s at (nameLine (length earlier) x) _ e1)) in
+    let e2 : drop (at + 5 + length x + 1) s ≡ nameLines (length (earlier ++ (x ∷ []))) names ++ rest = rw length-more (name-rest s at (length earlier) x _ e1) in
     along-step s rest names todo line at earlier x (nameLines (suc (length earlier)) names ++ rest) (omega arith) (h .0) (h .1) e1
     (names-along s rest names todo (line + 1) (at + 5 + length x + 1) (earlier ++ (x ∷ [])) (omega (arith, length-more earlier x)) (h .2) e2)

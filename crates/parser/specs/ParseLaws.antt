@@ -2,7 +2,7 @@
 use Prim.Native.Nat.{ℕ, suc, _+_, _≤_}
 use mathlib.Core.Path.{_≡_, refl, sym, subst, _∙_}
 use mathlib.Core.Bool.{Bool, true, false}
-use mathlib.Core.List.{List, [], _++_, map, append-assoc}
+use mathlib.Core.List.{List, [], _++_, map}
 use lib.ListN.{length, drop, replicate}
 use lib.Dec.{ltb}
 use borrow.Author.Tests.{ltb-true, ltb-false}
@@ -13,6 +13,7 @@ use Rattle.names.specs.Name.{compose}
 use Rattle.automaton.specs.Automaton.{InRange}
 use Rattle.format.specs.Format.{State, Transition, Sheet, headLine, stateLine, FlagsRight, nameLines, stateLines, transitionLines, endLine, lines, leastAfter, most, FileIs, Above, NameDue, StateDue, EndDue, lineDue, Faulty}
 use Rattle.format.specs.Numbers.{numbers}
+use Rattle.format.specs.FormatLaws.{lines-parted}
 use Rattle.parser.specs.declared.Sizes.{Sizes}
 use Rattle.parser.specs.declared.Sets.{Sets}
 use Rattle.parser.specs.Parse.{headOf, Named, namesAt, statesAt, transitionsAt, Contents, contents, afterHead, afterNames, afterStates, parse}
@@ -31,8 +32,7 @@ upper-text :
     (s r1 r2 r3 rest : List ℕ) (n k : ℕ) (names : List (List ℕ)) (states : List State) (transitions : List Transition) →
     s ≡ headLine n k ++ r1 → r1 ≡ nameLines 0 names ++ r2 → r2 ≡ stateLines 0 states ++ r3 → r3 ≡ transitionLines transitions ++ rest →
     s ≡ lines (upper n k names states transitions) ++ rest
-unfolding lines
-upper-text s r1 r2 r3 rest n k names states transitions e1 e2 e3 e4 = e1 ∙ rw (e2, e3, e4) (simp append-assoc)
+upper-text s r1 r2 r3 rest n k names states transitions e1 e2 e3 e4 = e1 ∙ rw (e2, e3, e4) (sym (lines-parted (upper n k names states transitions) rest))
 
 -- what is read of a sheet file
 pub record AreContents (σ : Sheet) (c : Contents) : Type 0 where

@@ -10,9 +10,9 @@ use Rattle.text.specs.BytesLaws.{append-same}
 use Rattle.names.specs.Name.{IsName}
 use Rattle.names.specs.declared.Ending.the-variants as E
 use Rattle.automaton.specs.Automaton.{InRange}
-use Rattle.format.specs.Format.{State, Transition, Sheet, headLine, nameLine, stateLine, transitionLine, nameLines, stateLines, transitionLines, endLine, lines, NamesRight, FlagsRight, StatesRight, place, TransitionRight, TransitionsRight, FileIs, Faulty}
+use Rattle.format.specs.Format.{State, Transition, Sheet, headLine, nameLine, stateLine, transitionLine, nameLines, stateLines, transitionLines, endLine, NamesRight, FlagsRight, StatesRight, place, TransitionRight, TransitionsRight, FileIs, Faulty}
 use Rattle.format.specs.NumbersLaws.{loosened}
-use Rattle.format.specs.FormatLaws.{head-length, name-length, state-length, transition-length}
+use Rattle.format.specs.FormatLaws.{head-length, name-length, state-length, transition-length, lines-parted}
 use Rattle.parser.specs.declared.Sizes.{Sizes}
 use Rattle.parser.specs.declared.StateLine.the-variants as S
 use Rattle.parser.specs.declared.TransitionLine.the-variants as T
@@ -110,15 +110,10 @@ transitions-same n k hn hk least other (u ∷ us) (v ∷ vs) h g e =
     let (a, b) = transition-same (transitionLines us ++ endLine) (transitionLines vs ++ endLine) n k u v hn hk (loosened (h .0)) (loosened (g .0)) f in
     ap₂ _∷_ a (transitions-same n k hn hk (place u + 1) (place v + 1) us vs (h .1) (g .1) b)
 
--- the lines of a sheet file, kind by kind
-file-text : (s : List ℕ) (σ : Sheet) → FileIs s σ → s ≡ headLine (σ .n) (σ .k) ++ (nameLines 0 (σ .names) ++ (stateLines 0 (σ .states) ++ (transitionLines (σ .transitions) ++ endLine)))
-unfolding lines
-file-text s σ h = h .text ∙ simp append-assoc
-
 -- ONE SHEET
 pub file-unique : (s : List ℕ) (σ τ : Sheet) → FileIs s σ → FileIs s τ → σ ≡ τ
 file-unique s σ τ h g =
-    let e = sym (file-text s σ h) ∙ file-text s τ g in
+    let e = sym (h .text ∙ lines-parted σ endLine) ∙ (g .text ∙ lines-parted τ endLine) in
     let (n, k, e1) = head-same _ _ (σ .n) (σ .k) (τ .n) (τ .k) (h .right .range) (g .right .range) e in
     let hk : σ .k ≤ 8 = h .right .range .3 in
     let hn : σ .n ≤ 16 = h .right .range .1 in

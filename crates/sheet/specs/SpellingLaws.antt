@@ -4,20 +4,14 @@ use mathlib.Core.Path.{_≡_, ap, _∙_}
 use mathlib.Core.List.{List, [], _∷_, _++_, append-assoc}
 use native.Mathlib.Omega.{arith}
 use lib.ListN.{length, getD, drop}
-use Rattle.text.specs.Bytes.{lf, space}
+use Rattle.text.specs.Bytes.{lf}
 use Rattle.text.specs.BytesLaws.{stretch-is, stretch-rest}
-use Rattle.text.specs.Column.{column}
 use Rattle.names.specs.Scan.{nameEndAt}
 use Rattle.names.specs.ScanLaws.{name-ends}
 use Rattle.names.specs.declared.Ending.the-variants as E
-use Rattle.format.specs.Format.{Sheet, FileIs, NamesRight, headLine, nameLine, nameLines, stateLines, transitionLines, lines, endLine}
-use Rattle.format.specs.FormatLaws.{head-length, name-length}
+use Rattle.format.specs.Format.{Sheet, FileIs, NamesRight, headLine, nameLine, nameLines, stateLines, transitionLines, endLine}
+use Rattle.format.specs.FormatLaws.{head-length, lines-parted, name-behind, name-rest}
 use Rattle.sheet.specs.Spelling.{lineBelow, spelledAt, spelling}
-
--- a name line in front of its name, and what follows
-name-behind : (s : List ℕ) (at l : ℕ) (x rest : List ℕ) → drop at s ≡ nameLine l x ++ rest → drop (at + 5) s ≡ x ++ (lf ∷ rest)
-unfolding nameLine column
-name-behind s at l x rest e = stretch-rest s at (78 ∷ (column 3 l ++ (space ∷ []))) (x ++ (lf ∷ rest)) (e ∙ simp append-assoc)
 
 names-spelled :
     (names earlier : List (List ℕ)) (s rest : List ℕ) (at l : ℕ) → NamesRight earlier names → drop at s ≡ nameLines l names ++ rest →
@@ -30,20 +24,17 @@ names-spelled (x ∷ xs) earlier s rest at l right e zero b =
 names-spelled (x ∷ xs) earlier s rest at l right e (suc i) b =
     let g = e ∙ append-assoc (nameLine l x) (nameLines (suc l) xs) rest in
     let f = name-behind s at l x (nameLines (suc l) xs ++ rest) g in
-    let n : at + length (nameLine l x) ≡ at + 5 + length x + 1 = omega (arith, name-length l x) in
-    let h : drop (at + 5 + length x + 1) s ≡ nameLines (suc l) xs ++ rest = rw n at (stretch-rest s at (nameLine l x) (nameLines (suc l) xs ++ rest) g) in
+    let h = name-rest s at l x (nameLines (suc l) xs ++ rest) g in
     simp (name-ends s x (nameLines (suc l) xs ++ rest) (at + 5) (right .0) f)
     (names-spelled xs (earlier ++ (x ∷ [])) s rest (at + 5 + length x + 1) (suc l) (right .2) h i (omega arith))
 
 pub spelling-is : (s : List ℕ) (σ : Sheet) → FileIs s σ → (l : ℕ) → l < σ .k → spelling s l ≡ getD (σ .names) l []
-unfolding spelling lines
+unfolding spelling
 spelling-is s σ file l b =
-    let rest = stateLines 0 (σ .states) ++ transitionLines (σ .transitions) in
+    let rest = stateLines 0 (σ .states) ++ (transitionLines (σ .transitions) ++ endLine) in
     let all = file .all-names in
-    let e : drop 0 s ≡ headLine (σ .n) (σ .k) ++ (nameLines 0 (σ .names) ++ (rest ++ endLine)) = file .text ∙ simp append-assoc in
-    let n : 0 + length (headLine (σ .n) (σ .k)) ≡ 12 = omega (arith, head-length (σ .n) (σ .k)) in
-    let h : drop 12 s ≡ nameLines 0 (σ .names) ++ (rest ++ endLine) = rw n at (stretch-rest s 0 (headLine (σ .n) (σ .k)) (nameLines 0 (σ .names) ++ (rest ++ endLine)) e) in
-    names-spelled (σ .names) [] s (rest ++ endLine) 12 0 (file .right .names) h l (omega arith)
+    let h : drop 12 s ≡ nameLines 0 (σ .names) ++ rest = rw head-length at (stretch-rest s 0 (headLine (σ .n) (σ .k)) (nameLines 0 (σ .names) ++ rest) (file .text ∙ lines-parted σ endLine)) in
+    names-spelled (σ .names) [] s rest 12 0 (file .right .names) h l (omega arith)
 
 -- A NAME LINE found again: `left` lines are to be passed
 module _ (s : List ℕ) (at left : ℕ) where

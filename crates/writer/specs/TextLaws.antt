@@ -1,15 +1,15 @@
 -- The text is its parts, stored one behind the other. Assumes nothing.
 use Prim.Native.Nat.{ℕ, _+_, _*_}
 use mathlib.Core.Path.{_≡_, refl, sym, ap, _∙_}
-use mathlib.Core.List.{List, _++_, map, append-assoc}
+use mathlib.Core.List.{List, _++_, map}
 use lib.ListN.{length, length-append}
 use lib.Seq.{sets}
 use Rattle.text.specs.SetsLaws.{sets-append}
 use Rattle.names.specs.Name.{compose}
 use Rattle.automaton.specs.Automaton.{Automaton}
-use Rattle.format.specs.Format.{headLine, nameLines, stateLines, transitionLines, endLine, lines}
+use Rattle.format.specs.Format.{headLine, nameLines, stateLines, transitionLines, endLine}
 use Rattle.format.specs.Written.{statesOf, places, transitionsOf, sheetOf, writtenSheet, written}
-use Rattle.format.specs.FormatLaws.{head-length, states-length, transitions-length}
+use Rattle.format.specs.FormatLaws.{head-length, states-length, transitions-length, lines-parted}
 use Rattle.writer.specs.LengthLaws.{statesOf-length}
 use Rattle.writer.specs.Text.{textOf}
 
@@ -21,8 +21,8 @@ module _ (A : Automaton) (names : List (List ℕ)) where
   text-parts : textOf A names ≡
       headLine (A .n) (A .k)
       ++ (nameLines 0 names ++ (stateLines 0 (statesOf (A .initial) (A .recurring) 0 (A .n)) ++ (transitionLines (transitionsOf (A .table) 0 places) ++ endLine)))
-  unfolding textOf sheetOf lines
-  text-parts = simp append-assoc
+  unfolding textOf sheetOf
+  text-parts = lines-parted (sheetOf A names) endLine
 
   -- 12 bytes for the first line, 11 for each state and each transition, 4 for END
   pub text-length : length (textOf A names) ≡ 12 + (length (nameLines 0 names) + (11 * A .n + (11 * length (transitionsOf (A .table) 0 places) + 4)))
