@@ -9,11 +9,12 @@ use native.Mathlib.Decide.{decLt}
 use Rattle.text.specs.Bytes.{lf, space}
 use Rattle.text.specs.BytesLaws.{stretch-rest}
 use Rattle.text.specs.Column.{column}
-use Rattle.format.specs.Format.{State, Transition, Sheet, headLine, nameLine, stateLine, transitionLine, nameLines, stateLines, transitionLines, lines, place, Before}
+use Rattle.text.specs.PairLaws.{first-length}
+use Rattle.format.specs.Format.{State, Transition, Sheet, sheetWord, headLine, nameLine, stateLine, transitionLine, nameLines, stateLines, transitionLines, lines, place, Before}
 
 pub head-length : (n k : ℕ) → length (headLine n k) ≡ 12
-unfolding headLine column
-head-length n k = refl
+unfolding headLine
+head-length n k = first-length sheetWord n k
 
 pub name-length : (l : ℕ) (x : List ℕ) → length (nameLine l x) ≡ 6 + length x
 unfolding nameLine column

@@ -9,8 +9,8 @@ use Rattle.gate.specs.Gate.{refusal}
 use Rattle.gate.specs.declared.Refusal.{Refusal}
 use Rattle.text.specs.Choice.{choose}
 use Rattle.text.specs.NumberLaws.{between-is, between-of}
-use Rattle.text.specs.Pair.{wordAndPair, twoNumbers}
-use Rattle.text.specs.PairLaws.{first-of, first-outcome}
+use Rattle.text.specs.Pair.{wordAndPair, firstLine}
+use Rattle.text.specs.PairLaws.{NoFirst, first-of, first-outcome}
 use Rattle.text.specs.Word.{noZero}
 use Rattle.text.specs.declared.Pair.{Pair}
 use Rattle.text.specs.declared.Pair.the-variants as P
@@ -45,47 +45,41 @@ module _ (β : Bounds) {A : Type 0} (make : ℕ → ℕ → A) (form range : ℕ
       by true e = absurd (let z : _≡_ {A = ℕ} 0 1 = cc in omega arith)
       by false e = (range, 1, cc, refl)
 
--- A KIND of first line: its word, how it is written, and the bounds of its numbers
+-- A KIND of first line: its word, and the bounds of its numbers
 pub record Kind : Type 1 where
   pub word : List ℕ
-  pub line : ℕ → ℕ → List ℕ
   pub bounds : Bounds
   pub Right : ℕ → ℕ → Type 0
   pub whole : noZero word ≡ true
-  pub written : (a b : ℕ) (rest : List ℕ) → line a b ++ rest ≡ word ++ twoNumbers a b rest
   pub within : (a b : ℕ) → Right a b → WithinBounds bounds a b
   pub right : (a b : ℕ) → WithinBounds bounds a b → Right a b
 
 module _ (K : Kind) (s : List ℕ) {A : Type 0} (make : ℕ → ℕ → A) (form range : ℕ) where
-  abbrev NoLine : Type 0
-  NoLine = (a b : ℕ) (rest : List ℕ) → a < 1000 → b < 1000 → s ≡ K .line a b ++ rest → ⊥
-
   abbrev phase : Phase A
   phase = firstPhase (wordAndPair s (K .word)) (K .bounds) make form range
 
   -- what is so of a line of another form, of numbers out of bounds and of numbers within them is so of the phase
   pub line-outcome :
-      (P : Phase A → Type 0) → (NoLine → P (refused form 1)) →
-      ((a b : ℕ) → a < 1000 → b < 1000 → s ≡ K .line a b ++ drop (length (K .word) + 7) s → (K .Right a b → ⊥) → P (refused range 1)) →
-      ((a b : ℕ) → a < 1000 → b < 1000 → s ≡ K .line a b ++ drop (length (K .word) + 7) s → K .Right a b → P (passed (make a b))) → P phase
+      (P : Phase A → Type 0) → (NoFirst s (K .word) → P (refused form 1)) →
+      ((a b : ℕ) → a < 1000 → b < 1000 → s ≡ firstLine (K .word) a b ++ drop (length (K .word) + 7) s → (K .Right a b → ⊥) → P (refused range 1)) →
+      ((a b : ℕ) → a < 1000 → b < 1000 → s ≡ firstLine (K .word) a b ++ drop (length (K .word) + 7) s → K .Right a b → P (passed (make a b))) → P phase
   line-outcome P none out in-range =
-      first-outcome s (K .word) (λ w. P (firstPhase w (K .bounds) make form range)) (K .whole)
-      (λ none′. none (λ a b rest ha hb e. none′ a b rest ha hb (e ∙ K .written a b rest)))
-      (λ a b ha hb e. by a b ha hb (e ∙ sym (K .written a b (drop (length (K .word) + 7) s))) (inBounds (K .bounds) a b) refl)
+      first-outcome s (K .word) (λ w. P (firstPhase w (K .bounds) make form range)) (K .whole) none
+      (λ a b ha hb e. by a b ha hb e (inBounds (K .bounds) a b) refl)
     where
-      by : (a b : ℕ) → a < 1000 → b < 1000 → s ≡ K .line a b ++ drop (length (K .word) + 7) s → (t : Bool) → inBounds (K .bounds) a b ≡ t →
+      by : (a b : ℕ) → a < 1000 → b < 1000 → s ≡ firstLine (K .word) a b ++ drop (length (K .word) + 7) s → (t : Bool) → inBounds (K .bounds) a b ≡ t →
           P (choose t (passed (make a b)) (refused range 1))
       by a b ha hb e true h = in-range a b ha hb e (K .right a b (between-is a b h))
       by a b ha hb e false h = out a b ha hb e (λ r. true≢false (sym (between-of a b (K .within a b r)) ∙ h))
 
   -- The other way round
 
-  pub line-form : NoLine → phase ≡ refused form 1
+  pub line-form : NoFirst s (K .word) → phase ≡ refused form 1
   line-form none = line-outcome (λ p. p ≡ refused form 1) (λ _. refl) (λ a b ha hb e out. absurd (none a b _ ha hb e)) (λ a b ha hb e h. absurd (none a b _ ha hb e))
 
-  module _ (a b : ℕ) (rest : List ℕ) (ha : a < 1000) (hb : b < 1000) (e : s ≡ K .line a b ++ rest) where
+  module _ (a b : ℕ) (rest : List ℕ) (ha : a < 1000) (hb : b < 1000) (e : s ≡ firstLine (K .word) a b ++ rest) where
     read : (t : Bool) → inBounds (K .bounds) a b ≡ t → phase ≡ choose t (passed (make a b)) (refused range 1)
-    read t h = simp (first-of s (K .word) a b rest ha hb (e ∙ K .written a b rest), h)
+    read t h = simp (first-of s (K .word) a b rest ha hb e, h)
 
     pub line-right : K .Right a b → phase ≡ passed (make a b)
     line-right r = read true (between-of a b (K .within a b r))

@@ -1,10 +1,9 @@
 -- The first line of a sheet: it passes or is refused as Format says. Assumes nothing.
 use Prim.Native.Nat.{ℕ, _≤_, _<_}
 use mathlib.Core.Path.{_≡_, refl}
-use mathlib.Core.List.{List, _++_, append-assoc}
+use mathlib.Core.List.{List, _++_}
 use lib.ListN.{length, drop}
 use native.Mathlib.Omega.{arith}
-use Rattle.text.specs.Pair.{twoNumbers}
 use Rattle.automaton.specs.Automaton.{InRange}
 use Rattle.format.specs.Format.{sheetWord, headLine, most, Faulty, head, range}
 use Rattle.parser.specs.declared.Sizes.{Sizes}
@@ -12,18 +11,12 @@ use Rattle.parser.specs.Parse.{sizes, sheetBounds, headOf}
 use Rattle.parser.specs.Phase.{Phase, refused, passed}
 use Rattle.parser.specs.FirstLaws.{Kind, line-outcome, line-form, line-right, line-range}
 
-head-text : (n k : ℕ) (rest : List ℕ) → headLine n k ++ rest ≡ sheetWord ++ twoNumbers n k rest
-unfolding headLine
-head-text n k rest = simp append-assoc
-
 abbrev sheetFirst : Kind
 sheetFirst = record {
   word = sheetWord;
-  line = headLine;
   Right = InRange;
   bounds = sheetBounds;
   whole = refl;
-  written = head-text;
   within = λ n k h. h;
   right = λ n k h. h;
 }
@@ -34,21 +27,21 @@ HeadOutcome s (passed z) = InRange (z .n) (z .k) × (s ≡ headLine (z .n) (z .k
 
 module _ (s : List ℕ) where
   pub head-outcome : length s ≤ most → HeadOutcome s (headOf s)
-  unfolding headOf
+  unfolding headOf headLine
   head-outcome size =
       line-outcome sheetFirst s sizes 3 4 (HeadOutcome s) (head size) (λ n k hn hk e out. range size n k (drop 12 s) hn hk e out) (λ n k hn hk e h. (h, e))
 
   -- The other way round
 
   pub head-form : ((n k : ℕ) (rest : List ℕ) → n < 1000 → k < 1000 → s ≡ headLine n k ++ rest → ⊥) → headOf s ≡ refused 3 1
-  unfolding headOf
+  unfolding headOf headLine
   head-form none = line-form sheetFirst s sizes 3 4 none
 
   module _ (n k : ℕ) (rest : List ℕ) where
     pub head-range : n < 1000 → k < 1000 → s ≡ headLine n k ++ rest → (InRange n k → ⊥) → headOf s ≡ refused 4 1
-    unfolding headOf
+    unfolding headOf headLine
     head-range hn hk e out = line-range sheetFirst s sizes 3 4 n k rest hn hk e out
 
     pub head-right : InRange n k → s ≡ headLine n k ++ rest → headOf s ≡ passed (sizes n k)
-    unfolding headOf
+    unfolding headOf headLine
     head-right h e = line-right sheetFirst s sizes 3 4 n k rest (omega arith) (omega arith) e h

@@ -7,20 +7,20 @@ use lib.ListN.{length, take, drop, length-append}
 use lib.Seq.{take-append-seam, drop-append-seam}
 use native.Mathlib.Omega.{arith}
 use Rattle.text.specs.BytesLaws.{stretch-rest}
-use Rattle.text.specs.Column.{column}
+use Rattle.text.specs.PairLaws.{first-length}
 use Rattle.names.specs.Name.{compose}
 use Rattle.format.specs.Format.{Sheet, NamesRight, endLine}
 use Rattle.parser.specs.Phase.{refused, passed, andThen}
 use Rattle.parser.specs.EndLaws.{end-missing, end-behind, end-read}
-use Rattle.plan.specs.Plan.{planHead, nameLines, PlanIs, Above, Faulty}
+use Rattle.plan.specs.Plan.{planWord, planHead, nameLines, PlanIs, Above, Faulty}
 use Rattle.plan.specs.Parse.{lengths, lettered, lettersAt, endOf, contents, afterHead, planOf}
 use Rattle.plan.specs.HeadLaws.{head-right, head-range, head-form}
 use Rattle.plan.specs.LineLaws.{LetterFault, no-name, unknown-name, letters-fault, letters-along}
 use Rattle.plan.specs.ParseLaws.{known-length}
 
 head-length : (lead cycle : ℕ) → length (planHead lead cycle) ≡ 11
-unfolding planHead column
-head-length lead cycle = refl
+unfolding planHead
+head-length lead cycle = first-length planWord lead cycle
 
 module _ (σ : Sheet) (all : length (σ .names) ≡ σ .k) (right : NamesRight [] (σ .names)) where
   abbrev composed : List (List ℕ)

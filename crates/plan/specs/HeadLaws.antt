@@ -1,10 +1,9 @@
 -- The first line of a plan: it passes or is refused as Plan says. Assumes nothing.
 use Prim.Native.Nat.{ℕ, _<_}
 use mathlib.Core.Path.{_≡_, refl}
-use mathlib.Core.List.{List, _++_, append-assoc}
+use mathlib.Core.List.{List, _++_}
 use lib.ListN.{drop}
 use native.Mathlib.Omega.{arith}
-use Rattle.text.specs.Pair.{twoNumbers}
 use Rattle.format.specs.Format.{Sheet}
 use Rattle.parser.specs.Phase.{Phase, refused, passed}
 use Rattle.parser.specs.FirstLaws.{Kind, line-outcome, line-form, line-right, line-range}
@@ -12,18 +11,12 @@ use Rattle.plan.specs.declared.Lengths.{Lengths}
 use Rattle.plan.specs.Plan.{planWord, planHead, LengthsRight, Faulty}
 use Rattle.plan.specs.Parse.{lengths, planBounds, headOf}
 
-head-text : (lead cycle : ℕ) (rest : List ℕ) → planHead lead cycle ++ rest ≡ planWord ++ twoNumbers lead cycle rest
-unfolding planHead
-head-text lead cycle rest = simp append-assoc
-
 abbrev planFirst : Kind
 planFirst = record {
   word = planWord;
-  line = planHead;
   Right = LengthsRight;
   bounds = planBounds;
   whole = refl;
-  written = head-text;
   within = λ lead cycle h. (omega arith, h .lead-most, h .cycle-some, h .cycle-most);
   right = λ lead cycle h. record { lead-most = h .1; cycle-some = h .2; cycle-most = h .3 };
 }
@@ -34,21 +27,21 @@ HeadOutcome σ p (passed z) = LengthsRight (z .lead) (z .cycle) × (p ≡ planHe
 
 module _ (p : List ℕ) where
   pub head-outcome : (σ : Sheet) → HeadOutcome σ p (headOf p)
-  unfolding headOf
+  unfolding headOf planHead
   head-outcome σ =
       line-outcome planFirst p lengths 12 13 (HeadOutcome σ p) Faulty.head (λ m c hm hc e out. Faulty.range m c (drop 11 p) hm hc e out) (λ m c hm hc e h. (h, e))
 
   -- The other way round
 
   pub head-form : ((lead cycle : ℕ) (rest : List ℕ) → lead < 1000 → cycle < 1000 → p ≡ planHead lead cycle ++ rest → ⊥) → headOf p ≡ refused 12 1
-  unfolding headOf
+  unfolding headOf planHead
   head-form none = line-form planFirst p lengths 12 13 none
 
   module _ (lead cycle : ℕ) (rest : List ℕ) where
     pub head-range : lead < 1000 → cycle < 1000 → p ≡ planHead lead cycle ++ rest → (LengthsRight lead cycle → ⊥) → headOf p ≡ refused 13 1
-    unfolding headOf
+    unfolding headOf planHead
     head-range h g e out = line-range planFirst p lengths 12 13 lead cycle rest h g e out
 
     pub head-right : LengthsRight lead cycle → p ≡ planHead lead cycle ++ rest → headOf p ≡ passed (lengths lead cycle)
-    unfolding headOf
+    unfolding headOf planHead
     head-right h e = line-right planFirst p lengths 12 13 lead cycle rest (omega (arith, h .lead-most)) (omega (arith, h .cycle-most)) e h

@@ -1,6 +1,6 @@
 -- Two numbers that end a line, as in "SHEET, then n (3 columns), k (3)": every line of numbers ends with two.
 use Prim.Native.Nat.{ℕ, _+_}
-use mathlib.Core.List.{List, _∷_, _++_}
+use mathlib.Core.List.{List, [], _∷_, _++_}
 use lib.ListN.{length, getD}
 use lib.Dec.{eqb}
 use Rattle.text.specs.Choice.{choose}
@@ -29,5 +29,9 @@ withPair (Are a b) go bad = go a b
 withPair Bad go bad = bad
 
 -- a first line: a word, and two numbers
+abbrev pub firstLine : List ℕ → ℕ → ℕ → List ℕ
+firstLine word a b = word ++ twoNumbers a b []
+
+-- the two numbers of a first line
 abbrev pub wordAndPair : List ℕ → List ℕ → Pair
 wordAndPair s word = choose (startsAt s 0 word) (pairAt s (length word)) Bad

@@ -2,8 +2,8 @@
 use Prim.Native.Nat.{ℕ, _+_, _<_}
 use mathlib.Core.Path.{_≡_, refl, sym, _∙_, ap}
 use mathlib.Core.Bool.{Bool, true, false}
-use mathlib.Core.List.{List, _∷_, _++_}
-use lib.ListN.{length, getD, drop}
+use mathlib.Core.List.{List, [], _∷_, _++_, append-assoc}
+use lib.ListN.{length, getD, drop, length-append}
 use lib.Dec.{eqb}
 use borrow.Author.Tests.{eq-eqb, eqb-true}
 use native.Mathlib.Omega.{arith}
@@ -15,7 +15,7 @@ use Rattle.text.specs.BytesLaws.{stretch-rest}
 use Rattle.text.specs.Column.{column}
 use Rattle.text.specs.Number.{numberAt}
 use Rattle.text.specs.NumberLaws.{some-number, column-of, number-is}
-use Rattle.text.specs.Pair.{twoNumbers, pairAt, withPair, wordAndPair}
+use Rattle.text.specs.Pair.{twoNumbers, firstLine, pairAt, withPair, wordAndPair}
 use Rattle.text.specs.Word.{startsAt, noZero}
 use Rattle.text.specs.WordLaws.{byte-is, goes-on, starts-word, starts-is, no-word}
 use Rattle.text.specs.declared.Number.the-variants as N
@@ -58,24 +58,33 @@ module _ (s : List ℕ) (at a b : ℕ) where
       (w1 .0, w2 .0, rw (w1 .1, t2, t3))
 
 -- A FIRST LINE: a word and two numbers
+pub first-length : (word : List ℕ) (a b : ℕ) → length (firstLine word a b) ≡ length word + 7
+unfolding column
+first-length word a b = length-append word (twoNumbers a b [])
+
+first-parted : (word : List ℕ) (a b : ℕ) (rest : List ℕ) → firstLine word a b ++ rest ≡ word ++ twoNumbers a b rest
+first-parted word a b rest = simp append-assoc
+
 module _ (s word : List ℕ) where
-  abbrev NoFirst : Type 0
-  NoFirst = (a b : ℕ) (rest : List ℕ) → a < 1000 → b < 1000 → s ≡ word ++ twoNumbers a b rest → ⊥
+  abbrev pub NoFirst : Type 0
+  NoFirst = (a b : ℕ) (rest : List ℕ) → a < 1000 → b < 1000 → s ≡ firstLine word a b ++ rest → ⊥
 
   pair-there : (a b : ℕ) (rest : List ℕ) → a < 1000 → b < 1000 → s ≡ word ++ twoNumbers a b rest → pairAt s (length word) ≡ Are a b
   pair-there a b rest ha hb e = rw zero-add at (pair-of s (0 + length word) a b rest ha hb (stretch-rest s 0 word (twoNumbers a b rest) e))
 
-  pub first-of : (a b : ℕ) (rest : List ℕ) → a < 1000 → b < 1000 → s ≡ word ++ twoNumbers a b rest → wordAndPair s word ≡ Are a b
-  first-of a b rest ha hb e = simp (starts-word s 0 word (twoNumbers a b rest) e, pair-there a b rest ha hb e)
+  pub first-of : (a b : ℕ) (rest : List ℕ) → a < 1000 → b < 1000 → s ≡ firstLine word a b ++ rest → wordAndPair s word ≡ Are a b
+  first-of a b rest ha hb e =
+      let f = e ∙ first-parted word a b rest in
+      simp (starts-word s 0 word (twoNumbers a b rest) f, pair-there a b rest ha hb f)
 
   -- what is so where there is no such line, and where there is one, is so of what is read
   pub first-outcome : (P : Pair → Type 0) → noZero word ≡ true → (NoFirst → P Bad)
-      → ((a b : ℕ) → a < 1000 → b < 1000 → s ≡ word ++ twoNumbers a b (drop (length word + 7) s) → P (Are a b)) → P (wordAndPair s word)
+      → ((a b : ℕ) → a < 1000 → b < 1000 → s ≡ firstLine word a b ++ drop (length word + 7) s → P (Are a b)) → P (wordAndPair s word)
   first-outcome P z none some = by (startsAt s 0 word) (pairAt s (length word)) refl refl
     where
       by : (t : Bool) (w : Pair) → startsAt s 0 word ≡ t → pairAt s (length word) ≡ w → P (choose t w Bad)
-      by false w e f = none (λ a b rest ha hb g. no-word s 0 word (twoNumbers a b rest) e g)
-      by true Bad e f = none (λ a b rest ha hb g. bad-is-not s (length word) a b (sym f ∙ pair-there a b rest ha hb g))
+      by false w e f = none (λ a b rest ha hb g. no-word s 0 word (twoNumbers a b rest) e (g ∙ first-parted word a b rest))
+      by true Bad e f = none (λ a b rest ha hb g. bad-is-not s (length word) a b (sym f ∙ pair-there a b rest ha hb (g ∙ first-parted word a b rest)))
       by true (Are a b) e f =
           let w = pair-is s (length word) a b f in
-          some a b (w .0) (w .1) (starts-is s 0 word z e ∙ rw (zero-add, w .2))
+          some a b (w .0) (w .1) (starts-is s 0 word z e ∙ (rw (zero-add, w .2) (sym (first-parted word a b (drop (length word + 7) s)))))
