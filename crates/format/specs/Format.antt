@@ -165,6 +165,26 @@ abbrev pub lineDue : Sheet → ℕ
 lineDue σ = 2 + (length (σ .names) + (length (σ .states) + length (σ .transitions)))
 
 -- "A missing line counts as a faulty line of the kind due there, and a line without LF is faulty": neither opens with the line's text.
+
+-- the faults where a name is due behind earlier ones; the rest of the file starts there
+pub data NameFault (earlier : List (List ℕ)) (rest : List ℕ) : ℕ → Type 0 where
+  -- "Is each name line of its form? No: 5."
+  wrong-name : ((x after : List ℕ) → IsName x → rest ≡ nameLine (length earlier) x ++ after → ⊥) → NameFault earlier rest 5
+  -- "Are all names distinct after composing? No: 6, on the later line."
+  name-twice : (x after : List ℕ) → IsName x → rest ≡ nameLine (length earlier) x ++ after → (Distinct earlier x → ⊥) → NameFault earlier rest 6
+
+-- those where a transition or END is due, on line `line`
+-- "After the states and up to `END`, a line beginning with T answers to question 8, any other to 9."
+pub data EndFault (n k least : ℕ) (rest : List ℕ) (line : ℕ) : ℕ → ℕ → Type 0 where
+  -- "Each transition line of its form, in range and in order? No: 8."
+  wrong-transition : getD rest 0 0 ≡ 84 → ((t : Transition) (after : List ℕ) → TransitionRight n k least t → rest ≡ transitionLine t ++ after → ⊥)
+      → EndFault n k least rest line 8 line
+  -- "Is `END` last? No: 9."
+  no-end : (getD rest 0 0 ≡ 84 → ⊥) → ((after : List ℕ) → rest ≡ endLine ++ after → ⊥) → EndFault n k least rest line 9 line
+  -- "What follows `END` is a fault of the line after it: 9 in a sheet".
+  not-last : (after : List ℕ) → rest ≡ endLine ++ after → (after ≡ [] → ⊥) → EndFault n k least rest line 9 (suc line)
+
+-- THE FAULT of a file: its number and its line
 pub data Faulty (s : List ℕ) : ℕ → ℕ → Type 0 where
   -- "Is the sheet at most 24,576 bytes ..? No: 2."
   size : most < length s → Faulty s 2 0
@@ -172,22 +192,11 @@ pub data Faulty (s : List ℕ) : ℕ → ℕ → Type 0 where
   head : length s ≤ most → ((n k : ℕ) (rest : List ℕ) → n < 1000 → k < 1000 → s ≡ headLine n k ++ rest → ⊥) → Faulty s 3 1
   -- "Are n and k in range? No: 4."
   range : length s ≤ most → (n k : ℕ) (rest : List ℕ) → n < 1000 → k < 1000 → s ≡ headLine n k ++ rest → (InRange n k → ⊥) → Faulty s 4 1
-  -- "Is each name line of its form? No: 5."
-  name : (σ : Sheet) (rest : List ℕ) → Above s σ rest → NameDue σ
-      → ((x after : List ℕ) → IsName x → rest ≡ nameLine (length (σ .names)) x ++ after → ⊥) → Faulty s 5 (lineDue σ)
-  -- "Are all names distinct after composing? No: 6, on the later line."
-  twice : (σ : Sheet) (rest : List ℕ) → Above s σ rest → NameDue σ
-      → (x after : List ℕ) → IsName x → rest ≡ nameLine (length (σ .names)) x ++ after → (Distinct (σ .names) x → ⊥) → Faulty s 6 (lineDue σ)
+  -- 5 and 6
+  name : {number : ℕ} (σ : Sheet) (rest : List ℕ) → Above s σ rest → NameDue σ → NameFault (σ .names) rest number → Faulty s number (lineDue σ)
   -- "Is each state line of its form? No: 7."
   state : (σ : Sheet) (rest : List ℕ) → Above s σ rest → StateDue σ
       → ((z : State) (after : List ℕ) → FlagsRight z → rest ≡ stateLine (length (σ .states)) z ++ after → ⊥) → Faulty s 7 (lineDue σ)
-  -- "After the states and up to `END`, a line beginning with T answers to question 8, any other to 9."
-  -- "Each transition line of its form, in range and in order? No: 8."
-  transition : (σ : Sheet) (rest : List ℕ) → Above s σ rest → EndDue σ → getD rest 0 0 ≡ 84
-      → ((t : Transition) (after : List ℕ) → TransitionRight (σ .n) (σ .k) (leastAfter 0 (σ .transitions)) t → rest ≡ transitionLine t ++ after → ⊥)
-      → Faulty s 8 (lineDue σ)
-  -- "Is `END` last? No: 9."
-  end : (σ : Sheet) (rest : List ℕ) → Above s σ rest → EndDue σ → (getD rest 0 0 ≡ 84 → ⊥)
-      → ((after : List ℕ) → rest ≡ endLine ++ after → ⊥) → Faulty s 9 (lineDue σ)
-  -- "What follows `END` is a fault of the line after it: 9 in a sheet".
-  behind : (σ : Sheet) (after : List ℕ) → Above s σ (endLine ++ after) → EndDue σ → (after ≡ [] → ⊥) → Faulty s 9 (suc (lineDue σ))
+  -- 8 and 9
+  end : {number line : ℕ} (σ : Sheet) (rest : List ℕ) → Above s σ rest → EndDue σ
+      → EndFault (σ .n) (σ .k) (leastAfter 0 (σ .transitions)) rest (lineDue σ) number line → Faulty s number line

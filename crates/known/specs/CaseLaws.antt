@@ -104,8 +104,8 @@ module _ (s p : List ℕ) (f g : Store) (σ : Sheet) (file : FileIs s σ) (x : C
   plan-number : (number line : ℕ) → Plan.Faulty σ p number line → 12 ≤ number
   plan-number number line (Plan.Faulty.head h) = omega arith
   plan-number number line (Plan.Faulty.range lead cycle rest a b e h) = omega arith
-  plan-number number line (Plan.Faulty.name lead cycle names rest a b h) = omega arith
-  plan-number number line (Plan.Faulty.unknown lead cycle names rest a b y after c e h) = omega arith
+  plan-number number line (Plan.Faulty.name lead cycle names rest a b (Plan.wrong-name h)) = omega arith
+  plan-number number line (Plan.Faulty.name lead cycle names rest a b (Plan.unknown-name y after c e h)) = omega arith
   plan-number number line (Plan.Faulty.end lead cycle names rest a b h) = omega arith
   plan-number number line (Plan.Faulty.behind lead cycle names after a b h) = omega arith
 

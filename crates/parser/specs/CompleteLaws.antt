@@ -7,7 +7,7 @@ use borrow.Author.Tests.{lt-ltb, le-ltb}
 use native.Mathlib.Omega.{arith}
 use native.Mathlib.Nat.{zero-add}
 use Rattle.names.specs.Name.{compose}
-use Rattle.format.specs.Format.{State, Sheet, headLine, nameLines, stateLines, transitionLines, endLine, FlagsRight, stateLine, leastAfter, most, FileIs, Above, NameDue, StateDue, lineDue, Faulty}
+use Rattle.format.specs.Format.{State, Sheet, headLine, nameLines, stateLines, transitionLines, endLine, FlagsRight, stateLine, leastAfter, most, FileIs, Above, NameDue, StateDue, lineDue, NameFault, EndFault, Faulty}
 use Rattle.format.specs.Numbers.{flagSet, tableOf}
 use Rattle.format.specs.FormatLaws.{head-length, states-length, transitions-length, lines-parted}
 use Rattle.parser.specs.declared.Sizes.{Sizes}
@@ -17,9 +17,9 @@ use Rattle.parser.specs.Parse.{stateLineAt, Named, namesAt, statesAt, tr
 use Rattle.parser.specs.Phase.{Phase, refused, passed, andThen}
 use Rattle.text.specs.BytesLaws.{stretch-rest}
 use Rattle.parser.specs.HeadLaws.{head-right, head-range, head-form}
-use Rattle.parser.specs.NameLaws.{NameFault, wrong-name, known-name, NamesAlong, names-along, names-fault}
+use Rattle.parser.specs.NameLaws.{NamesAlong, names-along, names-fault}
 use Rattle.parser.specs.StateLaws.{state-none, states-along}
-use Rattle.parser.specs.TransitionLaws.{EndFault, wrong-transition, no-end, not-last, transitions-along, transitions-end, transitions-fault}
+use Rattle.parser.specs.TransitionLaws.{transitions-along, transitions-end, transitions-fault}
 
 module _ (s : List ℕ) (σ : Sheet) (rest : List ℕ) (above : Above s σ rest) where
   sizes : Sizes
@@ -189,12 +189,9 @@ unfolding parse
 faulty-parse s number line (Faulty.size h) = simp (lt-ltb most (length s) h)
 faulty-parse s number line (Faulty.head size none) = simp (le-ltb most (length s) size, head-form s none)
 faulty-parse s number line (Faulty.range size n k rest hn hk e out) = simp (le-ltb most (length s) size, head-range s n k rest hn hk e out)
-faulty-parse s number line (Faulty.name σ rest above due none) = name-found s σ rest above due (wrong-name none)
-faulty-parse s number line (Faulty.twice σ rest above due x after is e d) = name-found s σ rest above due (known-name x after is e d)
+faulty-parse s number line (Faulty.name σ rest above due fault) = name-found s σ rest above due fault
 faulty-parse s number line (Faulty.state σ rest above due none) = state-found s σ rest above (due .names) due none
-faulty-parse s number line (Faulty.transition σ rest above due first none) = end-found s σ rest above (due .names) (due .states) (wrong-transition first none)
-faulty-parse s number line (Faulty.end σ rest above due other none) = end-found s σ rest above (due .names) (due .states) (no-end other none)
-faulty-parse s number line (Faulty.behind σ after above due some) = end-found s σ (endLine ++ after) above (due .names) (due .states) (not-last after refl some)
+faulty-parse s number line (Faulty.end σ rest above due fault) = end-found s σ rest above (due .names) (due .states) fault
 
 -- EVERY SHEET FILE is read
 pub file-read : (s : List ℕ) (σ : Sheet) → FileIs s σ → (c : Contents) × (parse s ≡ passed c)

@@ -19,7 +19,7 @@ use Rattle.names.specs.Scan.{nameEndAt}
 use Rattle.names.specs.ScanLaws.{name-is, name-ends}
 use Rattle.names.specs.declared.Ending.{Ending}
 use Rattle.names.specs.declared.Ending.the-variants as E
-use Rattle.format.specs.Format.{nameLine, nameLines, Distinct, NamesRight}
+use Rattle.format.specs.Format.{nameLine, nameLines, Distinct, NamesRight, NameFault, wrong-name, name-twice}
 use Rattle.format.specs.FormatLaws.{name-parted, name-behind, name-rest}
 use Rattle.parser.specs.Parse.{Named, nameLineAt, namesAt}
 use Rattle.parser.specs.Phase.{Phase, refused, passed, withEnding, letterOf}
@@ -61,11 +61,6 @@ module _ (s : List ℕ) (at l : ℕ) where
             numbered-is s at 78 l (omega arith) opening
             ∙ (ap (λ (y : List ℕ). 78 ∷ (column 3 l ++ y)) (behind ∙ ap (space ∷_) (name .line)) ∙ sym (name-parted l (stretch s (at + 5) e) (drop (e + 1) s)));
       }
-
--- THE FAULTS where a name is due behind earlier ones
-pub data NameFault (earlier : List (List ℕ)) (rest : List ℕ) : ℕ → Type 0 where
-  wrong-name : ((x after : List ℕ) → IsName x → rest ≡ nameLine (length earlier) x ++ after → ⊥) → NameFault earlier rest 5
-  known-name : (x after : List ℕ) → IsName x → rest ≡ nameLine (length earlier) x ++ after → (Distinct earlier x → ⊥) → NameFault earlier rest 6
 
 -- THE PHASE, behind earlier names: the names of the lines that it read
 
@@ -149,7 +144,7 @@ names-outcome s (suc todo) line at earlier hl =
         names-step s line at earlier todo e h (letter-distinct (stretch s (at + 5) e) earlier (eqb-true _ _ q)) (go e)
         (subst (Next e (stretch s (at + 5) e)) (map-append compose earlier (stretch s (at + 5) e ∷ [])) (ih (stretch s (at + 5) e)))
     known e h false q ih =
-        at-once (known-name (stretch s (at + 5) e) (drop (e + 1) s) (h .is-name) (h .text) (λ d. eqb-false _ _ q (distinct-letter (stretch s (at + 5) e) earlier d)))
+        at-once (name-twice (stretch s (at + 5) e) (drop (e + 1) s) (h .is-name) (h .text) (λ d. eqb-false _ _ q (distinct-letter (stretch s (at + 5) e) earlier d)))
 
     by : (w : Ending) → nameLineAt s at (length (map compose earlier)) ≡ w → ((e : ℕ) (x : List ℕ) → Next e x (map compose (earlier ++ (x ∷ [])))) →
         NamesOutcome s line at earlier (suc todo)
@@ -194,7 +189,7 @@ module _ (s : List ℕ) (line at : ℕ) (earlier : List (List ℕ)) (todo : ℕ)
   names-fault (wrong-name none) =
       let w : nameLineAt s at (length (map compose earlier)) ≡ E.Bad = rw length-map (name-none s at (length earlier) none) in
       simp w
-  names-fault (known-name x after is e d) =
+  names-fault (name-twice x after is e d) =
       let w = name-line-of s at (length earlier) x after few is e in
       let t : letterOf (map compose earlier) (compose (stretch s (at + 5) (at + 5 + length x))) ≡ length (map compose earlier) → ⊥ = λ f. d (letter-distinct x earlier (rw (w .1) at f)) in
       name-read (at + 5 + length x) (w .0) ∙ simp (ne-eqb _ _ t)

@@ -1,5 +1,5 @@
 -- A file read from the top is the sheet file of Format or has its fault: the phases, one after the other. Assumes nothing.
-use Prim.Native.Nat.{ℕ, suc, _+_, _≤_}
+use Prim.Native.Nat.{ℕ, _+_, _≤_}
 use mathlib.Core.Path.{_≡_, refl, sym, subst, _∙_}
 use mathlib.Core.Bool.{Bool, true, false}
 use mathlib.Core.List.{List, [], _++_, map}
@@ -11,7 +11,7 @@ use native.Mathlib.Nat.{zero-add}
 use Rattle.text.specs.Choice.{choose}
 use Rattle.names.specs.Name.{compose}
 use Rattle.automaton.specs.Automaton.{InRange}
-use Rattle.format.specs.Format.{State, Transition, Sheet, headLine, stateLine, FlagsRight, nameLines, stateLines, transitionLines, endLine, lines, leastAfter, most, FileIs, Above, NameDue, StateDue, EndDue, lineDue, Faulty}
+use Rattle.format.specs.Format.{State, Transition, Sheet, headLine, stateLine, FlagsRight, nameLines, stateLines, transitionLines, endLine, lines, leastAfter, most, FileIs, Above, NameDue, StateDue, EndDue, lineDue, EndFault, Faulty}
 use Rattle.format.specs.Numbers.{numbers}
 use Rattle.format.specs.FormatLaws.{lines-parted}
 use Rattle.parser.specs.declared.Sizes.{Sizes}
@@ -19,9 +19,9 @@ use Rattle.parser.specs.declared.Sets.{Sets}
 use Rattle.parser.specs.Parse.{headOf, Named, namesAt, statesAt, transitionsAt, Contents, contents, afterHead, afterNames, afterStates, parse}
 use Rattle.parser.specs.Phase.{Phase, refused, passed, andThen}
 use Rattle.parser.specs.HeadLaws.{HeadOutcome, head-outcome}
-use Rattle.parser.specs.NameLaws.{NameFault, wrong-name, known-name, NamesOutcome, NamesRefused, NamesPassed, names-outcome}
+use Rattle.parser.specs.NameLaws.{NamesOutcome, NamesRefused, NamesPassed, names-outcome}
 use Rattle.parser.specs.StateLaws.{StatesOutcome, StatesRefused, StatesPassed, states-outcome}
-use Rattle.parser.specs.TransitionLaws.{EndFault, wrong-transition, no-end, not-last, TransitionsOutcome, TransitionsRefused, TransitionsPassed, transitions-outcome}
+use Rattle.parser.specs.TransitionLaws.{TransitionsOutcome, TransitionsRefused, TransitionsPassed, transitions-outcome}
 
 -- the upper part of a sheet
 abbrev upper : ℕ → ℕ → List (List ℕ) → List State → List Transition → Sheet
@@ -51,7 +51,7 @@ Means s (passed c) = (σ : Sheet) × FileIs s σ × AreContents σ c
 module _ (s : List ℕ) (size : length s ≤ most) (z : Sizes) (range : InRange (z .n) (z .k)) (head : s ≡ headLine (z .n) (z .k) ++ drop 12 s) where
   names-refuse : (number line : ℕ) → NamesRefused s 2 12 [] (z .k) number line → Faulty s number line
   unfolding stateLines transitionLines
-  names-refuse number line h = subst (Faulty s number) (sym (h .here)) (by (h .fault))
+  names-refuse number line h = subst (Faulty s number) l (Faulty.name σ (h .rest) above due (h .fault))
     where
       σ : Sheet
       σ = upper (z .n) (z .k) (h .names) [] []
@@ -66,12 +66,8 @@ module _ (s : List ℕ) (size : length s ≤ most) (z : Sizes) (range : InRange 
       due : NameDue σ
       due = record { names = h .count; states = refl; transitions = refl }
 
-      l : lineDue σ ≡ 2 + length (h .names)
-      l = omega arith
-
-      by : {x : ℕ} → NameFault (h .names) (h .rest) x → Faulty s x (2 + length (h .names))
-      by (wrong-name none) = subst (Faulty s 5) l (Faulty.name σ (h .rest) above due none)
-      by (known-name x after is e d) = subst (Faulty s 6) l (Faulty.twice σ (h .rest) above due x after is e d)
+      l : lineDue σ ≡ line
+      l = omega (arith, h .here)
 
   module _ (y : Named) (g : NamesPassed s 2 12 [] (z .k) y) where
     states-refuse : (number line : ℕ) → StatesRefused s (y .line) (y .at) 0 (z .n) number line → Faulty s number line
@@ -99,7 +95,7 @@ module _ (s : List ℕ) (size : length s ≤ most) (z : Sizes) (range : InRange 
 
     module _ (q : Sets) (h : StatesPassed s (y .line) (y .at) 0 0 0 (z .n) q) where
       transitions-refuse : (number line : ℕ) → TransitionsRefused s (z .n) (z .k) (q .line) (q .at) 0 number line → Faulty s number line
-      transitions-refuse number line t = by (t .fault)
+      transitions-refuse number line t = Faulty.end σ (t .rest) above due fault
         where
           σ : Sheet
           σ = upper (z .n) (z .k) (g .names) (h .states) (t .transitions)
@@ -117,11 +113,8 @@ module _ (s : List ℕ) (size : length s ≤ most) (z : Sizes) (range : InRange 
           l : lineDue σ ≡ q .line + length (t .transitions)
           l = omega (arith, h .next, g .next)
 
-          by : {x m : ℕ} → EndFault (z .n) (z .k) (leastAfter 0 (t .transitions)) (t .rest) (q .line + length (t .transitions)) x m → Faulty s x m
-          by (wrong-transition first none) = subst (Faulty s 8) l (Faulty.transition σ (t .rest) above due first none)
-          by (no-end other none) = subst (Faulty s 9) l (Faulty.end σ (t .rest) above due other none)
-          by (not-last after e some) =
-              subst (λ (m : ℕ). Faulty s 9 (suc m)) l (Faulty.behind σ after (subst (Above s σ) e above) due some)
+          fault : EndFault (z .n) (z .k) (leastAfter 0 (t .transitions)) (t .rest) (lineDue σ) number line
+          fault = rw l (t .fault)
 
       sheet-read : (table : List ℕ) → TransitionsPassed s (z .n) (z .k) (q .at) 0 (replicate 128 0) table → Means s (passed (contents z y q table))
       unfolding numbers

@@ -14,7 +14,7 @@ use Rattle.text.specs.Choice.{choose}
 use Rattle.text.specs.Column.{column}
 use Rattle.text.specs.Number.{numberAt}
 use Rattle.text.specs.declared.Number.the-variants as N
-use Rattle.format.specs.Format.{Transition, transitionLine, transitionLines, endLine, place, TransitionRight, TransitionsRight, leastAfter}
+use Rattle.format.specs.Format.{Transition, transitionLine, transitionLines, endLine, place, TransitionRight, TransitionsRight, leastAfter, EndFault, wrong-transition, no-end, not-last}
 use Rattle.format.specs.Numbers.{inserted, tableOf}
 use Rattle.format.specs.FormatLaws.{transition-length}
 use Rattle.format.specs.NumbersLaws.{transition}
@@ -80,12 +80,6 @@ module _ (n k least : ℕ) where
         let h = right-is (e1 .0) (e2 .0) (e2 .1) f l t (e2 .3) in
         let g : Fields s at 84 f l t = record { opening = numbered-by s at 84 f first (e1 .1 ∙ ap N.Is (h .1)); two = e2 .2 ∙ rw (h .2, h .3) } in
         (h .0, fields-is s at 84 f l t (omega arith) g)
-
--- THE FAULTS where a transition or END is due: the rest of the file starts at line `line`
-pub data EndFault (n k least : ℕ) (rest : List ℕ) (line : ℕ) : ℕ → ℕ → Type 0 where
-  wrong-transition : getD rest 0 0 ≡ 84 → ((t : Transition) (after : List ℕ) → TransitionRight n k least t → rest ≡ transitionLine t ++ after → ⊥) → EndFault n k least rest line 8 line
-  no-end : (getD rest 0 0 ≡ 84 → ⊥) → ((after : List ℕ) → rest ≡ endLine ++ after → ⊥) → EndFault n k least rest line 9 line
-  not-last : (after : List ℕ) → rest ≡ endLine ++ after → (after ≡ [] → ⊥) → EndFault n k least rest line 9 (suc line)
 
 -- THE PHASE: the transitions of the lines that it read
 

@@ -12,10 +12,10 @@ use Rattle.names.specs.Name.{compose}
 use Rattle.format.specs.Format.{Sheet, NamesRight, endLine}
 use Rattle.parser.specs.Phase.{refused, passed, andThen}
 use Rattle.parser.specs.EndLaws.{end-missing, end-behind, end-read}
-use Rattle.plan.specs.Plan.{planWord, planHead, nameLines, PlanIs, Above, Faulty}
+use Rattle.plan.specs.Plan.{planWord, planHead, nameLines, PlanIs, Above, NameFault, Faulty}
 use Rattle.plan.specs.Parse.{lengths, lettered, lettersAt, endOf, contents, afterHead, planOf}
 use Rattle.plan.specs.HeadLaws.{head-right, head-range, head-form}
-use Rattle.plan.specs.LineLaws.{LetterFault, no-name, unknown-name, letters-fault, letters-along}
+use Rattle.plan.specs.LineLaws.{letters-fault, letters-along}
 use Rattle.plan.specs.ParseLaws.{known-length}
 
 head-length : (lead cycle : ℕ) → length (planHead lead cycle) ≡ 11
@@ -36,14 +36,14 @@ module _ (σ : Sheet) (all : length (σ .names) ≡ σ .k) (right : NamesRight [
     plan-head = simp (head-right p lead cycle (nameLines names ++ rest) (above .range) (above .text))
 
     -- a name is due
-    name-fault : {number : ℕ} → length names < lead + cycle → LetterFault σ rest number → planOf composed p ≡ refused number (2 + length names)
+    name-fault : {number : ℕ} → length names < lead + cycle → NameFault σ rest number → planOf composed p ≡ refused number (2 + length names)
     name-fault {number} due f =
         let left = lead + cycle - (1 + length names) in
         let (behind, text, goes) = letters-along σ all right p rest (suc left) 2 11 [] (above .known) after-head in
         let e : length names + suc left ≡ lead + cycle = omega arith in
         let w : lettersAt composed p 2 11 [] (lead + cycle) ≡ refused number (2 + length names) =
         ap (lettersAt composed p 2 11 []) (sym e)
-        ∙ (goes ∙ letters-fault σ all p (2 + length names) behind ([] ++ above .letters) left (subst (λ (r : List ℕ). LetterFault σ r number) (sym text) f)) in
+        ∙ (goes ∙ letters-fault σ all p (2 + length names) behind ([] ++ above .letters) left (subst (λ (r : List ℕ). NameFault σ r number) (sym text) f)) in
         plan-head ∙ simp w
 
     none-left : (behind : ℕ) → lettersAt composed p (2 + length names) behind (above .letters) 0 ≡ passed (lettered (above .letters) behind (2 + length names))
@@ -84,9 +84,7 @@ module _ (σ : Sheet) (all : length (σ .names) ≡ σ .k) (right : NamesRight [
   unfolding planOf
   fault-read p number line (Faulty.head f) = simp (head-form p f)
   fault-read p number line (Faulty.range lead cycle rest h g e out) = simp (head-range p lead cycle rest h g e out)
-  fault-read p number line (Faulty.name lead cycle names rest above due f) = name-fault p lead cycle names rest above due (no-name f)
-  fault-read p number line (Faulty.unknown lead cycle names rest above due x after is e f) =
-      name-fault p lead cycle names rest above due (unknown-name x after is e f)
+  fault-read p number line (Faulty.name lead cycle names rest above due f) = name-fault p lead cycle names rest above due f
   fault-read p number line (Faulty.end lead cycle names rest above due f) = no-end p lead cycle names rest above due f
   fault-read p number line (Faulty.behind lead cycle names after above due some) =
       not-last p lead cycle names (endLine ++ after) above after refl due some

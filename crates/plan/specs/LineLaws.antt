@@ -15,22 +15,17 @@ use Rattle.text.specs.Choice.{choose}
 use Rattle.text.specs.WordLaws.{goes-on}
 use Rattle.names.specs.Name.{IsName, compose}
 use Rattle.names.specs.Scan.{nameEndAt}
-use Rattle.names.specs.ScanLaws.{NameAt, name-is, name-ends, no-name as absent}
+use Rattle.names.specs.ScanLaws.{NameAt, name-is, name-ends, no-name}
 use Rattle.names.specs.declared.Ending.{Ending}
 use Rattle.names.specs.declared.Ending.the-variants as E
 use Rattle.format.specs.Format.{Sheet, NamesRight}
 use Rattle.sheet.specs.Letters.{StandsFor}
 use Rattle.parser.specs.Phase.{Phase, refused, passed, withEnding, letterOf}
-use Rattle.plan.specs.Plan.{nameLines, Known, none, more}
+use Rattle.plan.specs.Plan.{nameLines, Known, none, more, NameFault, wrong-name, unknown-name}
 use Rattle.plan.specs.declared.LetterLine.{LetterLine}
 use Rattle.plan.specs.declared.LetterLine.the-variants as L
 use Rattle.plan.specs.Parse.{Lettered, letterFrom, letterLineAt, withLetter, lettersAt}
 use Rattle.plan.specs.KnownLaws.{found-stands, found-none, stands-found}
-
--- THE FAULTS where a name is due
-pub data LetterFault (σ : Sheet) (rest : List ℕ) : ℕ → Type 0 where
-  no-name : ((x after : List ℕ) → IsName x → rest ≡ x ++ (lf ∷ after) → ⊥) → LetterFault σ rest 12
-  unknown-name : (x after : List ℕ) → IsName x → rest ≡ x ++ (lf ∷ after) → ((l : ℕ) → StandsFor σ x l → ⊥) → LetterFault σ rest 14
 
 -- THE PHASE, after some letters: the names of the lines that it read, and their letters
 pub record LettersPassed (σ : Sheet) (p : List ℕ) (line at : ℕ) (before : List ℕ) (todo : ℕ) (y : Lettered) : Type 0 where
@@ -50,7 +45,7 @@ pub record LettersRefused (σ : Sheet) (p : List ℕ) (line at todo number at-li
   pub count : length names < todo
   pub text : drop at p ≡ nameLines names ++ rest
   pub here : at-line ≡ line + length names
-  pub fault : LetterFault σ rest number
+  pub fault : NameFault σ rest number
 
 abbrev pub LettersOutcome : Sheet → List ℕ → ℕ → ℕ → List ℕ → ℕ → Phase Lettered → Type 0
 LettersOutcome σ p line at before todo (refused number at-line) = LettersRefused σ p line at todo number at-line
@@ -87,8 +82,8 @@ module _ (σ : Sheet) (all : length (σ .names) ≡ σ .k) where
   -- ONE LINE
   abbrev LineOutcome : List ℕ → ℕ → LetterLine → Type 0
   LineOutcome p at (L.Is l e) = NameAt p at e × StandsFor σ (stretch p at e) l
-  LineOutcome p at L.Unknown = LetterFault σ (drop at p) 14
-  LineOutcome p at L.Bad = LetterFault σ (drop at p) 12
+  LineOutcome p at L.Unknown = NameFault σ (drop at p) 14
+  LineOutcome p at L.Bad = NameFault σ (drop at p) 12
 
   line-outcome : (p : List ℕ) (at : ℕ) → LineOutcome p at (letterLineAt composed p at)
   unfolding letterLineAt
@@ -104,7 +99,7 @@ module _ (σ : Sheet) (all : length (σ .names) ≡ σ .k) where
       by : (w : Ending) → nameEndAt p at ≡ w
           → LineOutcome p at (withEnding w (λ e. choose (ltb (letterFrom composed p at e) (length composed)) (L.Is (letterFrom composed p at e) e) L.Unknown) L.Bad)
       by (E.At e) q = tell e (name-is p at e q) (ltb (letterFrom composed p at e) (length composed)) refl
-      by E.Bad q = no-name (λ x after is t. absent p x after at q is t)
+      by E.Bad q = wrong-name (λ x after is t. no-name p x after at q is t)
 
   -- THE PHASE
   pub letters-outcome : (p : List ℕ) (todo line at : ℕ) (before : List ℕ) → LettersOutcome σ p line at before todo (lettersAt composed p line at before todo)
@@ -118,7 +113,7 @@ module _ (σ : Sheet) (all : length (σ .names) ≡ σ .k) where
       go l e = lettersAt composed p (line + 1) (e + 1) (before ++ (l ∷ [])) todo
 
       -- nothing of the phase is read yet
-      at-once : {number : ℕ} → LetterFault σ (drop at p) number → LettersRefused σ p line at (suc todo) number line
+      at-once : {number : ℕ} → NameFault σ (drop at p) number → LettersRefused σ p line at (suc todo) number line
       at-once f = record { names = []; letters = []; rest = drop at p; known = none; count = omega arith; text = refl; here = omega arith; fault = f }
 
       by : (w : LetterLine) → LineOutcome p at w → ((l e : ℕ) → LettersOutcome σ p (line + 1) (e + 1) (before ++ (l ∷ [])) todo (go l e))
@@ -157,9 +152,9 @@ module _ (σ : Sheet) (all : length (σ .names) ≡ σ .k) where
         by (yes l) = absurd (f (letterOf composed (compose x)) (found-stands σ all x is l))
         by (no l) = omega arith
 
-    pub letters-fault : {number : ℕ} → LetterFault σ (drop at p) number → lettersAt composed p line at before (suc todo) ≡ refused number line
+    pub letters-fault : {number : ℕ} → NameFault σ (drop at p) number → lettersAt composed p line at before (suc todo) ≡ refused number line
     unfolding lettersAt
-    letters-fault (no-name f) = simp (line-none f)
+    letters-fault (wrong-name f) = simp (line-none f)
     letters-fault (unknown-name x after is e f) = simp (line-unknown x after is e f)
 
     letter-next : NamesRight [] (σ .names) → (x rest : List ℕ) (l : ℕ) → StandsFor σ x l → drop at p ≡ x ++ (lf ∷ rest)

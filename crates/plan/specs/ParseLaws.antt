@@ -12,7 +12,7 @@ use Rattle.plan.specs.declared.Lengths.{Lengths}
 use Rattle.plan.specs.Plan.{planHead, nameLines, mostPlan, LengthsRight, Known, none, more, PlanIs, Above, Faulty}
 use Rattle.plan.specs.Parse.{Lettered, lettersAt, endOf, Contents, contents, headOf, afterHead, planOf}
 use Rattle.plan.specs.HeadLaws.{HeadOutcome, head-outcome}
-use Rattle.plan.specs.LineLaws.{LetterFault, no-name, unknown-name, LettersOutcome, LettersRefused, LettersPassed, letters-outcome}
+use Rattle.plan.specs.LineLaws.{LettersOutcome, LettersRefused, LettersPassed, letters-outcome}
 
 -- a name has one letter
 pub known-length : (σ : Sheet) {names : List (List ℕ)} {letters : List ℕ} → Known σ names letters → length letters ≡ length names
@@ -36,14 +36,11 @@ module _ (σ : Sheet) (p : List ℕ) (size : length p ≤ mostPlan) (z : Lengths
   todo = z .lead + z .cycle
 
   letters-refuse : (number line : ℕ) → LettersRefused σ p 2 11 todo number line → Faulty σ p number line
-  letters-refuse number line h = subst (Faulty σ p number) (sym (h .here)) (by (h .fault))
+  letters-refuse number line h =
+      subst (Faulty σ p number) (sym (h .here)) (Faulty.name (z .lead) (z .cycle) (h .names) (h .rest) above (h .count) (h .fault))
     where
       above : Above σ p (z .lead) (z .cycle) (h .names) (h .rest)
       above = record { range = range; letters = h .letters; known = h .known; text = head ∙ rw (h .text) refl }
-
-      by : {x : ℕ} → LetterFault σ (h .rest) x → Faulty σ p x (2 + length (h .names))
-      by (no-name f) = Faulty.name (z .lead) (z .cycle) (h .names) (h .rest) above (h .count) f
-      by (unknown-name x after is e f) = Faulty.unknown (z .lead) (z .cycle) (h .names) (h .rest) above (h .count) x after is e f
 
   module _ (y : Lettered) (h : LettersPassed σ p 2 11 [] todo y) where
     above-end : Above σ p (z .lead) (z .cycle) (h .names) (drop (y .at) p)

@@ -55,17 +55,22 @@ pub record Above (σ : Sheet) (p : List ℕ) (lead cycle : ℕ) (names : List (L
   pub known : Known σ names letters
   pub text : p ≡ planHead lead cycle ++ (nameLines names ++ rest)
 
+-- the faults where a name is due; the rest of the file starts there
+pub data NameFault (σ : Sheet) (rest : List ℕ) : ℕ → Type 0 where
+  -- "Is each plan line of its form? No: 12."
+  wrong-name : ((x after : List ℕ) → IsName x → rest ≡ x ++ (lf ∷ after) → ⊥) → NameFault σ rest 12
+  -- "Is each name known? No: 14."
+  unknown-name : (x after : List ℕ) → IsName x → rest ≡ x ++ (lf ∷ after) → ((l : ℕ) → StandsFor σ x l → ⊥) → NameFault σ rest 14
+
+-- THE FAULT of a file: its number and its line
 pub data Faulty (σ : Sheet) (p : List ℕ) : ℕ → ℕ → Type 0 where
   -- "Is each plan line of its form? No: 12." The first line
   head : ((lead cycle : ℕ) (rest : List ℕ) → lead < 1000 → cycle < 1000 → p ≡ planHead lead cycle ++ rest → ⊥) → Faulty σ p 12 1
   -- "Are both lengths in range? No: 13."
   range : (lead cycle : ℕ) (rest : List ℕ) → lead < 1000 → cycle < 1000 → p ≡ planHead lead cycle ++ rest → (LengthsRight lead cycle → ⊥) → Faulty σ p 13 1
-  -- a name is due and there is none
-  name : (lead cycle : ℕ) (names : List (List ℕ)) (rest : List ℕ) → Above σ p lead cycle names rest → length names < lead + cycle
-      → ((x after : List ℕ) → IsName x → rest ≡ x ++ (lf ∷ after) → ⊥) → Faulty σ p 12 (2 + length names)
-  -- "Is each name known? No: 14."
-  unknown : (lead cycle : ℕ) (names : List (List ℕ)) (rest : List ℕ) → Above σ p lead cycle names rest → length names < lead + cycle
-      → (x after : List ℕ) → IsName x → rest ≡ x ++ (lf ∷ after) → ((l : ℕ) → StandsFor σ x l → ⊥) → Faulty σ p 14 (2 + length names)
+  -- 12 and 14: a name is due
+  name : {number : ℕ} (lead cycle : ℕ) (names : List (List ℕ)) (rest : List ℕ) → Above σ p lead cycle names rest → length names < lead + cycle
+      → NameFault σ rest number → Faulty σ p number (2 + length names)
   -- all names are there and END is due
   end : (lead cycle : ℕ) (names : List (List ℕ)) (rest : List ℕ) → Above σ p lead cycle names rest → length names ≡ lead + cycle
       → ((after : List ℕ) → rest ≡ endLine ++ after → ⊥) → Faulty σ p 12 (2 + length names)
