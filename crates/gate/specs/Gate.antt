@@ -1,12 +1,12 @@
 -- Document 01, "The gate questions": what a refusal is, what an answer is, and the conditions in which a lent table is left.
-use Prim.Native.Nat.{ℕ, _-_}
+use Prim.Native.Nat.{ℕ, _-_, _≤_, _<_}
 use mathlib.Core.Path.{_≡_}
 use mathlib.Core.Bool.{Bool, true, false}
 use mathlib.Core.List.{List, _++_}
 use lib.ListN.{length, getD, replicate}
 use Rattle.gate.specs.declared.Refusal.{Refusal}
 use Rattle.gate.specs.declared.Written.{Written}
-use Rattle.gate.specs.declared.Written.the-variants.{Refused}
+use Rattle.gate.specs.declared.Written.the-variants.{Refused, Bytes}
 
 -- "A refusal is the number with the line"; no number but 10 has a witness
 abbrev pub refusal : ℕ → ℕ → Refusal
@@ -37,3 +37,9 @@ pub record RefusedWith (x : Refusal) (b c : List ℕ) (r : Written) : Type 0 whe
   pub is : r ≡ Refused x
   pub untouched : x .number ≡ 1 → c ≡ b
   pub zero : (x .number ≡ 1 → ⊥) → c ≡ cleared b
+
+-- THE LAST QUESTION of a call that writes a text: is its buffer, which was b and is c, long enough?
+-- "Lengths for writing and listing are known late, so that part is asked last of all"
+abbrev pub Put : List ℕ → List ℕ → List ℕ → Written → Type 0
+Put text b c (Refused x) = (length b < length text) × (x ≡ refusal 1 0) × (c ≡ cleared b)
+Put text b c (Bytes count) = (count ≡ length text) × (count ≤ length b) × (c ≡ lentText text b)

@@ -1,6 +1,6 @@
 -- The answers of listing, one by one. Assumes nothing.
 use Prim.Native.Nat.{ℕ}
-use mathlib.Core.Path.{_≡_, sym, ap, subst, _∙_}
+use mathlib.Core.Path.{_≡_, refl, sym, ap, subst, _∙_}
 use mathlib.Core.List.{List}
 use native.Mathlib.Omega.{arith}
 use Rattle.gate.specs.Gate.{refusal, cleared, RefusedWith}
@@ -20,7 +20,7 @@ use Rattle.tracker.specs.declared.Built.{Built}
 use Rattle.tracker.specs.declared.Built.the-variants.{Refused as BuildRefused, Is}
 use Rattle.gate.specs.declared.Written.{Written}
 use Rattle.gate.specs.declared.Written.the-variants.{Refused, Bytes}
-use Rattle.listing.specs.List.{listingOf, ListsNumbers, Lists}
+use Rattle.listing.specs.List.{listingOf, Left, ListsNumbers, Lists}
 use Rattle.listing.specs.Put.{Sized, Finishes}
 
 -- what writing asks of a tracker that was built
@@ -67,10 +67,10 @@ module _ {A : Automaton} {room : ℕ} {v w : Tables} {f h : Store} where
       numbers-sized = let (l, fits, are, fitted) = numbers-built (answered-numbers told) in sized x fits (l .store) are fitted
 
       pub numbers-finished : {g : Store} {b c : List ℕ} (l : Written) → Finishes (listingOf x h) h g b c l → ListsNumbers A room v w f g b c l
-      numbers-finished (Refused r) (s, e, z, d) =
-          let (l, fits, are, fitted) = numbers-built (answered-numbers told) in
-          ListsNumbers.last h x (answered-numbers told) s (ap Refused e) (z ∙ fitted-cleared A fits room (x .tuples) f h fitted (l .store)) d
-      numbers-finished (Bytes count) (s, e, z, d) = rw z (ListsNumbers.bytes x (answered-numbers told) s (ap Bytes e) d)
+      numbers-finished {g} l (put, left) =
+          let (lent, fits, are, fitted) = numbers-built (answered-numbers told) in
+          ListsNumbers.asked h x (answered-numbers told) put
+          (subst (λ (e : Store). Left e h g l) (fitted-cleared A fits room (x .tuples) f h fitted (lent .store)) left)
 
 -- FROM A SHEET FILE
 
@@ -98,16 +98,16 @@ module _ {s : List ℕ} {room : ℕ} {t m : List ℕ} {v w : Tables} {f h : Stor
       pub file-sized : Sized (x .numbers .n) (x .numbers .k) (x .tuples) (h .tuples) (h .nexts)
       file-sized = let (l, (σ, y, are, o, fitted), z) = file-built (answered-file told) in sized x (sheet-fits s σ (y .file)) (l .store) are fitted
 
-      -- and writing, which answered l; with a refusal the successor sets' table is u
+      -- and writing, which answered l; then the successor sets' table is u
       module _ {g : Store} {b c : List ℕ} {l : Written} (finished : Finishes (listingOf x h) h g b c l) where
-        pub file-last : {u : List ℕ} {r : Refusal} → l ≡ Refused r → u ≡ cleared t → Lists s room t u v w f g b c l
-        file-last q o =
+        finished-file : {u : List ℕ} → Left (cleared t) m u l → Lists s room t u v w f g b c l
+        finished-file o =
             let (lent, (σ, y, are, i, fitted), z) = file-built (answered-file told) in
-            let (k, e, z, d) = subst (Finishes (listingOf x h) h g b c) q finished in
-            Lists.last m h x (answered-file told) k (q ∙ ap Refused e) o
-            (z ∙ fitted-cleared (numbers σ) (sheet-fits s σ (y .file)) room (x .tuples) f h fitted (lent .store)) d
+            Lists.asked m h x (answered-file told) (finished .0) o
+            (subst (λ (e : Store). Left e h g l) (fitted-cleared (numbers σ) (sheet-fits s σ (y .file)) room (x .tuples) f h fitted (lent .store)) (finished .1))
+
+        pub file-last : {u : List ℕ} {r : Refusal} → l ≡ Refused r → u ≡ cleared t → Lists s room t u v w f g b c l
+        file-last {u} q o = finished-file (subst (Left (cleared t) m u) (sym q) o)
 
         pub file-bytes : {count : ℕ} → l ≡ Bytes count → Lists s room t m v w f g b c l
-        file-bytes q =
-            let (k, e, z, d) = subst (Finishes (listingOf x h) h g b c) q finished in
-            rw z (Lists.bytes x (answered-file told) k (q ∙ ap Bytes e) d)
+        file-bytes q = finished-file (subst (Left (cleared t) m m) (sym q) refl)

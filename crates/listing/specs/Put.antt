@@ -1,12 +1,11 @@
 -- What the parts of listing ask of their tables, and what they leave in them.
-use Prim.Native.Nat.{ℕ, _+_, _*_, _≤_, _<_}
-use mathlib.Core.Path.{_≡_}
+use Prim.Native.Nat.{ℕ, _+_, _*_, _≤_}
 use mathlib.Core.List.{List}
 use lib.ListN.{length, getD}
-use Rattle.gate.specs.Gate.{refusal, cleared, lentText}
+use Rattle.gate.specs.Gate.{Put}
 use Rattle.tracker.specs.Build.{Store, clearedStore}
 use Rattle.gate.specs.declared.Written.{Written}
-use Rattle.gate.specs.declared.Written.the-variants.{Refused, Bytes}
+use Rattle.listing.specs.List.{Left}
 
 -- the cells of a table from `from` on, as a sequence
 abbrev pub cellsFrom : List ℕ → ℕ → ℕ → ℕ
@@ -33,7 +32,6 @@ pub record Sized (n k count : ℕ) (tuples nexts : List ℕ) : Type 0 where
   pub tuple-cells : 17 * count ≤ length tuples
   pub next-cells : 8 * count ≤ length nexts
 
--- the last question, on a text over tables that were h and are g: 1 with every table all zero, or the text
+-- the last question, on a text over tables that were h and are g
 abbrev pub Finishes : List ℕ → Store → Store → List ℕ → List ℕ → Written → Type 0
-Finishes text h g b c (Refused r) = (length b < length text) × (r ≡ refusal 1 0) × (g ≡ clearedStore h) × (c ≡ cleared b)
-Finishes text h g b c (Bytes count) = (length text ≤ length b) × (count ≡ length text) × (g ≡ h) × (c ≡ lentText text b)
+Finishes text h g b c r = Put text b c r × Left (clearedStore h) h g r

@@ -4,7 +4,7 @@ use mathlib.Core.Path.{_≡_}
 use mathlib.Core.List.{List, _++_}
 use mathlib.Core.Logic.{_⊎_}
 use lib.ListN.{length}
-use Rattle.gate.specs.Gate.{refusal}
+use Rattle.gate.specs.Gate.{refusal, Put}
 use Rattle.automaton.specs.Automaton.{Automaton}
 use Rattle.automaton.specs.Lent.{Tables, clearedTables, Lengths}
 use Rattle.walks.specs.declared.Checked.{Checked}
@@ -14,7 +14,7 @@ use Rattle.format.specs.Written.{sheetOf, written}
 use Rattle.gate.specs.declared.Written.{Written}
 use Rattle.gate.specs.declared.Written.the-variants.{Refused}
 use Rattle.writer.specs.RowNames.{rowNames}
-use Rattle.writer.specs.Write.{Put, NamedRefuse, NamedAccepted}
+use Rattle.writer.specs.Write.{NamedRefuse, NamedAccepted}
 
 -- the text of an automaton with names that are composed
 unfoldable pub textOf : Automaton → List (List ℕ) → List ℕ

@@ -1,9 +1,8 @@
 -- What writing a sheet answers, and what the lent tables hold then. The witness was v and is w then, the buffer was b and is c.
-use Prim.Native.Nat.{ℕ, _≤_, _<_}
+use Prim.Native.Nat.{ℕ}
 use mathlib.Core.Path.{_≡_}
 use mathlib.Core.List.{List}
-use lib.ListN.{length}
-use Rattle.gate.specs.Gate.{refusal, cleared, lentText}
+use Rattle.gate.specs.Gate.{refusal, cleared, Put}
 use Rattle.gate.specs.declared.Refusal.{Refusal}
 use Rattle.automaton.specs.Automaton.{Automaton, Fits}
 use Rattle.automaton.specs.Meeting.{Free, Everywhere}
@@ -12,13 +11,8 @@ use Rattle.format.specs.Format.{Sheet}
 use Rattle.format.specs.Written.{written}
 use Rattle.sheet.specs.Read.{Accepted, Refuses}
 use Rattle.gate.specs.declared.Written.{Written}
-use Rattle.gate.specs.declared.Written.the-variants.{Refused, Bytes}
+use Rattle.gate.specs.declared.Written.the-variants.{Refused}
 use Rattle.writer.specs.Same.{writing}
-
--- THE LAST QUESTION: is the buffer long enough for the text? "Lengths for writing and listing are known late, so that part is asked last of all"
-abbrev pub Put : List ℕ → List ℕ → List ℕ → Written → Type 0
-Put text b c (Refused x) = (length b < length text) × (x ≡ refusal 1 0) × (c ≡ cleared b)
-Put text b c (Bytes count) = (count ≡ length text) × (count ≤ length b) × (c ≡ lentText text b)
 
 -- WRITING FROM A FILE s: "The writer writes composed letters"
 pub data Writes (s : List ℕ) (v w : Tables) (b c : List ℕ) (r : Written) : Type 0 where

@@ -5,7 +5,7 @@ use mathlib.Core.List.{List, map, append-nil}
 use mathlib.Core.Logic.{inl, inr}
 use native.Mathlib.Omega.{arith}
 use lib.ListN.{length, replicate, length-map}
-use Rattle.gate.specs.Gate.{refusal, RefusedWith}
+use Rattle.gate.specs.Gate.{refusal, RefusedWith, Put}
 use Rattle.gate.specs.GateLaws.{refused-first}
 use Rattle.gate.specs.declared.Refusal.{Refusal}
 use Rattle.names.specs.Name.{compose}
@@ -30,7 +30,7 @@ use Rattle.sheet.specs.Answers.{RowsRead}
 use Rattle.parser.specs.UniqueLaws.{file-unique, file-or-fault}
 use Rattle.gate.specs.declared.Written.{Written}
 use Rattle.gate.specs.declared.Written.the-variants.{Refused}
-use Rattle.writer.specs.Write.{Put, Writes, NamedRefuse, WritesNumbers}
+use Rattle.writer.specs.Write.{Writes, NamedRefuse, WritesNumbers}
 use Rattle.writer.specs.Text.{textOf, rowsText, Writable, PutNamed, Asks}
 use Rattle.writer.specs.TextLaws.{text-written}
 use Rattle.writer.specs.RowNames.{rowNames}

@@ -46,7 +46,7 @@ returns c =
     let short = first .before .before in
     let p = first .clear .ensures in
     let q = second .clear2 .ensures in
-    (rw (length-is (short .before)) (short .if1 .taken), refl, λ i. store (p i) (q i), emptied .clear-bytes .ensures)
+    ((rw (length-is (short .before)) (short .if1 .taken), refl, emptied .clear-bytes .ensures), λ i. store (p i) (q i))
 
 write-requires : tie.Need-write-requires
 write-requires c κs = search needs
@@ -65,7 +65,7 @@ returns-2 c =
     let written = c .before .before in
     let long = written .before .before .before .before in
     let e = length-is (long .before) in
-    (rw e (long .if1 .left), sym e, refl, written .write .ensures)
+    ((sym e, long .if1 .left, written .write .ensures), refl)
 
 pub finish-spec : {M : Type 1} → statement M
 finish-spec =
