@@ -11,14 +11,13 @@ use Rattle.automaton.specs.Automaton.{Automaton}
 use Rattle.automaton.specs.Successors.{successorsOf}
 use Rattle.tuple.specs.Step.{places, unionAll, least, pass, colourOf, closeUp}
 use Rattle.tuple.specs.Row.{setCells, setsOf}
-use Rattle.text.specs.Search.{leading}
 
 -- what is removed from all later places, after the turn of a place with set x
 unfoldable pub outOf : Bool → ℕ → ℕ → ℕ
 outOf true out x = unionOf out x
 outOf false out x = out
 
--- the leading sets of the cells are replaced by their successors, and counted
+-- the sets of the cells are replaced by their successors, and counted
 pub record Advanced (table : List ℕ) (l : ℕ) (cells result : List ℕ) (count : ℕ) : Type 0 where
   pub counted : count ≡ length (setsOf cells)
   pub replaced : result ≡ map (successorsOf table l) (setsOf cells) ++ drop count cells

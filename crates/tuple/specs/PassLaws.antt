@@ -23,7 +23,7 @@ After w j r = Member (statesAt w j) r
 abbrev pub Marked : List Place → ℕ → Type 0
 Marked w j = T (getD w j (place 0 false) .mark)
 
--- there is such a place
+-- a place with a member is one of the list
 pub front : (l : List ℕ) (j r : ℕ) → In l j r → j < length l
 front [] j r h = absurd (no-member r h)
 front (x ∷ l) zero r h = omega arith
@@ -190,8 +190,8 @@ own (suc k) (x ∷ l) zero r w = by (two (isWithin x (unionAll l)))
     full : T (not (isEmpty x))
     full = not-T (isEmpty x) (λ e. none-of x e r w)
 
-    priv : (y : ℕ) → (has-l : (j : ℕ) → In (rest x l) j y → ⊥) → (j : ℕ) → 0 < j → After (place x (isMarked x (unionAll l)) ∷ turns k (rest x l)) j y
-        → ⊥
+    priv : (y : ℕ) → ((j : ℕ) → In (rest x l) j y → ⊥)
+        → (j : ℕ) → 0 < j → After (place x (isMarked x (unionAll l)) ∷ turns k (rest x l)) j y → ⊥
     priv y f zero m v = omega arith
     priv y f (suc j) m v = f j (kept k (rest x l) j y v)
 
