@@ -4,7 +4,7 @@ use mathlib.Core.Path.{_≡_, refl, sym, _∙_, ap}
 use native.Mathlib.Omega.{arith}
 use native.Mathlib.Nat.{mul-le-mul-right, div-add-mod', mod-lt, suc-mul}
 use native.Mathlib.Decide.{ℕ-discrete, decLe, decLt}
-use Rattle.finite.specs.Finite.{lowest, lowest-le, lowest-at}
+use Rattle.finite.specs.Least.{lowest, lowest-le, lowest-at}
 use Rattle.judge.specs.TableRun.{LeastOf}
 
 pub least-one : (f : ℕ → ℕ) (a : ℕ) → LeastOf f a (a + 1) (f a)

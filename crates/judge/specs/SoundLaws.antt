@@ -11,7 +11,7 @@ use Rattle.automaton.specs.Meeting.{Free, Everywhere}
 use Rattle.automaton.specs.Reading.{Passes}
 use Rattle.tuple.specs.Step.{run, colourEntered}
 use Rattle.tuple.specs.Demand.{demand}
-use Rattle.finite.specs.Finite.{lowest}
+use Rattle.finite.specs.Least.{lowest}
 use Rattle.plan.specs.Letter.{letterAt}
 use Rattle.plan.specs.LetterLaws.{letter-repeats}
 use Rattle.judge.specs.declared.Answer.{Answer}

@@ -19,7 +19,7 @@ use Rattle.tuple.specs.Step.{places, unionAll, isMarked, removed, turns, pass, 
 use Rattle.tracker.specs.Explore.{sameTuple, addNew, step, found}
 use Rattle.plan.specs.Letter.{letterAt}
 use Rattle.plan.specs.Parse as P
-use Rattle.finite.specs.Finite.{lowest}
+use Rattle.finite.specs.Least.{lowest}
 use Rattle.known.specs.Case.{Case, Forced}
 use Rattle.known.specs.Cases.{cases}
 use Rattle.known.specs.Below.{all, any}

@@ -10,7 +10,7 @@ use borrow.Author.Tests.{ltb-true, ltb-false, eqb-true, not-true}
 use lib.Dec.{ltb}
 use lib.ListN.{length}
 use Rattle.text.specs.BytesLaws.{length-more}
-use Rattle.finite.specs.Finite.{lowest, lowest-le, lowest-at}
+use Rattle.finite.specs.Least.{lowest, lowest-le, lowest-at}
 use Rattle.automaton.specs.Automaton.{Automaton}
 use Rattle.tuple.specs.Step.{Tuple, run}
 use Rattle.tracker.specs.Numbering.{tupleAt}

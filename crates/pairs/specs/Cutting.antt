@@ -4,7 +4,7 @@ use mathlib.Core.Path.{_≡_, sym, _∙_, ap, subst}
 use native.Mathlib.Omega.{arith}
 use native.Mathlib.Decide.{decLt}
 use Rattle.sets.specs.Sets.{Member}
-use Rattle.finite.specs.Finite.{glue, glue-lt, glue-ge, joined}
+use Rattle.finite.specs.Paths.{glue, glue-lt, glue-ge, joined}
 use Rattle.automaton.specs.Automaton.{Automaton, Edge}
 use Rattle.automaton.specs.Meeting.{Walk, Meet}
 use Rattle.pairs.specs.Joining.{Joins, joins-meet}

@@ -3,7 +3,7 @@ use Prim.Native.Nat.{ℕ, suc}
 use mathlib.Core.Path.{_≡_, refl, sym, _∙_, subst}
 use native.Mathlib.Omega.{arith}
 use Rattle.sets.specs.Sets.{Member}
-use Rattle.finite.specs.Finite.{glue, glue-lt, glue-ge, extend}
+use Rattle.finite.specs.Paths.{glue, glue-lt, glue-ge, extend}
 use Rattle.automaton.specs.Automaton.{Automaton, Edge}
 use Rattle.automaton.specs.Meeting.{Walk, Meet}
 

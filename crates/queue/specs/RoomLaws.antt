@@ -8,7 +8,8 @@ use native.Mathlib.Decide.{decLt}
 use Rattle.gate.specs.Gate.{Decides}
 use Rattle.sets.specs.Sets.{Member, minusOf}
 use Rattle.sets.specs.SetLaws.{minus-left, minus-not, minus-else}
-use Rattle.finite.specs.Finite.{pigeon, glue, glue-lt, glue-ge}
+use Rattle.finite.specs.Finite.{pigeon}
+use Rattle.finite.specs.Paths.{glue, glue-lt, glue-ge}
 use Rattle.queue.specs.Queue.{pair, companions, one, other, Queue, Only, Open}
 
 module _ (T : List ℕ) (count p q : ℕ) (c : Queue T count) (hp : p < 16) (hq : q < 16) (new : Member (companions T p) q → ⊥) where

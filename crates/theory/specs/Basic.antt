@@ -4,7 +4,7 @@ use mathlib.Core.Path.{_≡_}
 use mathlib.Core.Logic.{_⊎_, inl, inr}
 use native.Mathlib.Omega.{arith}
 use native.Mathlib.Decide.{decLe, decLt, le-ind}
-use Rattle.finite.specs.Finite.{glue, glue-lt, glue-ge, joined, trace}
+use Rattle.finite.specs.Paths.{glue, glue-lt, glue-ge, joined, trace}
 use Rattle.theory.specs.Run.{Some, None, Run, Path}
 
 pub at-place : (X : ℕ → ℕ → ℕ → Type 0) {t j k q : ℕ} → j ≡ k → X t j q → X t k q

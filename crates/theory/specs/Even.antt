@@ -4,7 +4,7 @@ use mathlib.Core.Path.{_≡_}
 use mathlib.Core.Logic.{_⊎_, inl, inr}
 use native.Mathlib.Omega.{arith}
 use native.Mathlib.Decide.{decLt, ℕ-discrete, le-ind}
-use Rattle.finite.specs.Finite.{trace}
+use Rattle.finite.specs.Paths.{trace}
 use Rattle.theory.specs.Run.{Run, Path, Often}
 use Rattle.theory.specs.Basic.{at-place, origin, inside, rank-le, rank-full, Fulls, rank-ge, holds, keeps, p-keeps}
 

@@ -3,7 +3,8 @@ use Prim.Native.Nat.{ℕ, suc, _+_, _*_, _-_, _≤_, _<_}
 use mathlib.Core.Path.{_≡_, sym, _∙_, ap}
 use native.Mathlib.Omega.{arith}
 use native.Mathlib.Nat.{mul-le-mul-right}
-use Rattle.finite.specs.Finite.{pigeon, loop, shift}
+use Rattle.finite.specs.Finite.{pigeon}
+use Rattle.finite.specs.Paths.{loop, shift}
 use Rattle.theory.specs.Run.{Run, Path, Through}
 use Rattle.theory.specs.Basic.{inside, lead-in}
 use Rattle.theory.specs.Even.{path-inside}

@@ -4,7 +4,7 @@ use mathlib.Core.Path.{_≡_, _∙_}
 use mathlib.Core.Logic.{_↔_}
 use native.Mathlib.Omega.{arith}
 use native.Mathlib.Decide.{ℕ-discrete}
-use Rattle.finite.specs.Finite.{lowest, low, often}
+use Rattle.finite.specs.Least.{lowest, low, often}
 use Rattle.theory.specs.Run.{Run, Path, Often, Alone, Through, Least}
 use Rattle.theory.specs.Odd.{never-odd}
 use Rattle.theory.specs.Even.{marks}

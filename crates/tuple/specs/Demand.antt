@@ -10,7 +10,8 @@ use Rattle.automaton.specs.Automaton.{Automaton, Edge, Fits}
 use Rattle.automaton.specs.Meeting.{Walk, Meet, Free, Everywhere}
 use Rattle.automaton.specs.Reading.{Reading, Recurs, Passes}
 use Rattle.automaton.specs.EdgeLaws.{edge-dec}
-use Rattle.finite.specs.Finite.{lowest, glue, glue-lt, glue-ge, extend}
+use Rattle.finite.specs.Paths.{glue, glue-lt, glue-ge, extend}
+use Rattle.finite.specs.Least.{lowest}
 use Rattle.theory.specs.Run.{Path, Often, Alone, Least}
 use Rattle.theory.specs.Endless.{LPO, least}
 use Rattle.theory.specs.Theorem.{repeating, endless}
