@@ -1,8 +1,8 @@
 -- A stretch of a file, composed into a row of 24 cells.
 use Prim.Native.Nat.{ℕ, _+_, _-_, _≤_}
 use mathlib.Core.Bool.{Bool, false}
-use mathlib.Core.List.{List, _++_}
-use lib.ListN.{length, getD, take, drop, replicate}
+use mathlib.Core.List.{List}
+use lib.ListN.{length, getD, take, drop}
 use lib.Dec.{ltb}
 use Rattle.text.specs.Choice.{choose}
 use Rattle.names.specs.Name.{isDecomposed}
@@ -16,10 +16,6 @@ pub record Stretches (s : List ℕ) (start end : ℕ) : Type 0 where
 unfoldable pub diaeresisAt : List ℕ → ℕ → ℕ → Bool
 diaeresisAt s i end =
     choose (ltb (end - i) 3) false (isDecomposed (getD s i 0) (getD s (i + 1) 0) (getD s (i + 2) 0))
-
--- a name in a row, with zeros behind it
-abbrev pub padded : List ℕ → List ℕ
-padded x = x ++ replicate (24 - length x) 0
 
 -- the row that starts at a place
 abbrev pub row : List ℕ → ℕ → List ℕ

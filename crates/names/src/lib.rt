@@ -3,11 +3,11 @@ ghost use mathlib.Core.Path.{_≡_};
 ghost use Prim.Native.Nat.{_+_, _-_, _<_, _≤_, _^_};
 ghost use lib.ListN.{length};
 ghost use lib.Seq.{sets};
-ghost use Rattle.gate.specs.Gate.{Decides};
+ghost use Rattle.gate.specs.Gate.{Decides, padded};
 ghost use Rattle.text.specs.Bytes.{stretch};
 ghost use Rattle.names.specs.Name.{oneOf, isUmlaut, isVowel, isDecomposed, umlautOf, IsName, compose};
 ghost use Rattle.names.specs.Scan.{widthOf, partsEnd, nameEndAt, nameFits};
-ghost use Rattle.names.specs.Row.{diaeresisAt, padded, row, Stretches};
+ghost use Rattle.names.specs.Row.{diaeresisAt, row, Stretches};
 
 // Where a name ends: the position of the LF behind it.
 pub enum Ending {
@@ -191,7 +191,7 @@ fn put_composed(s: &[u8], start: usize, end: usize, out: &mut [u8], at: usize) -
 // The same in the 24 cells of a row from `at` on, with zeros behind.
 pub fn compose_into(s: &[u8], start: usize, end: usize, rows: &mut [u8], at: usize)
     requires { ⌜ Stretches (now s) start end × (end - start ≤ 24) × (at + 24 ≤ length (now rows)) ⌝ }
-    ensures { λ _. ⌜ now (rows .exit) ≡ sets (now (rows .entry)) at (padded (compose (stretch (now (s .entry)) start end))) ⌝ }
+    ensures { λ _. ⌜ now (rows .exit) ≡ sets (now (rows .entry)) at (padded 24 (compose (stretch (now (s .entry)) start end))) ⌝ }
 {
     let n = put_composed(s, start, end, rows, at);
     let zeros = [0u8; 24];

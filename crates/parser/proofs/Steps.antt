@@ -15,7 +15,7 @@ use Rattle.parser.specs.Phase.{refused, passed, endAt, letterOf}
 use Rattle.text.specs.LeftLaws.{left-more}
 use Rattle.text.specs.Bytes.{stretch}
 use Rattle.names.specs.Name.{compose}
-use Rattle.names.specs.Row.{padded}
+use Rattle.gate.specs.Gate.{padded}
 use Rattle.names.specs.NameLaws.{composed-name}
 use Rattle.parser.specs.Rows.{HoldNames, FirstLike}
 use Rattle.parser.specs.LetterLaws.{letter-is}
@@ -94,7 +94,7 @@ pub record NameRead (s : List ℕ) (k : ℕ) (rows : List ℕ) (line l e r : ℕ
 pub name-read :
     {s : List ℕ} {k : ℕ} {rows v : List ℕ} {line at l e r : ℕ} →
     NamesSoFar s k rows line at l → l < k → nameLineAt s at l ≡ E.At e → 24 * l + 24 ≤ length rows →
-    v ≡ sets rows (24 * l) (padded (compose (stretch s (at + 5) e))) → FirstLike v l r → NameRead s k v line l e r
+    v ≡ sets rows (24 * l) (padded 24 (compose (stretch s (at + 5) e))) → FirstLike v l r → NameRead s k v line l e r
 unfolding namesAt
 name-read {s} {k} {rows} {v} {line} {at} {l} {e} {r} z h b fits stored like =
     let x = compose (stretch s (at + 5) e) in

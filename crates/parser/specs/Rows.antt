@@ -5,12 +5,13 @@ use mathlib.Core.List.{List, []}
 use lib.ListN.{length, getD}
 use Rattle.text.specs.Search.{First}
 use Rattle.names.specs.Name.{IsName}
-use Rattle.names.specs.Row.{row, padded}
+use Rattle.gate.specs.Gate.{padded}
+use Rattle.names.specs.Row.{row}
 
 -- the row of a letter holds a name
 pub record RowIs (rows : List ℕ) (l : ℕ) (x : List ℕ) : Type 0 where
   pub is-name : IsName x
-  pub is : row rows (24 * l) ≡ padded x
+  pub is : row rows (24 * l) ≡ padded 24 x
 
 -- the rows hold composed names, those of the letters from 0 on
 abbrev pub HoldNames : List (List ℕ) → List ℕ → Type 0

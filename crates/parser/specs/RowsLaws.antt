@@ -7,9 +7,11 @@ use lib.ListN.{length, getD, length-append, List·getD-append}
 use lib.Seq.{sets, getD-append-seam}
 use borrow.Author.Count.{below-more}
 use Rattle.names.specs.Name.{IsName}
-use Rattle.names.specs.Row.{row, padded}
+use Rattle.gate.specs.Gate.{padded}
+use Rattle.gate.specs.GateLaws.{padded-length}
+use Rattle.names.specs.Row.{row}
 use Rattle.text.specs.SetsLaws.{part-stored, part-kept}
-use Rattle.names.specs.RowLaws.{padded-length, padded-same}
+use Rattle.names.specs.RowLaws.{padded-same}
 use Rattle.parser.specs.Rows.{RowIs, HoldNames, FirstLike, FirstName}
 
 -- NAMES BY THEIR ROWS
@@ -23,29 +25,29 @@ first-name names rows count x l n h k f = record {
   is = λ b. padded-same (getD names l []) x (h l b .is-name) (k .is-name) (sym (h l b .is) ∙ (f .like ∙ k .is));
   first = λ i b e.
       f .first i b
-      (h i (let m = f .most in omega arith) .is ∙ (ap padded e ∙ sym (k .is)));
+      (h i (let m = f .most in omega arith) .is ∙ (ap (padded 24) e ∙ sym (k .is)));
 }
 
 -- ONE ROW MORE
 
 module _ (names : List (List ℕ)) (rows : List ℕ) (l : ℕ) (x : List ℕ) (n : length names ≡ l) (fits : 24 * l + 24 ≤ length rows)
     (h : HoldNames names rows) (fx : IsName x) where
-  row-there : RowIs (sets rows (24 * l) (padded x)) l x
-  row-there = record { is-name = fx; is = part-stored 24 rows (padded x) (24 * l) (padded-length x (fx .most)) fits }
+  row-there : RowIs (sets rows (24 * l) (padded 24 x)) l x
+  row-there = record { is-name = fx; is = part-stored 24 rows (padded 24 x) (24 * l) (padded-length 24 x (fx .most)) fits }
 
-  pub holds-still : HoldNames names (sets rows (24 * l) (padded x))
+  pub holds-still : HoldNames names (sets rows (24 * l) (padded 24 x))
   holds-still i b = record {
     is-name = h i b .is-name;
-    is = part-kept 24 rows (padded x) (24 * l) (24 * i) (omega arith) ∙ h i b .is;
+    is = part-kept 24 rows (padded 24 x) (24 * l) (24 * i) (omega arith) ∙ h i b .is;
   }
 
-  pub holds-more : HoldNames (names ++ (x ∷ [])) (sets rows (24 * l) (padded x))
+  pub holds-more : HoldNames (names ++ (x ∷ [])) (sets rows (24 * l) (padded 24 x))
   holds-more i b =
-      below-more (λ (j : ℕ). RowIs (sets rows (24 * l) (padded x)) j (getD (names ++ (x ∷ [])) j [])) (length names)
+      below-more (λ (j : ℕ). RowIs (sets rows (24 * l) (padded 24 x)) j (getD (names ++ (x ∷ [])) j [])) (length names)
       (λ j c. rw (List·getD-append names (x ∷ []) [] j c) (holds-still j c))
       (rw (getD-append-seam names x [] [], n) row-there)
       i (rw (length-append names (x ∷ [])) at b)
 
   -- the first row like the new one tells the letter
-  pub name-found : (r : ℕ) → FirstLike (sets rows (24 * l) (padded x)) l r → FirstName names x r
-  name-found r f = first-name names (sets rows (24 * l) (padded x)) l x r n holds-still row-there f
+  pub name-found : (r : ℕ) → FirstLike (sets rows (24 * l) (padded 24 x)) l r → FirstName names x r
+  name-found r f = first-name names (sets rows (24 * l) (padded 24 x)) l x r n holds-still row-there f
