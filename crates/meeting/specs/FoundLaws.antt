@@ -13,7 +13,7 @@ use Rattle.pairs.specs.Joining.{Backwards, Joins, meet-joins}
 use Rattle.pairs.specs.Extending.{Both, both-start, both-step, both-meet}
 use Rattle.pairs.specs.Bound.{shortest-136}
 use Rattle.queue.specs.Queue.{pair, origin, depth, one, other, Has}
-use Rattle.meeting.specs.Search.{Sound, AllSound, JoinsOn, Search, Found}
+use Rattle.meeting.specs.Search.{Justified, AllJustified, JoinsOn, Search, Found}
 use Rattle.automaton.specs.EdgeLaws.{edge-of, edge-letter, initial-lt}
 
 module _ {A : Automaton} (fits : Fits A) {counts : ℕ} (back : Backwards A (Member counts)) {T : List ℕ} {count head : ℕ} (s : Search A counts T count head) where
@@ -61,11 +61,11 @@ module _ {A : Automaton} (fits : Fits A) {counts : ℕ} (back : Backwards A (Mem
   search-free l w t x y m = none-within t (λ i h d. omega arith) w t x y (omega arith) m
 
   -- pair i ends two walks on one word of its depth's length
-  ends : AllSound A T count → (f i : ℕ) → i < f → i < count → Both A (depth (pair T i)) (one (pair T i)) (other (pair T i))
+  ends : AllJustified A T count → (f i : ℕ) → i < f → i < count → Both A (depth (pair T i)) (one (pair T i)) (other (pair T i))
   ends a zero i h l = absurd (omega arith)
   ends a (suc f) i h l = by (a i l) (ends a f)
     where
-      by : Sound A T i → ((j : ℕ) → j < f → j < count → Both A (depth (pair T j)) (one (pair T j)) (other (pair T j)))
+      by : Justified A T i → ((j : ℕ) → j < f → j < count → Both A (depth (pair T j)) (one (pair T j)) (other (pair T j)))
           → Both A (depth (pair T i)) (one (pair T i)) (other (pair T i))
       by (inl z) ih = rw (z .deep) (both-start A (one (pair T i)) (other (pair T i)) (z .left) (z .right))
       by (inr z) ih =
@@ -80,8 +80,8 @@ module _ {A : Automaton} (fits : Fits A) {counts : ℕ} (back : Backwards A (Mem
       let e = pair T head in
       let j = subst (λ (x : ℕ). JoinsOn (A .table) counts x l) is joins in
       let (w, x, y, z) =
-      both-meet A (Member counts) (depth e) l (one e) (other e) (j .state) (ends (s .sound) (suc head) head (omega arith) h) (j .apart)
+      both-meet A (Member counts) (depth e) l (one e) (other e) (j .state) (ends (s .justified) (suc head) head (omega arith) h) (j .apart)
       (edge-of A fits l (one e) (j .state) m (j .left)) (edge-of A fits l (other e) (j .state) m (j .right)) (j .counted) in
       let most = shortest-136 A fits (Member counts) back w (suc (depth e)) x y z none in
       let room = s .queue .room in
-      record { size = s .queue .size; some = omega arith; most = omega arith; sound = λ i k. s .sound i (omega arith); letter = l; low = m; joins = j; shortest = none }
+      record { size = s .queue .size; some = omega arith; most = omega arith; justified = λ i k. s .justified i (omega arith); letter = l; low = m; joins = j; shortest = none }

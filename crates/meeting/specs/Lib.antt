@@ -1,7 +1,7 @@
 pub mod Answer
 pub mod AnswerLaws
 pub mod Search
-pub mod SoundLaws
+pub mod JustifiedLaws
 pub mod StartLaws
 pub mod StepLaws
 pub mod JoinLaws

@@ -11,7 +11,7 @@ use Rattle.gate.specs.Gate.{Zero}
 use Rattle.queue.specs.Queue.{pair, origin, depth, one, other, Has, Queue, AtMost, Keeps}
 
 -- p and q are initial, on the empty word
-pub record First (A : Automaton) (d p q : ℕ) : Type 0 where
+pub record Initial (A : Automaton) (d p q : ℕ) : Type 0 where
   pub deep : d ≡ 0
   pub left : Member (A .initial) p
   pub right : Member (A .initial) q
@@ -24,19 +24,19 @@ pub record Next (A : Automaton) (T : List ℕ) (count d p q o : ℕ) : Type 0 wh
   pub right : Edge A (o % 8) (other (pair T (o / 8))) q
 
 abbrev pub Arrives : Automaton → List ℕ → ℕ → ℕ → ℕ → ℕ → ℕ → Type 0
-Arrives A T count d p q o = First A d p q ⊎ Next A T count d p q o
+Arrives A T count d p q o = Initial A d p q ⊎ Next A T count d p q o
 
--- two walks on one word end in pair i, whose depth is the word's length
-abbrev pub Sound : Automaton → List ℕ → ℕ → Type 0
-Sound A T i = Arrives A T i (depth (pair T i)) (one (pair T i)) (other (pair T i)) (origin T i)
+-- pair i is there for a reason: initial states, or a step from an earlier pair
+abbrev pub Justified : Automaton → List ℕ → ℕ → Type 0
+Justified A T i = Arrives A T i (depth (pair T i)) (one (pair T i)) (other (pair T i)) (origin T i)
 
-abbrev pub AllSound : Automaton → List ℕ → ℕ → Type 0
-AllSound A T count = (i : ℕ) → i < count → Sound A T i
+abbrev pub AllJustified : Automaton → List ℕ → ℕ → Type 0
+AllJustified A T count = (i : ℕ) → i < count → Justified A T i
 
 -- a longer queue, no pair deeper than d
 pub record Grown (A : Automaton) (T : List ℕ) (count d : ℕ) (T' : List ℕ) (count' : ℕ) : Type 0 where
   pub queue : Queue T' count'
-  pub sound : AllSound A T' count'
+  pub justified : AllJustified A T' count'
   pub more : count ≤ count'
   pub keeps : Keeps T count T'
   pub most : AtMost T' count' d
@@ -53,7 +53,7 @@ pub record Empty (T : List ℕ) : Type 0 where
 -- the start of the queue
 pub record Started (A : Automaton) (T : List ℕ) (count m : ℕ) : Type 0 where
   pub queue : Queue T count
-  pub sound : AllSound A T count
+  pub justified : AllJustified A T count
   pub most : AtMost T count 0
   pub begun : Begun A T count m
 
@@ -74,7 +74,7 @@ pub record Ready (A : Automaton) (T : List ℕ) (count head : ℕ) : Type 0 wher
   pub fits : Fits A
   pub cells : 128 ≤ length (A .table)
   pub queue : Queue T count
-  pub sound : AllSound A T count
+  pub justified : AllJustified A T count
   pub some : head < count
   pub near : AtMost T count (suc (depth (pair T head)))
 
@@ -99,7 +99,7 @@ pub record Joining (table : List ℕ) (counts e l : ℕ) : Type 0 where
 -- the search has come to pair head: the pairs before are done
 pub record Search (A : Automaton) (counts : ℕ) (T : List ℕ) (count head : ℕ) : Type 0 where
   pub queue : Queue T count
-  pub sound : AllSound A T count
+  pub justified : AllJustified A T count
   pub begun : Begun A T count 16
   pub within : head ≤ count
   pub near : head < count → AtMost T count (suc (depth (pair T head)))
@@ -111,7 +111,7 @@ pub record Found (A : Automaton) (counts : ℕ) (T : List ℕ) (head : ℕ) : Ty
   pub size : length T ≡ 528
   pub some : head < 256
   pub most : depth (pair T head) < 136
-  pub sound : AllSound A T (suc head)
+  pub justified : AllJustified A T (suc head)
   pub letter : ℕ
   pub low : letter < 8
   pub joins : JoinsOn (A .table) counts (pair T head) letter

@@ -13,7 +13,7 @@ use Rattle.meeting.specs.Search.{Grown, Started, Closed, Ready, JoinsOn,
 pub search-start : {A : Automaton} {counts : ℕ} {T : List ℕ} {count : ℕ} → Started A T count 16 → Search A counts T count 0
 search-start s = record {
   queue = s .queue;
-  sound = s .sound;
+  justified = s .justified;
   begun = s .begun;
   within = omega arith;
   near = λ h i l. (let m = s .most i l in omega arith);
@@ -23,7 +23,7 @@ search-start s = record {
 
 module _ {A : Automaton} {counts : ℕ} {T : List ℕ} {count head : ℕ} (s : Search A counts T count head) (h : head < count) where
   pub search-ready : Fits A → 128 ≤ length (A .table) → Ready A T count head
-  search-ready fits cells = record { fits = fits; cells = cells; queue = s .queue; sound = s .sound; some = h; near = s .near h }
+  search-ready fits cells = record { fits = fits; cells = cells; queue = s .queue; justified = s .justified; some = h; near = s .near h }
 
   module _ {e : ℕ} (is : e ≡ pair T head) (f : (l : ℕ) → l < 8 → JoinsOn (A .table) counts e l → ⊥) {T' : List ℕ} {count' : ℕ}
       (g : Grown A T count (suc (depth (pair T head))) T' count') (c : Closed A T' count' head) where
@@ -44,7 +44,7 @@ module _ {A : Automaton} {counts : ℕ} {T : List ℕ} {count head : ℕ} (s : S
         let m = g .more in
         record {
           queue = g .queue;
-          sound = g .sound;
+          justified = g .justified;
           begun = λ p q l a b. has-longer T T' count count' 0 p q (g .keeps) (g .more) (s .begun p q l a b);
           within = omega arith;
           near = λ l i k. (let u = g .most i k in let v = g .queue .sorted head (head + 1) (omega arith) l in let o = g .keeps head h .0 in let v' : depth (pair T head) ≤ depth (pair T' (head + 1)) = rw o at v in omega arith);

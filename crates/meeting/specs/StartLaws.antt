@@ -12,7 +12,7 @@ use Rattle.queue.specs.Queue.{Has, Longer, Below, Open}
 use Rattle.queue.specs.RowLaws.{has-longer}
 use Rattle.meeting.specs.Search.{Empty, Started, Guarded}
 use Rattle.automaton.specs.EdgeLaws.{initial-lt}
-use Rattle.meeting.specs.SoundLaws.{sound-longer}
+use Rattle.meeting.specs.JustifiedLaws.{justified-longer}
 
 pub start-empty : {A : Automaton} {T : List ℕ} → Empty T → Started A T 0 0
 start-empty e = record {
@@ -25,7 +25,7 @@ start-empty e = record {
     noted = λ i l. absurd (omega arith);
     listed = λ p q l m. absurd (no-member q (subst (λ (x : ℕ). Member x q) (e .zeros (512 + p)) m));
   };
-  sound = λ i l. absurd (omega arith);
+  justified = λ i l. absurd (omega arith);
   most = λ i l. absurd (omega arith);
   begun = λ p q l. absurd (omega arith);
 }
@@ -44,7 +44,7 @@ module _ {A : Automaton} {T : List ℕ} {count p : ℕ} (s : Started A T count p
     pub start-more : Started A T' count' (p + 1)
     start-more = record {
       queue = y .queue;
-      sound = sound-longer A T count 0 p (Below x 16) 0 T' count' (s .sound) y (λ q m. (let (a, b) = g q .0 (m .1) in inl (record { deep = refl; left = a; right = b })));
+      justified = justified-longer A T count 0 p (Below x 16) 0 T' count' (s .justified) y (λ q m. (let (a, b) = g q .0 (m .1) in inl (record { deep = refl; left = a; right = b })));
       most = y .most;
       begun = λ r q l a b. at r q l a b (decLt r p);
     }

@@ -8,12 +8,12 @@ use native.Mathlib.Decide.{decLt}
 use Rattle.automaton.specs.Automaton.{Automaton, Edge, Fits, successorSet}
 use Rattle.queue.specs.Queue.{pair, depth, one, other, Has, Queue, AtMost, Longer, Below, Open}
 use Rattle.queue.specs.RowLaws.{has-longer}
-use Rattle.meeting.specs.Search.{Arrives, AllSound, Grown, Guarded, Stepped, Closed}
+use Rattle.meeting.specs.Search.{Arrives, AllJustified, Grown, Guarded, Stepped, Closed}
 use Rattle.automaton.specs.EdgeLaws.{edge-of, edge-to}
-use Rattle.meeting.specs.SoundLaws.{sound-longer}
+use Rattle.meeting.specs.JustifiedLaws.{justified-longer}
 
-pub grown-none : {A : Automaton} {T : List ℕ} {count d : ℕ} → Queue T count → AllSound A T count → AtMost T count d → Grown A T count d T count
-grown-none q s m = record { queue = q; sound = s; more = omega arith; keeps = λ i l. (refl, refl); most = m }
+pub grown-none : {A : Automaton} {T : List ℕ} {count d : ℕ} → Queue T count → AllJustified A T count → AtMost T count d → Grown A T count d T count
+grown-none q s m = record { queue = q; justified = s; more = omega arith; keeps = λ i l. (refl, refl); most = m }
 
 -- Step j is on letter j / 16 to state j % 16; e is the pair whose steps they are.
 module _ {A : Automaton} (fits : Fits A) {T₀ : List ℕ} {count₀ head e d : ℕ} (h : head < count₀) (is : e ≡ pair T₀ head) (deep : d ≡ depth e + 1)
@@ -44,7 +44,7 @@ module _ {A : Automaton} (fits : Fits A) {T₀ : List ℕ} {count₀ head e d : 
         let b = y .more in
         record {
           queue = y .queue;
-          sound = sound-longer A T count d (j % 16) (Below x 16) (8 * head + j / 16) T' count' (g .sound) y why;
+          justified = justified-longer A T count d (j % 16) (Below x 16) (8 * head + j / 16) T' count' (g .justified) y why;
           more = omega arith;
           keeps = λ i m. (let k = y .keeps i (omega arith) in let u = g .keeps i m in (k .0 ∙ u .0, k .1 ∙ u .1));
           most = y .most;

@@ -7,7 +7,7 @@ use Rattle.sets.specs.Sets.{Member}
 use Rattle.automaton.specs.Automaton.{Automaton, Edge}
 use Rattle.automaton.specs.Lent.{Tables, tables}
 use Rattle.queue.specs.Queue.{pair, origin, depth, one, other}
-use Rattle.meeting.specs.Search.{AllSound}
+use Rattle.meeting.specs.Search.{AllJustified}
 
 -- the tables with letter l and the states of pair e at time t
 abbrev pub noted : Tables → ℕ → ℕ → ℕ → Tables
@@ -52,4 +52,4 @@ pub record Traceable (T : List ℕ) (head d : ℕ) (v : Tables) : Type 0 where
 
 -- tables v with the last letter of a meeting have become w, with the letters from t on: whatever the automaton
 abbrev pub Leads : List ℕ → ℕ → ℕ → ℕ → ℕ → Tables → Tables → Type 0
-Leads T head d t i v w = (A : Automaton) (counts : ℕ) → AllSound A T (suc head) → Traced A counts T head d d head v → Traced A counts T head d t i w
+Leads T head d t i v w = (A : Automaton) (counts : ℕ) → AllJustified A T (suc head) → Traced A counts T head d d head v → Traced A counts T head d t i w

@@ -10,7 +10,7 @@ use lib.Seq.{getD-set-same, getD-set-other}
 use Rattle.automaton.specs.Automaton.{Automaton, Edge}
 use Rattle.automaton.specs.Lent.{Tables}
 use Rattle.queue.specs.Queue.{pair, origin, depth, one, other}
-use Rattle.meeting.specs.Search.{Sound, AllSound, Next}
+use Rattle.meeting.specs.Search.{Justified, AllJustified, Next}
 use Rattle.meeting.specs.Trace.{noted, Tail, Traced, Linked, Leads}
 
 tail-step : (A : Automaton) (d u : ℕ) (word states : List ℕ) (l p : ℕ) → u < d → u < length word → u < length states
@@ -27,17 +27,17 @@ tail-step A d u word states l p h hw hs e t = record {
         rw (getD-set-other word u s l 0 z, getD-set-other states u s p 0 z, getD-set-other states u (suc s) p 0 (λ v. omega arith)) (t .goes s (omega arith) y)
 
 -- a pair at a depth above 0 comes from an earlier pair
-comes-from : (A : Automaton) (T : List ℕ) (i : ℕ) → 0 < depth (pair T i) → Sound A T i
+comes-from : (A : Automaton) (T : List ℕ) (i : ℕ) → 0 < depth (pair T i) → Justified A T i
     → Next A T i (depth (pair T i)) (one (pair T i)) (other (pair T i)) (origin T i)
 comes-from A T i h (inl f) = absurd (let z = f .deep in omega arith)
 comes-from A T i h (inr n) = n
 
-module _ (A : Automaton) (counts : ℕ) (T : List ℕ) (head d t i : ℕ) (v : Tables) (sound : AllSound A T (suc head)) (x : Traced A counts T head d t i v) where
+module _ (A : Automaton) (counts : ℕ) (T : List ℕ) (head d t i : ℕ) (v : Tables) (justified : AllJustified A T (suc head)) (x : Traced A counts T head d t i v) where
   trace-next : 0 < t → Next A T i t (one (pair T i)) (other (pair T i)) (origin T i)
   trace-next h =
       let e = x .deep in
       let b = x .before in
-      subst (λ (z : ℕ). Next A T i z (one (pair T i)) (other (pair T i)) (origin T i)) e (comes-from A T i (omega arith) (sound i (omega arith)))
+      subst (λ (z : ℕ). Next A T i z (one (pair T i)) (other (pair T i)) (origin T i)) e (comes-from A T i (omega arith) (justified i (omega arith)))
 
   trace-step : (o e u : ℕ) → t ≡ suc u → o ≡ origin T i → e ≡ pair T (o / 8) → d < length (v .word) → d < length (v .one) → d < length (v .other)
       → Traced A counts T head d u (o / 8) (noted v u (o % 8) e)
@@ -65,11 +65,11 @@ module _ (A : Automaton) (counts : ℕ) (T : List ℕ) (head d t i : ℕ) (v : T
         counted = rw (k1 (suc d) (omega arith)) (x .counted);
       }
 
-pub linked : (A : Automaton) (T : List ℕ) (head : ℕ) → AllSound A T (suc head) → Linked T head
-linked A T head sound i l h = let n = comes-from A T i h (sound i (omega arith)) in (n .earlier, n .deep)
+pub linked : (A : Automaton) (T : List ℕ) (head : ℕ) → AllJustified A T (suc head) → Linked T head
+linked A T head justified i l h = let n = comes-from A T i h (justified i (omega arith)) in (n .earlier, n .deep)
 
 pub leads-step : (T : List ℕ) (head d t i : ℕ) (v w : Tables) {w' : Tables} (o e u : ℕ) → t ≡ suc u → o ≡ origin T i → e ≡ pair T (o / 8)
     → d < length (w .word) → d < length (w .one) → d < length (w .other) → w' ≡ noted w u (o % 8) e
     → Leads T head d t i v w → Leads T head d u (o / 8) v w'
 leads-step T head d t i v w o e u z ho he hw h1 h2 n g =
-    subst (Leads T head d u (o / 8) v) (sym n) (λ A counts sound x. trace-step A counts T head d t i w sound (g A counts sound x) o e u z ho he hw h1 h2)
+    subst (Leads T head d u (o / 8) v) (sym n) (λ A counts justified x. trace-step A counts T head d t i w justified (g A counts justified x) o e u z ho he hw h1 h2)

@@ -12,7 +12,7 @@ use Rattle.automaton.specs.Automaton.{Automaton}
 use Rattle.automaton.specs.Meeting.{Walk, Witness, cells}
 use Rattle.automaton.specs.Lent.{Tables}
 use Rattle.queue.specs.Queue.{pair, depth, one, other}
-use Rattle.meeting.specs.Search.{Sound, JoinsOn, Common, Joining, Found}
+use Rattle.meeting.specs.Search.{Justified, JoinsOn, Common, Joining, Found}
 use Rattle.meeting.specs.Trace.{noted, ended, Tail, Traced, Leads}
 use Rattle.meeting.specs.Answer.{Asked}
 use Rattle.meeting.specs.LastLetterLaws.{trace-start}
@@ -22,9 +22,9 @@ whole A d word states m t = record { starts = m; goes = λ s l. t .goes s (omega
 
 traced-witness : (A : Automaton) (counts : ℕ) (T : List ℕ) (head d i : ℕ) (v : Tables) → d ≡ depth (pair T head) → Found A counts T head
     → Traced A counts T head d 0 i v → Witness A (Member counts) (suc d) (v .word) (v .one) (v .other)
-traced-witness A counts T head d i v e f x = go (f .sound i (let b = x .before in omega arith))
+traced-witness A counts T head d i v e f x = go (f .justified i (let b = x .before in omega arith))
   where
-    go : Sound A T i → Witness A (Member counts) (suc d) (v .word) (v .one) (v .other)
+    go : Justified A T i → Witness A (Member counts) (suc d) (v .word) (v .one) (v .other)
     go (inr n) = absurd (let a = n .deep in let b = x .deep in omega arith)
     go (inl n) =
         let m = f .most in
@@ -59,4 +59,4 @@ witness-of A counts T head e l r z i v w a f he j c m k g =
     let low = found-letter A counts T head e l f he j in
     let start = trace-start A counts T head e l z v a he (rw he (f .most)) low (j .joins low .apart) (c z .0 m) in
     let g' = subst (λ (u : Tables). Leads T head (depth e) 0 i (ended u (depth e) z) w) k g in
-    rw add-one (traced-witness A counts T head (depth e) i w (ap depth he) f (g' A counts (f .sound) start))
+    rw add-one (traced-witness A counts T head (depth e) i w (ap depth he) f (g' A counts (f .justified) start))

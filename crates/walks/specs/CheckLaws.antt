@@ -10,12 +10,12 @@ use Rattle.automaton.specs.LentLaws.{lengths-cleared, tables-twice, refuse-clea
 use Rattle.automaton.specs.Meeting.{Everywhere}
 use Rattle.meeting.specs.Answer.{Answered}
 use Rattle.walks.specs.declared.Checked.{Checked}
-use Rattle.walks.specs.declared.Checked.the-variants.{Refused, Free}
+use Rattle.walks.specs.declared.Checked.the-variants.{Refused, Accepted}
 use Rattle.walks.specs.Check.{Checks, ChecksCleared}
 
 checks-cleared : (A : Automaton) (v w : Tables) (c : Checked) → Lengths (A .table) v → ChecksCleared A (clearedTables v) w c → Checks A v w c
 checks-cleared A v w (Refused r) l j = inr (l, refuse-cleared v j)
-checks-cleared A v w Free l (f, x, z) = (l, f, x, z ∙ tables-twice v)
+checks-cleared A v w Accepted l (f, x, z) = (l, f, x, z ∙ tables-twice v)
 
 -- the tables once they are cleared
 module _ {v w : Tables} (e : w ≡ clearedTables v) where
@@ -30,5 +30,5 @@ module _ {A : Automaton} {v w : Tables} {r : ℕ} (a : Answered A Everywhere v w
   pub meets-answered : (r ≡ 0 → ⊥) → Meets A v w (record { number = 10; line = 0; length = r })
   meets-answered e = record { number = refl; line = refl; some = omega arith; witness = a .witness (omega arith); lengths = a .lengths }
 
-  pub free-answered : Fits A → v ≡ clearedTables v → r ≡ 0 → ChecksCleared A v w Free
+  pub free-answered : Fits A → v ≡ clearedTables v → r ≡ 0 → ChecksCleared A v w Accepted
   free-answered f zeros e = (f, a .free e, a .kept e ∙ zeros)

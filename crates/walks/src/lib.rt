@@ -12,7 +12,7 @@ use gate::Refusal;
 // Accepted, or refused with the number of the first question that is answered no.
 pub enum Checked {
     Refused(Refusal),
-    Free,
+    Accepted,
 }
 
 // Question 10, for callers that have asked the questions before it and cleared the tables:
@@ -64,7 +64,7 @@ fn check_cleared(
     }
     let length = ask(a, table, word, one, other);
     if length == 0 {
-        return Checked::Free;
+        return Checked::Accepted;
     }
     Checked::Refused(Refusal {
         number: 10,

@@ -36,4 +36,4 @@ PutNamed A s b c r = (σ : Sheet) → FileIs s σ → σ .k ≡ A .k → Put (wr
 -- the questions before the last, on numbers with the names' file s
 abbrev pub Asks : Automaton → List ℕ → Tables → Tables → Checked → Type 0
 Asks A s v w (K.Refused x) = ((Lengths (A .table) v → ⊥) × (x ≡ refusal 1 0) × (w ≡ v)) ⊎ (Lengths (A .table) v × NamedRefuse A s v w x)
-Asks A s v w K.Free = Lengths (A .table) v × ((σ : Sheet) × NamedAccepted A s σ) × (w ≡ clearedTables v)
+Asks A s v w K.Accepted = Lengths (A .table) v × ((σ : Sheet) × NamedAccepted A s σ) × (w ≡ clearedTables v)

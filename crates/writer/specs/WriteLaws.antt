@@ -113,7 +113,7 @@ module _ {s : List ℕ} {v : Tables} where
   ask-numbers A cells (l, (σ, f, e, g, z)) same x (K.Refused y) (inr (i, refuse)) =
       let cleared-refuse = refuse-cleared v (subst (λ (z : Tables). NumbersRefuse A z x y) z refuse) in
       inr (record { cells = cells; long = l .long }, NamedRefuse.by-numbers σ f (letters σ ∙ sym (e .k) ∙ same) cleared-refuse)
-  ask-numbers A cells (l, (σ, f, e, g, z)) same x K.Free (i, fits, free, j) = (
+  ask-numbers A cells (l, (σ, f, e, g, z)) same x K.Accepted (i, fits, free, j) = (
     record { cells = cells; long = l .long },
     (σ, record { names = f; letters = letters σ ∙ sym (e .k) ∙ same; fits = fits; free = free }),
     j ∙ ap clearedTables z ∙ tables-twice v,
@@ -124,5 +124,5 @@ module _ {A : Automaton} {s : List ℕ} {v w : Tables} where
   numbers-refused (inl (short, e, z)) answer = let (is, same) = refused-first answer e in WritesNumbers.short short is z same
   numbers-refused (inr (l, f)) answer = WritesNumbers.refused l _ f (answer .is) (answer .zero (named-number f))
 
-  pub numbers-finishes : {b c : List ℕ} {r : Written} → Asks A s v w K.Free → PutNamed A s b c r → WritesNumbers A s v w b c r
+  pub numbers-finishes : {b c : List ℕ} {r : Written} → Asks A s v w K.Accepted → PutNamed A s b c r → WritesNumbers A s v w b c r
   numbers-finishes (l, (σ, ok), z) put = WritesNumbers.asked l σ ok z (put σ (ok .names .file) (ok .letters))

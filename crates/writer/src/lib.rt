@@ -133,6 +133,6 @@ pub fn write_numbers(
 {
     match ask(a, table, names, word, one, other) {
         Checked::Refused(r) => gate::refuse(r, out),
-        Checked::Free => finish(a, table, names, out),
+        Checked::Accepted => finish(a, table, names, out),
     }
 }

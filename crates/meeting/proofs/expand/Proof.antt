@@ -36,7 +36,7 @@ loop-holds c =
     let p = c .before .before .before .before .pre in
     let e = c .number .ensures in
     let m : AtMost (a .queue .now) (a .count) (c .number .result / 256 + 1) = λ i l. (let z = p .near i l in rw e (omega arith)) in
-    (omega arith, grown-none (p .queue) (p .sound) m, λ l x y k. absurd (omega arith))
+    (omega arith, grown-none (p .queue) (p .justified) m, λ l x y k. absurd (omega arith))
 
 mul-if1 : tie.Need-mul-if1 Inv-loop μ-loop
 mul-if1 c = search needs

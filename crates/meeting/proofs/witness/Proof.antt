@@ -88,7 +88,7 @@ trace-requires c κs =
     record {
       size = s .pre .1 .size;
       some = s .pre .1 .some;
-      linked = linked (automaton (s .args .a) (s .args .table .now)) (s .args .queue .now) (s .args .head) (s .pre .1 .sound);
+      linked = linked (automaton (s .args .a) (s .args .table .now)) (s .args .queue .now) (s .args .head) (s .pre .1 .justified);
       deep = ap depth (sym (numbered n .number .ensures));
       word = omega arith;
       one = simp length-set (omega arith);

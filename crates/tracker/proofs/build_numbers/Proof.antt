@@ -4,7 +4,7 @@ use Rattle.automaton.specs.Automaton.{automaton}
 use Rattle.automaton.specs.Lent.{Tables, tables}
 use Rattle.walks.specs.Check.{Checks}
 use Rattle.walks.specs.declared.Checked.{Checked}
-use Rattle.walks.specs.declared.Checked.the-variants.{Free}
+use Rattle.walks.specs.declared.Checked.the-variants.{Accepted}
 use Rattle.tracker.specs.Build.{store, Lent, BuildsNumbers}
 use Rattle.tracker.specs.BuildLaws.{numbers-refused}
 use borrow.Author.Needs.{needs}
@@ -33,7 +33,7 @@ Checked-as c x =
 abbrev behind : tie.After-enum-told → tie.After-check
 behind c = c .before .before .before .before .before .before .before .before
 
-accepted : (c : tie.After-enum-told) → Checked-as (behind c) Free
+accepted : (c : tie.After-enum-told) → Checked-as (behind c) Accepted
 accepted c = subst (Checked-as (behind c)) (c .enum-told .given .1) (behind c .check .ensures)
 
 enough-requires : tie.Need-enough-requires

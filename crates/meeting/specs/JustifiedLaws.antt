@@ -6,7 +6,7 @@ use native.Mathlib.Omega.{arith}
 use native.Mathlib.Decide.{decLt}
 use Rattle.automaton.specs.Automaton.{Automaton}
 use Rattle.queue.specs.Queue.{pair, origin, depth, one, other, Keeps, Longer}
-use Rattle.meeting.specs.Search.{Arrives, Sound, AllSound}
+use Rattle.meeting.specs.Search.{Arrives, Justified, AllJustified}
 
 arrives-keeps : (A : Automaton) (T T' : List ℕ) (m count d p q o : ℕ) → m ≤ count → Keeps T count T' → Arrives A T m d p q o → Arrives A T' m d p q o
 arrives-keeps A T T' m count d p q o l k (inl f) = inl f
@@ -19,11 +19,11 @@ arrives-later : (A : Automaton) (T : List ℕ) (m count d p q o : ℕ) → m ≤
 arrives-later A T m count d p q o l (inl f) = inl f
 arrives-later A T m count d p q o l (inr n) = let h = n .earlier in inr (record { earlier = omega arith; deep = n .deep; left = n .left; right = n .right })
 
-pub sound-longer : (A : Automaton) (T : List ℕ) (count d p : ℕ) (S : ℕ → Type 0) (o : ℕ) (T' : List ℕ) (count' : ℕ)
-    → AllSound A T count → Longer T count d p S o T' count' → ((q : ℕ) → S q → Arrives A T count d p q o) → AllSound A T' count'
-sound-longer A T count d p S o T' count' s x why i l = by (decLt i count)
+pub justified-longer : (A : Automaton) (T : List ℕ) (count d p : ℕ) (S : ℕ → Type 0) (o : ℕ) (T' : List ℕ) (count' : ℕ)
+    → AllJustified A T count → Longer T count d p S o T' count' → ((q : ℕ) → S q → Arrives A T count d p q o) → AllJustified A T' count'
+justified-longer A T count d p S o T' count' s x why i l = by (decLt i count)
   where
-    by : Dec (i < count) → Sound A T' i
+    by : Dec (i < count) → Justified A T' i
     by (yes h) =
         let k = x .keeps i h in
         rw (k .0, k .1) (arrives-keeps A T T' i count (depth (pair T i)) (one (pair T i)) (other (pair T i)) (origin T i) (omega arith) (x .keeps) (s i h))
