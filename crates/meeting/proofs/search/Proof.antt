@@ -3,9 +3,6 @@ use Prim.Native.Nat.{ℕ}
 use mathlib.Core.Path.{_≡_}
 use native.Mathlib.Omega.{arith}
 use lib.ListN.{length-replicate}
-use Rattle.sets.specs.Sets.{Member}
-use Rattle.automaton.specs.Automaton.{automaton}
-use Rattle.automaton.specs.Lent.{tables}
 use Rattle.gate.specs.GateLaws.{zeros}
 use Rattle.meeting.specs.AnswerLaws.{answer-free, answer-witness}
 use borrow.Author.Needs.{needs}
@@ -38,21 +35,15 @@ same-length-3 c = search needs
 
 returns : tie.Need-returns
 returns c =
-    let a =
-    c .before .before .before .before .before .before .before .before .before .before .before .before .before .before .before .before .before .before .before .args
-    in
     let g = c .before .before .before .before .before .before .witness in
     let k = g .kept .1 .1 .1 .1 .1 in
-    let l = g .last .1 .1 .1 .1 .1 in
-    answer-witness (automaton (a .a) (a .table .now)) (Member (a .counts)) (tables (a .word .now) (a .one .now) (a .other .now))
-    (tables (l .0) (l .1 .0) (l .1 .1 .0)) (g .result) (g .ensures .0) (g .ensures .1) (record { word = k .0; one = k .1 .0; other = k .1 .1 .0 })
+    answer-witness (g .ensures .0) (g .ensures .1) (record { word = k .0; one = k .1 .0; other = k .1 .1 .0 })
 
 returns-2 : tie.Need-returns-2
 returns-2 c =
-    let a = c .before .before .before .before .before .before .before .before .args in
     let g = c .before .before .explore in
     let e : g .result ≡ 256 = omega (arith, g .ensures .0) in
-    answer-free (automaton (a .a) (a .table .now)) (Member (a .counts)) (tables (a .word .now) (a .one .now) (a .other .now)) (g .ensures .1 e)
+    answer-free (g .ensures .1 e)
 
 pub search-spec : {M : Type 1} → statement M
 search-spec =
