@@ -7,11 +7,11 @@ use Rattle.sets.specs.SetLaws.{some-member, no-member}
 use Rattle.queue.specs.Queue.{one, other}
 use Rattle.meeting.specs.Search.{Common, JoinsOn}
 
-pub common-joins : (table : List ℕ) (counts e l r : ℕ) → Common table counts (one e) (other e) l r → (one e ≡ other e → ⊥) → (r ≡ 0 → ⊥) → JoinsOn table counts e l
-common-joins table counts e l r c f g =
+pub common-joins : {table : List ℕ} {counts e l r : ℕ} → Common table counts (one e) (other e) l r → (one e ≡ other e → ⊥) → (r ≡ 0 → ⊥) → JoinsOn table counts e l
+common-joins {r = r} c f g =
     let (z, h) = some-member r g in
     let (a, b, d) = c z .0 h in
     record { apart = f; state = z; left = a; right = b; counted = d }
 
-pub common-none : (table : List ℕ) (counts e l r : ℕ) → Common table counts (one e) (other e) l r → r ≡ 0 → JoinsOn table counts e l → ⊥
-common-none table counts e l r c z j = no-member (j .state) (subst (λ (x : ℕ). Member x (j .state)) z (c (j .state) .1 (j .left, j .right, j .counted)))
+pub common-none : {table : List ℕ} {counts e l r : ℕ} → Common table counts (one e) (other e) l r → r ≡ 0 → JoinsOn table counts e l → ⊥
+common-none c z j = no-member (j .state) (subst (λ (x : ℕ). Member x (j .state)) z (c (j .state) .1 (j .left, j .right, j .counted)))

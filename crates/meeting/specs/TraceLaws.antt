@@ -65,11 +65,11 @@ module _ (A : Automaton) (counts : ℕ) (T : List ℕ) (head d t i : ℕ) (v : T
         counted = rw (k1 (suc d) (omega arith)) (x .counted);
       }
 
-pub linked : (A : Automaton) (T : List ℕ) (head : ℕ) → AllJustified A T (suc head) → Linked T head
-linked A T head justified i l h = let n = comes-from A T i h (justified i (omega arith)) in (n .earlier, n .deep)
+pub linked : {A : Automaton} {T : List ℕ} {head : ℕ} → AllJustified A T (suc head) → Linked T head
+linked {A} {T} justified i l h = let n = comes-from A T i h (justified i (omega arith)) in (n .earlier, n .deep)
 
-pub leads-step : (T : List ℕ) (head d t i : ℕ) (v w : Tables) {w' : Tables} (o e u : ℕ) → t ≡ suc u → o ≡ origin T i → e ≡ pair T (o / 8)
+pub leads-step : {T : List ℕ} {head d t i : ℕ} {v w w' : Tables} (o e u : ℕ) → t ≡ suc u → o ≡ origin T i → e ≡ pair T (o / 8)
     → d < length (w .word) → d < length (w .one) → d < length (w .other) → w' ≡ noted w u (o % 8) e
     → Leads T head d t i v w → Leads T head d u (o / 8) v w'
-leads-step T head d t i v w o e u z ho he hw h1 h2 n g =
+leads-step {T} {head} {d} {t} {i} {v} {w} o e u z ho he hw h1 h2 n g =
     subst (Leads T head d u (o / 8) v) (sym n) (λ A counts justified x. trace-step A counts T head d t i w justified (g A counts justified x) o e u z ho he hw h1 h2)

@@ -44,19 +44,19 @@ traced-witness A counts T head d i v e f x = go (f .justified i (let b = x .befo
         }
 
 -- the pair found joins on some letter
-pub found-letter : (A : Automaton) (counts : ℕ) (T : List ℕ) (head e l : ℕ) → Found A counts T head → e ≡ pair T head → Joining (A .table) counts e l → l < 8
-found-letter A counts T head e l f h j = by (decLt l 8)
+pub found-letter : {A : Automaton} {counts : ℕ} {T : List ℕ} {head e l : ℕ} → Found A counts T head → e ≡ pair T head → Joining (A .table) counts e l → l < 8
+found-letter {A} {counts} {l = l} f h j = by (decLt l 8)
   where
     by : Dec (l < 8) → l < 8
     by (yes k) = k
     by (no k) = let m = f .low in absurd (j .none (f .letter) (omega arith) (subst (λ (x : ℕ). JoinsOn (A .table) counts x (f .letter)) (sym h) (f .joins)))
 
-pub witness-of : (A : Automaton) (counts : ℕ) (T : List ℕ) (head e l r z i : ℕ) (v w : Tables) {u : Tables} → Asked A v → Found A counts T head → e ≡ pair T head
+pub witness-of : {A : Automaton} {counts : ℕ} {T : List ℕ} {head e l i : ℕ} {v w u : Tables} (r z : ℕ) → Asked A v → Found A counts T head → e ≡ pair T head
     → Joining (A .table) counts e l → Common (A .table) counts (one e) (other e) l r → Member r z → u ≡ noted v (depth e) l e
     → Leads T head (depth e) 0 i (ended u (depth e) z) w
     → Witness A (Member counts) (depth e + 1) (w .word) (w .one) (w .other)
-witness-of A counts T head e l r z i v w a f he j c m k g =
-    let low = found-letter A counts T head e l f he j in
+witness-of {A} {counts} {T} {head} {e} {l} {i} {v} {w} r z a f he j c m k g =
+    let low = found-letter f he j in
     let start = trace-start A counts T head e l z v a he (rw he (f .most)) low (j .joins low .apart) (c z .0 m) in
     let g' = subst (λ (u : Tables). Leads T head (depth e) 0 i (ended u (depth e) z) w) k g in
     rw add-one (traced-witness A counts T head (depth e) i w (ap depth he) f (g' A counts (f .justified) start))

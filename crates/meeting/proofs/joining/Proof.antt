@@ -27,10 +27,11 @@ common-requires c κs = search needs
 
 returns-2 : tie.Need-returns-2 Inv-loop μ-loop
 returns-2 c =
-    let a = c .before .before .before .before .before .before .args in
-    let l = c .before .before .before .loop in
-    let g = c .before .common in
-    record { most = omega arith; joins = λ m. common-joins (a .table .now) (a .counts) (a .e) (l .l) (g .result) (g .ensures) (c .before .before .before .before .if1 .left) (c .if2 .taken); none = l .inv .1 }
+    record {
+      most = omega arith;
+      joins = λ m. common-joins (c .before .common .ensures) (c .before .before .before .before .if1 .left) (c .if2 .taken);
+      none = c .before .before .before .loop .inv .1;
+    }
 
 add-l : tie.Need-add-l Inv-loop μ-loop
 add-l c = search needs
@@ -40,10 +41,7 @@ loop-less c = search needs
 
 loop-again : tie.Need-loop-again Inv-loop μ-loop
 loop-again c =
-    let a = c .before .before .before .before .before .before .args in
-    let l = c .before .before .before .loop in
-    let g = c .before .common in
-    (omega arith, below-more _ _ (l .inv .1) (common-none (a .table .now) (a .counts) (a .e) (l .l) (g .result) (g .ensures) (c .if2 .left)))
+    (omega arith, below-more _ _ (c .before .before .before .loop .inv .1) (common-none (c .before .common .ensures) (c .if2 .left)))
 
 returns-3 : tie.Need-returns-3 Inv-loop μ-loop
 returns-3 c =

@@ -78,8 +78,7 @@ loop-again c =
       n .kept .0 ∙ l .inv .3,
       n .kept .1 .0 ∙ l .inv .4,
       n .kept .1 .1 .0 ∙ l .inv .5,
-      leads-step (a .queue .now) (a .head) (a .d) (l .t) (l .i) (tables (a .word .now) (a .one .now) (a .other .now)) (tables (l .word) (l .one) (l .other))
-          (g .number .result) (k .result) (l .t - 1) u (g .number .ensures) (k .ensures) (omega arith) (omega arith) (omega arith) (n .ensures) (l .inv .6),
+      leads-step (g .number .result) (k .result) (l .t - 1) u (g .number .ensures) (k .ensures) (omega arith) (omega arith) (omega arith) (n .ensures) (l .inv .6),
     )
 
 same-length : tie.Need-same-length Inv-loop μ-loop

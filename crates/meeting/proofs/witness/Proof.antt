@@ -3,8 +3,6 @@ use Prim.Native.Nat.{_/_, _<_}
 use mathlib.Core.Path.{sym, ap, _∙_}
 use native.Mathlib.Omega.{arith}
 use lib.ListN.{length-set}
-use Rattle.automaton.specs.Automaton.{automaton}
-use Rattle.automaton.specs.Lent.{tables}
 use Rattle.queue.specs.Queue.{depth}
 use Rattle.meeting.specs.JoinLaws.{common-none}
 use Rattle.meeting.specs.WitnessLaws.{found-letter, witness-of}
@@ -28,10 +26,7 @@ deep c = rw (c .number .ensures) (start c .pre .1 .most)
 
 low : (c : tie.After-joining) → c .joining .result < 8
 low c =
-    let s = start (c .before) in
-    let e = c .before .number in
-    found-letter (automaton (s .args .a) (s .args .table .now)) (s .args .counts) (s .args .queue .now) (s .args .head) (e .result) (c .joining .result)
-    (s .pre .1) (e .ensures) (c .joining .ensures)
+    found-letter (start (c .before) .pre .1) (c .before .number .ensures) (c .joining .ensures)
 
 number-requires : tie.Need-number-requires
 number-requires c κs = search needs
@@ -45,10 +40,7 @@ common-requires c κs =
 
 member-requires : tie.Need-member-requires
 member-requires c κs =
-    let a = start (c .before .before) .args in
-    let e = c .before .before .number in
-    let j = c .before .joining in
-    λ z. common-none (a .table .now) (a .counts) (e .result) (j .result) (c .common .result) (c .common .ensures) z (j .ensures .joins (low (c .before)))
+    λ z. common-none (c .common .ensures) z (c .before .joining .ensures .joins (low (c .before)))
 
 cast-z : tie.Need-cast-z
 cast-z c = search needs
@@ -88,7 +80,7 @@ trace-requires c κs =
     record {
       size = s .pre .1 .size;
       some = s .pre .1 .some;
-      linked = linked (automaton (s .args .a) (s .args .table .now)) (s .args .queue .now) (s .args .head) (s .pre .1 .justified);
+      linked = linked (s .pre .1 .justified);
       deep = ap depth (sym (numbered n .number .ensures));
       word = omega arith;
       one = simp length-set (omega arith);
@@ -115,20 +107,12 @@ returns : tie.Need-returns
 returns c =
     let traced = c .before .before .before .before .before .before in
     let n = noted traced in
-    let s = start (numbered n) in
-    let g = traced .trace in
-    let a = s .args in
-    let A = automaton (a .a) (a .table .now) in
-    let e = numbered n .number in
-    let j = n .before .before .before .before .before .before .joining in
+    let p = start (numbered n) .pre in
+    let e = numbered n .number .ensures in
+    let j = n .before .before .before .before .before .before .joining .ensures in
     let r = n .before .before .before .before .before .common in
     let z = n .before .before .before .before .member in
-    let w = tables (g .last .1 .1 .1 .0) (g .last .1 .1 .1 .1 .0) (g .last .1 .1 .1 .1 .1 .0) in (
-      omega arith,
-      witness-of A (a .counts) (a .queue .now) (a .head) (e .result) (j .result) (r .result) (z .result) (g .ensures .0)
-          (tables (a .word .now) (a .one .now) (a .other .now)) w
-          (s .pre .0) (s .pre .1) (e .ensures) (j .ensures) (r .ensures) (z .ensures .1) (n .note .ensures) (g .ensures .1),
-    )
+    (omega arith, witness-of (r .result) (z .result) (p .0) (p .1) e j (r .ensures) (z .ensures .1) (n .note .ensures) (traced .trace .ensures .1))
 
 pub witness-spec : {M : Type 1} → statement M
 witness-spec =
