@@ -46,7 +46,7 @@ module _ (E : ℕ → ℕ → ℕ → Type 0) where
     idx zero = zero
     idx (suc t) = pick (ℕ-discrete (suc (idx t)) (A + L)) A (suc (idx t))
 
-    -- idx t is below A + L, and t by some turns of the loop away from it
+    -- idx t lies below A + L, and t is some turns of the loop later
     abbrev Folded : ℕ → Type 0
     Folded t = (k : ℕ) × (idx t < A + L) × (t ≡ idx t + k * L) × ((k ≡ 0) ⊎ (A ≤ idx t))
 

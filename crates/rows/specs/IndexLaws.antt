@@ -146,23 +146,23 @@ module _ (m : ℕ) (d e : ℕ → ℕ) (h : ℕ) (head link : List ℕ) (i : Ind
   index-more = record { head-is = head-is; link-is = link-is; head-of = head-of; link-of = link-of; last = last; before = before }
 
 -- the table and its index with one row more
-pub added : {table : List ℕ} {m : ℕ} {row : List ℕ} {h : ℕ} {head link : List ℕ} → Indexed table m head link → Sought row h → m < 1024 → 17 * m + 17 ≤ length table
-    → Added table (sets table (17 * m) row) m row (set head h (m + 1)) (set link m (getD head h 0))
-added {table = table} {m = m} {row = row} {h = h} {head = head} {link = link} i s k l =
-    let hs = i .heads in
-    let ls = i .links in
-    let g = s .small in
-    record {
-      is = refl;
-      indexed = record {
-        rows = rw (length-sets table (17 * m) row) (omega arith);
-        most = omega arith;
-        heads = simp length-set hs;
-        links = simp length-set ls;
-        index =
-            index-more m (λ t. digestOf (rowAt table t)) (λ t. digestOf (rowAt (sets table (17 * m) row) t)) h head link (i .index)
-            (λ t j. ap digestOf (part-kept 17 table row (17 * m) (17 * t) (omega arith)))
-            (ap digestOf (part-stored 17 table row (17 * m) (s .cells) l) ∙ sym (s .digest))
-            (omega arith) (omega arith);
-      };
-    }
+module _ {table : List ℕ} {m : ℕ} {row : List ℕ} {h : ℕ} {head link : List ℕ} (i : Indexed table m head link) (s : Sought row h) where
+  pub added : m < 1024 → 17 * m + 17 ≤ length table → Added table (sets table (17 * m) row) m row (set head h (m + 1)) (set link m (getD head h 0))
+  added k l =
+      let hs = i .heads in
+      let ls = i .links in
+      let g = s .small in
+      record {
+        is = refl;
+        indexed = record {
+          rows = rw (length-sets table (17 * m) row) (omega arith);
+          most = omega arith;
+          heads = simp length-set hs;
+          links = simp length-set ls;
+          index =
+              index-more m (λ t. digestOf (rowAt table t)) (λ t. digestOf (rowAt (sets table (17 * m) row) t)) h head link (i .index)
+              (λ t j. ap digestOf (part-kept 17 table row (17 * m) (17 * t) (omega arith)))
+              (ap digestOf (part-stored 17 table row (17 * m) (s .cells) l) ∙ sym (s .digest))
+              (omega arith) (omega arith);
+        };
+      }
