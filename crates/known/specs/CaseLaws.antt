@@ -37,9 +37,9 @@ use Rattle.known.specs.Case.{Expected, judged, meeting, Case, Tracked, V
 use Rattle.known.specs.Case as E
 use Rattle.known.specs.VerdictTest.{isVerdict}
 use Rattle.known.specs.VerdictTestLaws.{verdict-is, one-verdict}
-use Rattle.known.specs.CaseTest.{automatonOf, isRefused, rightPlan, rightColours, right}
+use Rattle.known.specs.CaseTest.{isRefused, rightPlan, rightColours, right}
 use Rattle.known.specs.CauseLaws.{Planned, IsBuilt, verdict-cause, build-cause}
-use Rattle.known.specs.SheetLaws.{numbers-are, sheet-asked}
+use Rattle.known.specs.SheetLaws.{sheet-asked}
 
 refused-is : (number line : ℕ) (e : Expected) → isRefused number line e ≡ true → E.refused number line ≡ e
 unfolding isRefused
@@ -67,7 +67,7 @@ no-witness ts word one other c = false≢true c
 -- THE PLAN, on a sheet file read as x
 module _ (s p : List ℕ) (f g : Store) (σ : Sheet) (file : FileIs s σ) (x : Contents) (are : AreContents σ x) (ts : List Tuple) where
   abbrev A : Automaton
-  A = automatonOf x
+  A = x .numbers
 
   -- QUESTIONS 12 TO 14 answered no
   fault-asked : (o : Outcome) (number line : ℕ) → Plan.Faulty σ p number line → o ≡ O.Refused (refusal number line)
@@ -86,7 +86,7 @@ module _ (s p : List ℕ) (f g : Store) (σ : Sheet) (file : FileIs s σ) (x : C
         → z ≡ y
     same-verdict y t =
         one-verdict A (letterAt lead cycle) (length lead) (length cycle) z y
-        (subst (λ (B : Automaton). Judges B (letterAt lead cycle) (length lead) (length cycle) z) (numbers-are s σ x are) j)
+        (subst (λ (B : Automaton). Judges B (letterAt lead cycle) (length lead) (length cycle) z) (sym (are .numbers)) j)
         (verdict-is A (letterAt lead cycle) (length lead) (length cycle) y (rw (take-append-seam lead cycle, drop-append-seam lead cycle) at t))
 
     verdict-asked : (o : Outcome) → Holds (numbers σ) ts f g → o ≡ O.Judged z

@@ -22,10 +22,6 @@ use Rattle.known.specs.Case as E
 use Rattle.known.specs.MeetingTest.{isFree, isShortest}
 use Rattle.known.specs.VerdictTest.{isVerdict}
 
--- the numbers that are read of a sheet file
-abbrev pub automatonOf : S.Contents → Automaton
-automatonOf x = record { n = x .n; k = x .k; initial = x .initial; recurring = x .recurring; table = x .table }
-
 -- the tuples that are found by the steps of the first R tuples: all, where there are at most R
 abbrev pub tuplesIn : Automaton → ℕ → List Tuple
 tuplesIn A room = found A (8 * room)
@@ -64,7 +60,7 @@ rightWalks A names p room (E.refused number line) = isFree A && rightRoom A (tup
 -- questions 3 to 9
 unfoldable pub rightFile : Phase S.Contents → List ℕ → ℕ → Expected → Bool
 rightFile (refused number line) p room e = isRefused number line e
-rightFile (passed x) p room e = rightWalks (automatonOf x) (x .names) p room e
+rightFile (passed x) p room e = rightWalks (x .numbers) (x .names) p room e
 
 -- question 2, and the others
 unfoldable pub right : Case → Bool

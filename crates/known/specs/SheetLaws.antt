@@ -30,16 +30,11 @@ use Rattle.known.specs.Case.{Expected, judged, meeting, Shortest, met}
 use Rattle.known.specs.Case as E
 use Rattle.known.specs.MeetingTest.{isFree, isShortest}
 use Rattle.known.specs.MeetingTestLaws.{free-is, shortest-is}
-use Rattle.known.specs.CaseTest.{automatonOf, tuplesIn, isRefused, rightPlan, rightColours, rightRoom, rightWalks, rightFile}
+use Rattle.known.specs.CaseTest.{tuplesIn, isRefused, rightPlan, rightColours, rightRoom, rightWalks, rightFile}
 use Rattle.known.specs.CauseLaws.{Cause}
 
 refused-not-passed : {A : Type 0} (q : Phase A) (number line : ℕ) (x : A) → q ≡ refused number line → q ≡ passed x → ⊥
 refused-not-passed q number line x e f = let z : _≡_ {A = ℕ} 0 1 = cc in omega arith
-
--- the numbers of a sheet file are those that are read
-pub numbers-are : (s : List ℕ) (σ : Sheet) (x : Contents) → AreContents σ x → numbers σ ≡ automatonOf x
-numbers-are s σ x h =
-    λ i. record { n = sym (h .n) i; k = sym (h .k) i; initial = sym (h .initial) i; recurring = sym (h .recurring) i; table = sym (h .table) i }
 
 -- An outcome, and what is said of it where a refusal, meeting walks or a tracker is found
 module _ (s p : List ℕ) (room : ℕ) (Outcomes : Type 0) (refuse : Refusal → Outcomes) (Then : Sheet → List Tuple → Type 0) (o : Outcomes)
@@ -47,7 +42,7 @@ module _ (s p : List ℕ) (room : ℕ) (Outcomes : Type 0) (refuse : Refusal →
     (says-refused : (number line : ℕ) (e : Expected) → isRefused number line e ≡ true → o ≡ refuse (refusal number line) → Says e)
     (says-meeting : (word one other : List ℕ) → o ≡ refuse (met (length word)) → Shortest s word one other → Says (meeting word one other))
     (says-numbered : (σ : Sheet) → FileIs s σ → (x : Contents) → AreContents σ x → (ts : List Tuple) → Then σ ts
-    → (e : Expected) → rightColours ts e ≡ true → rightPlan (automatonOf x) (planOf (x .names) p) e ≡ true → Says e) where
+    → (e : Expected) → rightColours ts e ≡ true → rightPlan (x .numbers) (planOf (x .names) p) e ≡ true → Says e) where
   abbrev Causes : Type 0
   Causes = Cause s room Outcomes refuse Then o
 
@@ -69,7 +64,7 @@ module _ (s p : List ℕ) (room : ℕ) (Outcomes : Type 0) (refuse : Refusal →
   -- A SHEET FILE, read as x
   module _ (x : Contents) (read : parse s ≡ passed x) where
     abbrev A : Automaton
-    A = automatonOf x
+    A = x .numbers
 
     no-fault : (number line : ℕ) → Faulty s number line → ⊥
     no-fault number line h = refused-not-passed (parse s) number line x (faulty-parse s number line h) read
@@ -82,7 +77,7 @@ module _ (s p : List ℕ) (room : ℕ) (Outcomes : Type 0) (refuse : Refusal →
         subst (AreContents σ) q h
 
     same-numbers : (σ : Sheet) → FileIs s σ → numbers σ ≡ A
-    same-numbers σ file = numbers-are s σ x (read-as σ file)
+    same-numbers σ file = sym (read-as σ file .numbers)
 
     fits : (σ : Sheet) → FileIs s σ → Fits A
     fits σ file = subst Fits (same-numbers σ file) (sheet-fits s σ file)

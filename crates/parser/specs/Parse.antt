@@ -13,6 +13,7 @@ use Rattle.names.specs.Name.{compose}
 use Rattle.names.specs.Scan.{nameEndAt}
 use Rattle.names.specs.declared.Ending.{Ending}
 use Rattle.names.specs.declared.Ending.the-variants as E
+use Rattle.automaton.specs.Automaton.{Automaton}
 use Rattle.format.specs.Format.{Transition, sheetWord, most, place}
 use Rattle.format.specs.Numbers.{inserted}
 use Rattle.parser.specs.Phase.{Phase, refused, passed, andThen, firstPhase, withEnding, letterOf, endAt}
@@ -123,22 +124,14 @@ transitionsAt s n k line at least table (suc fuel) =
 
 -- what a sheet file holds: its numbers, with the 128 successor sets, and its names composed
 pub record Contents : Type 0 where
-  pub n : ℕ
-  pub k : ℕ
-  pub initial : ℕ
-  pub recurring : ℕ
+  pub numbers : Automaton
   pub names : List (List ℕ)
-  pub table : List ℕ
 
 -- what was read in each phase, put together
 abbrev pub contents : Sizes → Named → Sets → List ℕ → Contents
 contents z y q table = record {
-  n = z .n;
-  k = z .k;
-  initial = q .initial;
-  recurring = q .recurring;
+  numbers = record { n = z .n; k = z .k; initial = q .initial; recurring = q .recurring; table = table };
   names = y .names;
-  table = table;
 }
 
 -- the phases behind the state lines

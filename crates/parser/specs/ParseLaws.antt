@@ -36,11 +36,7 @@ upper-text s r1 r2 r3 rest n k names states transitions e1 e2 e3 e4 = e1 ∙ rw 
 
 -- what is read of a sheet file
 pub record AreContents (σ : Sheet) (c : Contents) : Type 0 where
-  pub n : c .n ≡ numbers σ .n
-  pub k : c .k ≡ numbers σ .k
-  pub initial : c .initial ≡ numbers σ .initial
-  pub recurring : c .recurring ≡ numbers σ .recurring
-  pub table : c .table ≡ numbers σ .table
+  pub numbers : c .numbers ≡ numbers σ
   pub names : c .names ≡ map compose (σ .names)
 
 -- WHAT READING GIVES
@@ -134,11 +130,7 @@ module _ (s : List ℕ) (size : length s ≤ most) (z : Sizes) (range : InRange 
 
           holds : AreContents σ (contents z y q table)
           holds = record {
-            n = refl;
-            k = refl;
-            initial = h .initials ∙ zero-add _;
-            recurring = h .recurrings ∙ zero-add _;
-            table = t .filled;
+            numbers = λ i. record { n = z .n; k = z .k; initial = (h .initials ∙ zero-add _) i; recurring = (h .recurrings ∙ zero-add _) i; table = t .filled i };
             names = g .composed;
           }
 

@@ -5,7 +5,7 @@ use mathlib.Core.List.{List, _++_}
 use lib.ListN.{length}
 use Rattle.gate.specs.Gate.{refusal, cleared}
 use Rattle.automaton.specs.declared.Numbers.{Numbers}
-use Rattle.automaton.specs.Automaton.{InRange}
+use Rattle.automaton.specs.Automaton.{Automaton, InRange}
 use Rattle.parser.specs.declared.Bounds.{Bounds}
 use Rattle.parser.specs.declared.Sets.{Sets}
 use Rattle.parser.specs.declared.First.{First}
@@ -25,7 +25,6 @@ use Rattle.parser.specs.declared.End.the-variants as E
 use Rattle.parser.specs.Parse.{Named, Contents}
 use Rattle.parser.specs.Phase.{Phase, refused, passed}
 use Rattle.parser.specs.Rows.{HoldNames}
-use Rattle.format.specs.Numbers.{numbers}
 use Rattle.automaton.specs.Lent.{lentTable}
 
 -- a first line
@@ -78,17 +77,18 @@ abbrev pub FillsTable : Phase (List ℕ) → List ℕ → List ℕ → End → T
 FillsTable (refused number line) rest table r = r ≡ E.Refused (refusal number line)
 FillsTable (passed t) rest table r = (r ≡ E.Reached) × (table ≡ t ++ rest)
 
--- the numbers of a file's contents
-abbrev pub numbersOf : Contents → Numbers
-numbersOf c = record { n = c .n; k = c .k; initial = c .initial; recurring = c .recurring }
+-- an automaton's numbers but for its table
+abbrev pub numbersOf : Automaton → Numbers
+numbersOf A = record { n = A .n; k = A .k; initial = A .initial; recurring = A .recurring }
 
 -- the answer of a file, and the table of successor sets, which was t and is u then
 abbrev pub NumbersRead : Phase Contents → List ℕ → List ℕ → File → Type 0
 NumbersRead (refused number line) t u r = (r ≡ F.Refused (refusal number line)) × (u ≡ cleared t)
-NumbersRead (passed c) t u r = (r ≡ F.Is (numbersOf c)) × (u ≡ lentTable (c .table) t)
+NumbersRead (passed c) t u r = (r ≡ F.Is (numbersOf (c .numbers))) × (u ≡ lentTable (c .numbers .table) t)
 
 -- with that, the rows: where the file is read, they hold its names
 abbrev pub FileRead : Phase Contents → List ℕ → List ℕ → List ℕ → File → Type 0
 FileRead (refused number line) t u rows r = (r ≡ F.Refused (refusal number line)) × (u ≡ cleared t)
 FileRead (passed c) t u rows r =
-    (r ≡ F.Is (numbersOf c)) × (u ≡ lentTable (c .table) t) × InRange (c .n) (c .k) × (length (c .names) ≡ c .k) × HoldNames (c .names) rows
+    (r ≡ F.Is (numbersOf (c .numbers))) × (u ≡ lentTable (c .numbers .table) t)
+    × InRange (c .numbers .n) (c .numbers .k) × (length (c .names) ≡ c .numbers .k) × HoldNames (c .names) rows

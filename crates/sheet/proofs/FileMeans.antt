@@ -26,8 +26,8 @@ pub record FileAccepted (s t u rows : List ℕ) (a : Numbers) : Type 0 where
   pub file : FileIs s sheet
   pub contents : Contents
   pub are : AreContents sheet contents
-  pub is : a ≡ numbersOf contents
-  pub table : u ≡ lentTable (contents .table) t
+  pub is : a ≡ numbersOf (contents .numbers)
+  pub table : u ≡ lentTable (contents .numbers .table) t
   pub range : InRange (a .n) (a .k)
   pub all : length (contents .names) ≡ a .k
   pub holds : HoldNames (contents .names) rows
@@ -46,8 +46,8 @@ module _ (s t u rows : List ℕ) where
       cases : (p : Phase Contents) → Means s p → FileRead p t u rows (F.Is a) → FileAccepted s t u rows a
       cases (refused number line) m e = absurd (let d = e .0 in let z : _≡_ {A = ℕ} 0 1 = cc in omega arith)
       cases (passed c) m e =
-          let d : F.Is a ≡ F.Is (numbersOf c) = e .0 in
-          let h : a ≡ numbersOf c = cc in
+          let d : F.Is a ≡ F.Is (numbersOf (c .numbers)) = e .0 in
+          let h : a ≡ numbersOf (c .numbers) = cc in
           record {
             sheet = m .0;
             file = m .1;
@@ -63,12 +63,9 @@ module _ (s t u rows : List ℕ) where
 -- its numbers and its letters
 module _ {s t u rows : List ℕ} {a : Numbers} (h : FileAccepted s t u rows a) where
   pub are-numbers : AreNumbers (numbers (h .sheet)) a
-  are-numbers = record {
-    n = ap (λ (z : Numbers). z .n) (h .is) ∙ h .are .n;
-    k = ap (λ (z : Numbers). z .k) (h .is) ∙ h .are .k;
-    initial = ap (λ (z : Numbers). z .initial) (h .is) ∙ h .are .initial;
-    recurring = ap (λ (z : Numbers). z .recurring) (h .is) ∙ h .are .recurring;
-  }
+  are-numbers =
+      let e : a ≡ numbersOf (numbers (h .sheet)) = h .is ∙ ap numbersOf (h .are .numbers) in
+      record { n = ap (λ z. z .n) e; k = ap (λ z. z .k) e; initial = ap (λ z. z .initial) e; recurring = ap (λ z. z .recurring) e }
 
   letters-of : LettersOf s rows a
   letters-of = record {

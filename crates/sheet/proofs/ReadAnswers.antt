@@ -28,7 +28,7 @@ use Rattle.sheet.proofs.FileMeans.{FileAccepted, file-refused, are-numb
 -- THE AUTOMATON of a file that is read
 module _ {s t u rows : List ℕ} {a : Numbers} (h : FileAccepted s t u rows a) where
   table-is : u ≡ lentTable (numbers (h .sheet) .table) t
-  table-is = h .table ∙ ap (λ (x : List ℕ). lentTable x t) (h .are .table)
+  table-is = h .table ∙ ap (λ A. lentTable (A .table) t) (h .are .numbers)
 
   sheet-automaton : automaton a (take 128 u) ≡ numbers (h .sheet)
   sheet-automaton = read-is (h .sheet) t (are-numbers h) table-is
