@@ -41,11 +41,11 @@ module _ (t : List ℕ) (zeros : t ≡ cleared t) (long : 128 ≤ length t) wher
       drop-at (replicate 128 0) (replicate (length t - 128) 0) 128 (length-replicate {A = ℕ} 128 0)
 
 -- THE STATE LINES
-pub states-refuse :
+pub refused-by-states :
     (p : Phase Sets) (next : Sets → Phase Contents) (t u : List ℕ) (r : Refusal) →
     Q.Refused r ≡ statesAnswer p → u ≡ cleared t → NumbersRead (andThen p next) t u (F.Refused r)
-states-refuse (refused number line) next t u r e h = (cc, h)
-states-refuse (passed q) next t u r e h = absurd (let z : _≡_ {A = ℕ} 0 1 = cc in omega arith)
+refused-by-states (refused number line) next t u r e h = (cc, h)
+refused-by-states (passed q) next t u r e h = absurd (let z : _≡_ {A = ℕ} 0 1 = cc in omega arith)
 
 pub states-pass : (p : Phase Sets) (next : Sets → Phase Contents) (q : Sets) → Q.Are q ≡ statesAnswer p → andThen p next ≡ next q
 states-pass (refused number line) next q e = absurd (let z : _≡_ {A = ℕ} 0 1 = cc in omega arith)
@@ -53,11 +53,11 @@ states-pass (passed q′) next q e = let g : q′ ≡ q = cc in ap next g
 
 -- THE TRANSITION LINES, the last phase
 module _ (z : Sizes) (y : Named) (q : Sets) where
-  pub transitions-refuse :
+  pub refused-by-transitions :
       (p : Phase (List ℕ)) (t u rest v : List ℕ) (r : Refusal) →
       FillsTable p rest v (E.Refused r) → u ≡ cleared t → NumbersRead (andThen p (λ table. passed (contents z y q table))) t u (F.Refused r)
-  transitions-refuse (refused number line) t u rest v r e h = (cc, h)
-  transitions-refuse (passed table) t u rest v r e h = absurd (let d = e .0 in let z : _≡_ {A = ℕ} 0 1 = cc in omega arith)
+  refused-by-transitions (refused number line) t u rest v r e h = (cc, h)
+  refused-by-transitions (passed table) t u rest v r e h = absurd (let d = e .0 in let z : _≡_ {A = ℕ} 0 1 = cc in omega arith)
 
   pub transitions-pass :
       (p : Phase (List ℕ)) (t u rest : List ℕ) →
@@ -68,11 +68,11 @@ module _ (z : Sizes) (y : Named) (q : Sets) where
   transitions-pass (passed table) t u rest e h = (refl, e .1 ∙ ap (λ (x : List ℕ). table ++ x) h)
 
 -- THE NAME LINES
-pub names-refuse :
+pub refused-by-names :
     (k : ℕ) (p : Phase Named) (next : Named → Phase Contents) (t u rows : List ℕ) (r : Refusal) →
     NamesRead k p rows (N.Refused r) → u ≡ cleared t → FileRead (andThen p next) t u rows (F.Refused r)
-names-refuse k (refused number line) next t u rows r e h = (cc, h)
-names-refuse k (passed y) next t u rows r e h = absurd (let d = e .0 in let z : _≡_ {A = ℕ} 0 1 = cc in omega arith)
+refused-by-names k (refused number line) next t u rows r e h = (cc, h)
+refused-by-names k (passed y) next t u rows r e h = absurd (let d = e .0 in let z : _≡_ {A = ℕ} 0 1 = cc in omega arith)
 
 -- what is known once they are read
 pub record Passes (k : ℕ) (p : Phase Named) (rows : List ℕ) (place : Place) : Type 0 where
@@ -103,12 +103,12 @@ names-pass k (passed y) rows place e =
 
 -- the names of the file are those of the name lines
 module _ (z : Sizes) (y : Named) (rows : List ℕ) (range : InRange (z .n) (z .k)) (all : length (y .names) ≡ z .k) (h : HoldNames (y .names) rows) where
-  pub file-read :
+  pub with-names :
       (p : Phase Sets) (next : Sets → Phase (List ℕ)) (t u : List ℕ) (r : File) →
       NumbersRead (andThen p (λ q. andThen (next q) (λ table. passed (contents z y q table)))) t u r →
       FileRead (andThen p (λ q. andThen (next q) (λ table. passed (contents z y q table)))) t u rows r
-  file-read (refused number line) next t u r e = e
-  file-read (passed q) next t u r e = cases (next q) e
+  with-names (refused number line) next t u r e = e
+  with-names (passed q) next t u r e = cases (next q) e
     where
       cases :
           (p : Phase (List ℕ)) →

@@ -19,7 +19,7 @@ use Rattle.gate.specs.Gate.{padded}
 use Rattle.names.specs.NameLaws.{composed-name}
 use Rattle.parser.specs.Rows.{HoldNames, FirstLike}
 use Rattle.parser.specs.LetterLaws.{letter-is}
-use Rattle.parser.specs.RowsLaws.{holds-more, name-found}
+use Rattle.parser.specs.RowsLaws.{holds-more, row-tells}
 use Rattle.parser.specs.NameLaws.{name-line-is}
 use Rattle.names.specs.declared.Ending.the-variants as E
 use Rattle.parser.specs.declared.StateLine.{StateLine}
@@ -37,12 +37,12 @@ double q = sym (pow-add 2 q 1)
 
 -- THE STATE LINES: q of n are read
 module _ (s : List ℕ) (line at q initial recurring n : ℕ) where
-  pub states-step :
+  pub states-turn :
       {w : StateLine} → q < n → stateLineAt s at q ≡ w →
       statesAt s line at q initial recurring (n - q) ≡
       withFlags w (λ i r. statesAt s (line + 1) (at + 11) (q + 1) (initial + i * 2 ^ q) (recurring + r * 2 ^ q) (n - (q + 1))) (refused 7 line)
   unfolding statesAt
-  states-step h e = rw (left-more h) (simp e)
+  states-turn h e = rw (left-more h) (simp e)
 
   pub states-done :
       n ≤ q →
@@ -52,16 +52,16 @@ module _ (s : List ℕ) (line at q initial recurring n : ℕ) where
 
 -- THE TRANSITION LINES: g of them may still come
 module _ (s : List ℕ) (n k line at least : ℕ) (table : List ℕ) (f g : ℕ) (h : g ≡ suc f) where
-  pub transitions-step :
+  pub transitions-turn :
       {w : TransitionLine} → getD s at 0 ≡ 84 → transitionLineAt s at n k least ≡ w →
       transitionsAt s n k line at least table g ≡
       withTransition w (λ t. transitionsAt s n k (line + 1) (at + 11) (place t + 1) (inserted table t) f) (refused 8 line)
   unfolding transitionsAt
-  transitions-step t e = rw h (simp (eq-eqb _ _ t, e))
+  transitions-turn t e = rw h (simp (eq-eqb _ _ t, e))
 
-  pub transitions-end : (getD s at 0 ≡ 84 → ⊥) → transitionsAt s n k line at least table g ≡ endAt 9 s line at table
+  pub transitions-done : (getD s at 0 ≡ 84 → ⊥) → transitionsAt s n k line at least table g ≡ endAt 9 s line at table
   unfolding transitionsAt
-  transitions-end t = rw h (simp (ne-eqb _ _ t))
+  transitions-done t = rw h (simp (ne-eqb _ _ t))
 
 pub end-fills :
     (s : List ℕ) (line at : ℕ) (t rest table : List ℕ) (r : End) →
@@ -87,21 +87,21 @@ module _ {s : List ℕ} {k : ℕ} {rows : List ℕ} {line at l : ℕ} (z : Names
   names-done h = sym (z .goes) ∙ rw (sub-eq-zero-of-le h)
 
 -- a name stands in the row behind those before it, and row r is the first that is like it
-pub record NameRead (s : List ℕ) (k : ℕ) (rows : List ℕ) (line l e r : ℕ) : Type 0 where
+pub record NameStored (s : List ℕ) (k : ℕ) (rows : List ℕ) (line l e r : ℕ) : Type 0 where
   pub twice : (r ≡ l → ⊥) → namesAt s 2 12 [] k ≡ refused 6 line
   pub more : r ≡ l → NamesSoFar s k rows (line + 1) (e + 1) (l + 1)
 
-pub name-read :
+pub name-stored :
     {s : List ℕ} {k : ℕ} {rows v : List ℕ} {line at l e r : ℕ} →
     NamesSoFar s k rows line at l → l < k → nameLineAt s at l ≡ E.At e → 24 * l + 24 ≤ length rows →
-    v ≡ sets rows (24 * l) (padded 24 (compose (stretch s (at + 5) e))) → FirstLike v l r → NameRead s k v line l e r
+    v ≡ sets rows (24 * l) (padded 24 (compose (stretch s (at + 5) e))) → FirstLike v l r → NameStored s k v line l e r
 unfolding namesAt
-name-read {s} {k} {rows} {v} {line} {at} {l} {e} {r} z h b fits stored like =
+name-stored {s} {k} {rows} {v} {line} {at} {l} {e} {r} z h b fits stored like =
     let x = compose (stretch s (at + 5) e) in
     let name = composed-name (stretch s (at + 5) e) (name-line-is s at l e b .is-name) in
     let letter : letterOf (z .names) x ≡ r =
     letter-is (z .names) x r
-    (name-found (z .names) rows l x (z .count) fits (z .holds) name r (subst (λ (v : List ℕ). FirstLike v l r) stored like)) in
+    (row-tells (z .names) rows l x (z .count) fits (z .holds) name r (subst (λ (v : List ℕ). FirstLike v l r) stored like)) in
     record {
       twice = λ d. sym (z .goes) ∙ rw (left-more h) (simp (z .count, b, ne-eqb _ _ (λ i. d (sym letter ∙ i))));
       more = λ d. record {

@@ -1,5 +1,5 @@
 -- The name lines: the phase that reads them passes or refuses as Format says, by induction along the lines. Assumes nothing.
-use Prim.Native.Nat.{ℕ, zero, suc, _+_, _-_, _≤_, _<_}
+use Prim.Native.Nat.{ℕ, zero, suc, _+_, _≤_, _<_}
 use mathlib.Core.Path.{_≡_, refl, sym, ap, subst, _∙_}
 use mathlib.Core.Bool.{Bool, true, false, and-eq-true-iff}
 use mathlib.Core.List.{List, [], _∷_, _++_, map, append-assoc, append-nil, map-append}
@@ -116,6 +116,18 @@ module _ (s : List ℕ) (line at : ℕ) (earlier : List (List ℕ)) (todo e : �
 composed-more : (earlier : List (List ℕ)) (x y : List ℕ) → y ≡ x → map compose earlier ++ (compose y ∷ []) ≡ map compose (earlier ++ (x ∷ []))
 composed-more earlier x y e = rw e (sym (map-append compose earlier (x ∷ [])))
 
+-- the name on a line of the form, whose LF stands at e, is none of the earlier ones
+abbrev isNew : List ℕ → ℕ → List (List ℕ) → ℕ → Bool
+isNew s at earlier e = eqb (letterOf (map compose earlier) (compose (stretch s (at + 5) e))) (length (map compose earlier))
+
+-- the phase behind such a line, with its name as one more
+abbrev nextName : List ℕ → ℕ → ℕ → List (List ℕ) → ℕ → ℕ → Phase Named
+nextName s line at earlier todo e = namesAt s (line + 1) (e + 1) (map compose earlier ++ (compose (stretch s (at + 5) e) ∷ [])) todo
+
+-- or refused where the name is not new
+abbrev afterName : List ℕ → ℕ → ℕ → List (List ℕ) → ℕ → ℕ → Phase Named
+afterName s line at earlier todo e = choose (isNew s at earlier e) (nextName s line at earlier todo e) (refused 6 line)
+
 pub names-outcome :
     (s : List ℕ) (todo line at : ℕ) (earlier : List (List ℕ)) → length earlier + todo ≤ 1000 →
     NamesOutcome s line at earlier todo (namesAt s line at (map compose earlier) todo)
@@ -127,7 +139,7 @@ names-outcome s (suc todo) line at earlier hl =
     (λ e x. names-outcome s todo (line + 1) (e + 1) (earlier ++ (x ∷ [])) (omega (arith, length-more earlier x)))
   where
     go : ℕ → Phase Named
-    go e = namesAt s (line + 1) (e + 1) (map compose earlier ++ (compose (stretch s (at + 5) e) ∷ [])) todo
+    go = nextName s line at earlier todo
 
     Next : ℕ → List ℕ → List (List ℕ) → Type 0
     Next e x composed =
@@ -137,7 +149,7 @@ names-outcome s (suc todo) line at earlier hl =
     at-once : {number : ℕ} → NameFault earlier (drop at s) number → NamesRefused s line at earlier (suc todo) number line
     at-once f = record { names = []; rest = drop at s; right = tt; count = omega arith; text = refl; here = omega arith; fault = rw append-nil f }
 
-    known : (e : ℕ) → NameLine s at (length earlier) e → (t : Bool) → eqb (letterOf (map compose earlier) (compose (stretch s (at + 5) e))) (length (map compose earlier)) ≡ t →
+    known : (e : ℕ) → NameLine s at (length earlier) e → (t : Bool) → isNew s at earlier e ≡ t →
         ((x : List ℕ) → Next e x (map compose (earlier ++ (x ∷ [])))) →
         NamesOutcome s line at earlier (suc todo) (choose t (go e) (refused 6 line))
     known e h true q ih =
@@ -147,8 +159,7 @@ names-outcome s (suc todo) line at earlier hl =
         at-once (name-twice (stretch s (at + 5) e) (drop (e + 1) s) (h .is-name) (h .text) (λ d. eqb-false _ _ q (distinct-letter (stretch s (at + 5) e) earlier d)))
 
     by : (w : Ending) → nameLineAt s at (length (map compose earlier)) ≡ w → ((e : ℕ) (x : List ℕ) → Next e x (map compose (earlier ++ (x ∷ [])))) →
-        NamesOutcome s line at earlier (suc todo)
-        (withEnding w (λ e. choose (eqb (letterOf (map compose earlier) (compose (stretch s (at + 5) e))) (length (map compose earlier))) (go e) (refused 6 line)) (refused 5 line))
+        NamesOutcome s line at earlier (suc todo) (withEnding w (afterName s line at earlier todo) (refused 5 line))
     by (E.At e) q ih = known e (name-line-is s at (length earlier) e (rw length-map at q)) _ refl (ih e)
     by E.Bad q ih =
         let b : nameLineAt s at (length earlier) ≡ E.Bad = rw length-map at q in
@@ -164,13 +175,7 @@ name-none s at l none = by (nameLineAt s at l) refl
     by E.Bad q = refl
 
 module _ (s : List ℕ) (line at : ℕ) (earlier : List (List ℕ)) (todo : ℕ) (few : length earlier < 1000) where
-  -- the step of the phase at a line of the form
-  abbrev afterName : ℕ → Phase Named
-  afterName e =
-      choose (eqb (letterOf (map compose earlier) (compose (stretch s (at + 5) e))) (length (map compose earlier)))
-      (namesAt s (line + 1) (e + 1) (map compose earlier ++ (compose (stretch s (at + 5) e) ∷ [])) todo) (refused 6 line)
-
-  name-read : (e : ℕ) → nameLineAt s at (length earlier) ≡ E.At e → namesAt s line at (map compose earlier) (suc todo) ≡ afterName e
+  name-read : (e : ℕ) → nameLineAt s at (length earlier) ≡ E.At e → namesAt s line at (map compose earlier) (suc todo) ≡ afterName s line at earlier todo e
   unfolding namesAt
   name-read e h =
       let w : nameLineAt s at (length (map compose earlier)) ≡ E.At e = rw length-map h in

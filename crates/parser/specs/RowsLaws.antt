@@ -49,5 +49,5 @@ module _ (names : List (List ℕ)) (rows : List ℕ) (l : ℕ) (x : List ℕ) (n
       i (rw (length-append names (x ∷ [])) at b)
 
   -- the first row like the new one tells the letter
-  pub name-found : (r : ℕ) → FirstLike (sets rows (24 * l) (padded 24 x)) l r → FirstName names x r
-  name-found r f = first-name names (sets rows (24 * l) (padded 24 x)) l x r n holds-still row-there f
+  pub row-tells : (r : ℕ) → FirstLike (sets rows (24 * l) (padded 24 x)) l r → FirstName names x r
+  row-tells r f = first-name names (sets rows (24 * l) (padded 24 x)) l x r n holds-still row-there f

@@ -24,7 +24,7 @@ use Rattle.text.specs.NumberLaws.{between-is, between-of}
 use Rattle.text.specs.PairLaws.{some-pair}
 use Rattle.parser.specs.FieldLaws.{fields-of, fields-is}
 
-abbrev pub flags : ℕ → ℕ → State
+abbrev flags : ℕ → ℕ → State
 flags i r = record { initial = i; recurring = r }
 
 -- ONE LINE
@@ -63,18 +63,18 @@ pub record StatesPassed (s : List ℕ) (line at q initial recurring todo : ℕ) 
   pub initials : p .initial ≡ initial + flagSet (λ z. z .initial) q states
   pub recurrings : p .recurring ≡ recurring + flagSet (λ z. z .recurring) q states
 
-pub record StatesRefused (s : List ℕ) (line at q todo number fault : ℕ) : Type 0 where
+pub record StatesRefused (s : List ℕ) (line at q todo number at-line : ℕ) : Type 0 where
   pub states : List State
   pub rest : List ℕ
   pub right : StatesRight states
   pub count : length states < todo
   pub text : drop at s ≡ stateLines q states ++ rest
   pub seven : number ≡ 7
-  pub here : fault ≡ line + length states
+  pub here : at-line ≡ line + length states
   pub none : (z : State) (after : List ℕ) → FlagsRight z → rest ≡ stateLine (q + length states) z ++ after → ⊥
 
 abbrev pub StatesOutcome : List ℕ → ℕ → ℕ → ℕ → ℕ → ℕ → ℕ → Phase Sets → Type 0
-StatesOutcome s line at q initial recurring todo (refused number fault) = StatesRefused s line at q todo number fault
+StatesOutcome s line at q initial recurring todo (refused number at-line) = StatesRefused s line at q todo number at-line
 StatesOutcome s line at q initial recurring todo (passed p) = StatesPassed s line at q initial recurring todo p
 
 module _ (s : List ℕ) (line at q initial recurring todo i r : ℕ) (e : stateLineAt s at q ≡ S.Is i r) where
@@ -97,7 +97,7 @@ module _ (s : List ℕ) (line at q initial recurring todo i r : ℕ) (e : stateL
         initials = omega arith;
         recurrings = omega arith;
       }
-  states-step (refused number fault) h =
+  states-step (refused number at-line) h =
       let f = state-line-is s at q i r e in
       let t : drop (at + 11) s ≡ stateLines (suc q) (h .states) ++ h .rest = rw add-one at (h .text) in
       let k : q + 1 + length (h .states) ≡ q + suc (length (h .states)) = omega arith in
@@ -130,10 +130,13 @@ states-outcome s (suc todo) line at q initial recurring h =
     by (stateLineAt s at q) refl
     (λ i r. states-outcome s todo (line + 1) (at + 11) (q + 1) (initial + i * 2 ^ q) (recurring + r * 2 ^ q) (omega arith))
   where
+    go : ℕ → ℕ → Phase Sets
+    go i r = statesAt s (line + 1) (at + 11) (q + 1) (initial + i * 2 ^ q) (recurring + r * 2 ^ q) todo
+
     by : (w : StateLine) → stateLineAt s at q ≡ w →
-        ((i r : ℕ) → StatesOutcome s (line + 1) (at + 11) (q + 1) (initial + i * 2 ^ q) (recurring + r * 2 ^ q) todo (statesAt s (line + 1) (at + 11) (q + 1) (initial + i * 2 ^ q) (recurring + r * 2 ^ q) todo)) →
-        StatesOutcome s line at q initial recurring (suc todo) (withFlags w (λ i r. statesAt s (line + 1) (at + 11) (q + 1) (initial + i * 2 ^ q) (recurring + r * 2 ^ q) todo) (refused 7 line))
-    by (S.Is i r) e ih = states-step s line at q initial recurring todo i r e (statesAt s (line + 1) (at + 11) (q + 1) (initial + i * 2 ^ q) (recurring + r * 2 ^ q) todo) (ih i r)
+        ((i r : ℕ) → StatesOutcome s (line + 1) (at + 11) (q + 1) (initial + i * 2 ^ q) (recurring + r * 2 ^ q) todo (go i r)) →
+        StatesOutcome s line at q initial recurring (suc todo) (withFlags w go (refused 7 line))
+    by (S.Is i r) e ih = states-step s line at q initial recurring todo i r e (go i r) (ih i r)
     by S.Bad e ih =
         let k : q + 0 ≡ q = omega arith in
         record {

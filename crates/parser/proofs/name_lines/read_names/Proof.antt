@@ -9,7 +9,7 @@ use denote.Ref.{now}
 use lib.ListN.{length}
 use Rattle.names.specs.declared.Ending.the-variants as E
 use Rattle.parser.specs.Parse.{nameLineAt}
-use Rattle.parser.proofs.Steps.{NamesSoFar, names-bad, names-done, NameRead, name-read}
+use Rattle.parser.proofs.Steps.{NamesSoFar, names-bad, names-done, NameStored, name-stored}
 use borrow.Author.Needs.{needs}
 use Rattle.parser.proofs.name_lines.read_names.Statement.{statement}
 use Rattle.parser.proofs.name_lines.read_names.Tie as tie
@@ -41,9 +41,9 @@ read :
     (c : tie.After-first-like Inv-loop μ-loop) →
     let l = c .before .before .before .before .before .before .before .before .before .before .before .loop in
     let a = c .before .before .before .before .before .before .before .before .before .before .before .before .before .before .args in
-    NameRead (now (a .s)) (a .k) (c .before .before .before .before .compose-into .last .1 .1 .1 .0) (l .line) (l .l) (c .before .before .before .before .before .before .before .e .given .0 .0) (c .first-like .result)
+    NameStored (now (a .s)) (a .k) (c .before .before .before .before .compose-into .last .1 .1 .1 .0) (l .line) (l .l) (c .before .before .before .before .before .before .before .e .given .0 .0) (c .first-like .result)
 read c =
-    name-read (c .before .before .before .before .before .before .before .before .before .before .before .loop .inv .4) (omega arith) (ends (c .before .before .before .before .before .before)) (omega arith)
+    name-stored (c .before .before .before .before .before .before .before .before .before .before .before .loop .inv .4) (omega arith) (ends (c .before .before .before .before .before .before)) (omega arith)
     (c .before .before .before .before .compose-into .ensures) (c .first-like .ensures)
 
 loop-holds : tie.Need-loop-holds Inv-loop μ-loop

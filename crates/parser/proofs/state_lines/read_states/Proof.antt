@@ -9,7 +9,7 @@ use Rattle.parser.specs.declared.StateLine.{StateLine}
 use Rattle.parser.specs.Parse.{withFlags, statesAt}
 use Rattle.parser.specs.Phase.{refused}
 use Rattle.parser.specs.PhaseAnswers.{statesAnswer}
-use Rattle.parser.proofs.Steps.{states-step, states-done, flag-part, double}
+use Rattle.parser.proofs.Steps.{states-turn, states-done, flag-part, double}
 use borrow.Author.Needs.{needs}
 use Rattle.parser.proofs.state_lines.read_states.Statement.{statement}
 use Rattle.parser.proofs.state_lines.read_states.Tie as tie
@@ -32,7 +32,7 @@ turn : (c : tie.After-state-line Inv-loop μ-loop) →
 turn c w e =
     let l = c .before .before .loop in
     let a = c .before .before .before .before .args in
-    sym (states-step (a .s .now) (l .line) (l .at) (l .q) (l .initial) (l .recurring) (a .n) (omega arith) (sym (c .state-line .ensures .0) ∙ e)) ∙ l .inv .6
+    sym (states-turn (a .s .now) (l .line) (l .at) (l .q) (l .initial) (l .recurring) (a .n) (omega arith) (sym (c .state-line .ensures .0) ∙ e)) ∙ l .inv .6
 
 -- both flags of the line are 0 or 1
 small : (c : tie.After-known-told Inv-loop μ-loop) → (c .before .i .given .0 .0 ≤ 1) × (c .before .i .given .0 .1 .0 ≤ 1)

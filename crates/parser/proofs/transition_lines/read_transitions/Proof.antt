@@ -10,7 +10,7 @@ use Rattle.format.specs.Numbers.{inserted}
 use Rattle.parser.specs.declared.TransitionLine.{TransitionLine}
 use Rattle.parser.specs.Parse.{withTransition, transitionsAt}
 use Rattle.parser.specs.Phase.{refused}
-use Rattle.parser.proofs.Steps.{transitions-step, transitions-end, end-fills}
+use Rattle.parser.proofs.Steps.{transitions-turn, transitions-done, end-fills}
 use Rattle.text.specs.WordLaws.{within}
 use borrow.Author.Needs.{needs}
 use Rattle.parser.proofs.transition_lines.read_transitions.Statement.{statement}
@@ -45,7 +45,7 @@ turn c w e =
     let l = c .before .before .before .loop in
     let a = c .before .before .before .before .before .before .args in
     sym
-    (transitions-step (a .s .now) (a .n) (a .k) (l .line) (l .at) (l .least) (take 128 (l .table)) _ (length (a .s .now) + 1 + a .first - l .line) (omega (arith, inside (c .before)))
+    (transitions-turn (a .s .now) (a .n) (a .k) (l .line) (l .at) (l .least) (take 128 (l .table)) _ (length (a .s .now) + 1 + a .first - l .line) (omega (arith, inside (c .before)))
     (a-T (c .before)) (sym (c .transition-line .ensures .0) ∙ e)) ∙
     l .inv .5
 
@@ -148,7 +148,7 @@ returns-2 c =
     let f = length s + a .first - l .line in
     let e =
     sym
-    (transitions-end s (a .n) (a .k) (l .line) (l .at) (l .least) (take 128 (l .table)) f (length s + 1 + a .first - l .line) (omega arith)
+    (transitions-done s (a .n) (a .k) (l .line) (l .at) (l .least) (take 128 (l .table)) f (length s + 1 + a .first - l .line) (omega arith)
     (λ e. c .before .if1 .left (c .before .before .opening .ensures ∙ e))) ∙
     l .inv .5 in
     rw (← e)

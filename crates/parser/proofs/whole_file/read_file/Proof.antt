@@ -13,7 +13,7 @@ use Rattle.parser.specs.PhaseAnswers.{FirstFits, NamesRead}
 use Rattle.parser.specs.FirstLaws.{first-passed, first-refused}
 use Rattle.parser.specs.declared.Sets.{Sets}
 use Rattle.parser.specs.declared.File.the-variants as F
-use Rattle.parser.proofs.FileLaws.{too-large, not-large, names-refuse, Passes, names-pass, file-read}
+use Rattle.parser.proofs.FileLaws.{too-large, not-large, refused-by-names, Passes, names-pass, with-names}
 use borrow.Author.Needs.{needs}
 use Rattle.parser.proofs.whole_file.read_file.Statement.{statement}
 use Rattle.parser.proofs.whole_file.read_file.Tie as tie
@@ -108,7 +108,7 @@ returns-3 c =
     let p = namesAt s 2 12 [] (k h) in
     let rows = g .read-names .last .1 .1 .0 in
     rw (not-large s (l .before .before .if1 .left), read h)
-    (names-refuse (k h) p (afterNames s (sizes (n h) (k h))) (a .table .now) (a .table .now) rows (c .before .r2 .given .0 .0)
+    (refused-by-names (k h) p (afterNames s (sizes (n h) (k h))) (a .table .now) (a .table .now) rows (c .before .r2 .given .0 .0)
     (subst (NamesRead (k h) p rows) (c .before .r2 .given .1) (g .read-names .ensures)) (start l .pre .1))
 
 same-length-2 : tie.Need-same-length-2
@@ -130,7 +130,7 @@ returns-4 c =
     let y = p .named in
     let next : Sets → Phase (List ℕ) = λ q. transitionsAt s (n h) (k h) (q .line) (q .at) 0 (replicate 128 0) (length s + 1) in
     rw (not-large s (l .before .before .if1 .left), read h, p .is)
-    (file-read (sizes (n h) (k h)) y (g .read-names .last .1 .1 .0) (in-range h) (p .all) (p .holds) (statesAt s (y .line) (y .at) 0 0 0 (n h)) next (a .table .now)
+    (with-names (sizes (n h) (k h)) y (g .read-names .last .1 .1 .0) (in-range h) (p .all) (p .holds) (statesAt s (y .line) (y .at) 0 0 0 (n h)) next (a .table .now)
     (numbers .last .1 .1 .1 .0) (numbers .result) (numbers .ensures y (p .at) (p .line)))
 
 pub read-file-spec : {M : Type 1} → statement M

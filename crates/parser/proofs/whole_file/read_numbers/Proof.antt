@@ -1,20 +1,58 @@
 -- Each answer is that of the phase which gives it: FileLaws. Assumes nothing.
 use Prim.Native.Nat.{ℕ, _+_, _≤_}
 use mathlib.Core.Path.{_≡_, sym, _∙_, ap}
+use mathlib.Core.List.{List}
 use native.Mathlib.Omega.{arith}
 use denote.Ref.{now}
-use lib.ListN.{length, take, drop, replicate}
-use Rattle.parser.specs.Parse.{statesAt, transitionsAt, afterStates}
+use lib.ListN.{length, drop, replicate}
+use Rattle.parser.specs.Parse.{Contents, statesAt, transitionsAt, afterStates}
+use Rattle.parser.specs.Phase.{Phase, andThen}
 use Rattle.parser.specs.PhaseAnswers.{FillsTable}
-use Rattle.parser.specs.declared.End.the-variants as E
-use Rattle.parser.proofs.FileLaws.{sets-zero, rest-zero, states-refuse, states-pass, transitions-refuse, transitions-pass}
+use Rattle.parser.specs.declared.Sets.{Sets}
+use Rattle.parser.specs.declared.End.{End}
+use Rattle.parser.proofs.FileLaws.{sets-zero, rest-zero, refused-by-states, states-pass, refused-by-transitions, transitions-pass}
 use borrow.Author.Needs.{needs}
 use Rattle.parser.proofs.whole_file.read_numbers.Statement.{statement}
 use Rattle.parser.proofs.whole_file.read_numbers.Tie as tie
 
--- where the line after the state lines stands
-after : (c : tie.After-known-told2) → (c .before .q .given .0 .0 .line ≤ 26) × (c .before .q .given .0 .0 .at ≤ 500)
-after c = rw (c .before .q .given .1) at (c .before .before .before .read-states .ensures .1)
+abbrev start : tie.After-read-states → tie.Start
+start c = c .before .before .before
+
+abbrev states : tie.After-read-states → Phase Sets
+states c =
+    let a = start c .args in
+    statesAt (now (a .s)) (a .place .line) (a .place .at) 0 0 0 (a .z .n)
+
+-- behind the state lines: both sets are read, and where the next line stands
+abbrev stated : tie.After-known-told2 → tie.After-read-states
+stated c = c .before .before .before
+
+abbrev q : tie.After-known-told2 → Sets
+q c = c .before .q .given .0 .0
+
+after : (c : tie.After-known-told2) → (q c .line ≤ 26) × (q c .at ≤ 500)
+after c = rw (c .before .q .given .1) at (stated c .read-states .ensures .1)
+
+states-passed : (c : tie.After-known-told2) (next : Sets → Phase Contents) → andThen (states (stated c)) next ≡ next (q c)
+states-passed c next = states-pass (states (stated c)) next (q c) (sym (c .before .q .given .1) ∙ stated c .read-states .ensures .0)
+
+-- behind the transition lines: their answer, and the table that they leave
+abbrev told : tie.After-read-transitions → tie.After-known-told2
+told c = c .before .before
+
+abbrev transitions : tie.After-known-told2 → Phase (List ℕ)
+transitions c =
+    let a = start (stated c) .args in
+    transitionsAt (now (a .s)) (a .z .n) (a .z .k) (q c .line) (q c .at) 0 (replicate 128 0) (length (now (a .s)) + 1)
+
+abbrev left : tie.After-read-transitions → List ℕ
+left c = c .read-transitions .last .1 .1 .1 .1 .1 .0
+
+filled : (c : tie.After-read-transitions) (r : End) → c .read-transitions .result ≡ r →
+    FillsTable (transitions (told c)) (drop 128 (now (start (stated (told c)) .args .table))) (left c) r
+filled c r e =
+    let g = start (stated (told c)) in
+    rw (sets-zero (now (g .args .table)) (g .pre .5) (g .pre .4), e) at (c .read-transitions .ensures)
 
 read-states-requires : tie.Need-read-states-requires
 read-states-requires c κs = search needs
@@ -39,33 +77,25 @@ enum-told c = search needs
 
 returns : tie.Need-returns
 returns c y here there =
-    let a = c .before .before .before .before .before .before .args in
-    let s = now (a .s) in
-    let p = statesAt s (a .place .line) (a .place .at) 0 0 0 (a .z .n) in
+    let d = c .before .before .before in
+    let g = start d in
+    let t = now (g .args .table) in
     rw (there, here)
-    (states-refuse p (afterStates s (a .z) y) (now (a .table)) (now (a .table)) (c .before .r .given .0 .0)
-    (sym (c .before .r .given .1) ∙ c .before .before .before .read-states .ensures .0) (c .before .before .before .before .before .before .pre .5))
+    (refused-by-states (states d) (afterStates (now (g .args .s)) (g .args .z) y) t t (c .before .r .given .0 .0)
+    (sym (c .before .r .given .1) ∙ d .read-states .ensures .0) (g .pre .5))
 
 same-length : tie.Need-same-length
 same-length c = search needs
 
 returns-2 : tie.Need-returns-2
 returns-2 c y here there =
-    let a = c .before .before .before .before .before .before .before .before .before .before .before .before .before .before .before .before .before .args in
-    let s = now (a .s) in
+    let d = c .before .before .before .before .before .before .before .before .before in
+    let r = c .before .before .before .before .before .r2 .given in
+    let a = start (stated (told d)) .args in
     let t = now (a .table) in
-    let p = statesAt s (a .place .line) (a .place .at) 0 0 0 (a .z .n) in
-    let q = c .before .before .before .before .before .before .before .before .before .before .before .before .q .given .0 .0 in
-    let e = states-pass p (afterStates s (a .z) y) q (sym (c .before .before .before .before .before .before .before .before .before .before .before .before .q .given .1) ∙ c .before .before .before .before .before .before .before .before .before .before .before .before .before .before .read-states .ensures .0) in
-    let f = c .before .before .before .before .before .before .before .before .before .read-transitions .ensures in
-    let v = c .before .before .before .before .before .before .before .before .before .read-transitions .last .1 .1 .1 .1 .1 .0 in
-    let r = c .before .before .before .before .before .r2 .given .0 .0 in
-    let w : FillsTable (transitionsAt s (a .z .n) (a .z .k) (q .line) (q .at) 0 (take 128 t) (length s + 1)) (drop 128 t) v (E.Refused r) =
-    rw (c .before .before .before .before .before .r2 .given .1) at f in
-    let same : length v ≡ length t = c .before .before .before .before .before .before .before .before .before .read-transitions .kept .1 .1 .1 .1 .1 .0 in
-    rw (there, here, e)
-    (transitions-refuse (a .z) y q (transitionsAt s (a .z .n) (a .z .k) (q .line) (q .at) 0 (replicate 128 0) (length s + 1)) t
-    (c .before .before .clear .last .0) (drop 128 t) v r (rw (sets-zero t (c .before .before .before .before .before .before .before .before .before .before .before .before .before .before .before .before .before .pre .5) (c .before .before .before .before .before .before .before .before .before .before .before .before .before .before .before .before .before .pre .4)) at w)
+    let same : length (left d) ≡ length t = d .read-transitions .kept .1 .1 .1 .1 .1 .0 in
+    rw (there, here, states-passed (told d) _)
+    (refused-by-transitions (a .z) y (q (told d)) (transitions (told d)) t (c .before .before .clear .last .0) (drop 128 t) (left d) (r .0 .0) (filled d _ (r .1))
     (c .before .before .clear .ensures ∙ ap (λ (n : ℕ). replicate {A = ℕ} n 0) same))
 
 same-length-2 : tie.Need-same-length-2
@@ -73,19 +103,11 @@ same-length-2 c = search needs
 
 returns-3 : tie.Need-returns-3
 returns-3 c y here there =
-    let a = c .before .before .before .before .before .before .before .before .before .before .before .before .args in
-    let s = now (a .s) in
-    let t = now (a .table) in
-    let p = statesAt s (a .place .line) (a .place .at) 0 0 0 (a .z .n) in
-    let q = c .before .before .before .before .before .before .before .q .given .0 .0 in
-    let e = states-pass p (afterStates s (a .z) y) q (sym (c .before .before .before .before .before .before .before .q .given .1) ∙ c .before .before .before .before .before .before .before .before .before .read-states .ensures .0) in
-    let f = c .before .before .before .before .read-transitions .ensures in
-    let v = c .before .before .before .before .read-transitions .last .1 .1 .1 .1 .1 .0 in
-    let w : FillsTable (transitionsAt s (a .z .n) (a .z .k) (q .line) (q .at) 0 (take 128 t) (length s + 1)) (drop 128 t) v E.Reached =
-    rw (c .enum-told .given .1) at f in
-    rw (there, here, e)
-    (transitions-pass (a .z) y q (transitionsAt s (a .z .n) (a .z .k) (q .line) (q .at) 0 (replicate 128 0) (length s + 1)) t v (drop 128 t)
-    (rw (sets-zero t (c .before .before .before .before .before .before .before .before .before .before .before .before .pre .5) (c .before .before .before .before .before .before .before .before .before .before .before .before .pre .4)) at w) (rest-zero t (c .before .before .before .before .before .before .before .before .before .before .before .before .pre .5) (c .before .before .before .before .before .before .before .before .before .before .before .before .pre .4)))
+    let d = c .before .before .before .before in
+    let g = start (stated (told d)) in
+    let t = now (g .args .table) in
+    rw (there, here, states-passed (told d) _)
+    (transitions-pass (g .args .z) y (q (told d)) (transitions (told d)) t (left d) (drop 128 t) (filled d _ (c .enum-told .given .1)) (rest-zero t (g .pre .5) (g .pre .4)))
 
 pub read-numbers-spec : {M : Type 1} → statement M
 read-numbers-spec =

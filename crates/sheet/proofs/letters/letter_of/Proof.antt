@@ -7,7 +7,7 @@ use Rattle.text.specs.Bytes.{stretch}
 use Rattle.names.specs.Name.{compose}
 use Rattle.names.specs.NameLaws.{composed-name}
 use Rattle.parser.specs.Rows.{HoldNames, FirstLike}
-use Rattle.parser.specs.RowsLaws.{holds-still, name-found}
+use Rattle.parser.specs.RowsLaws.{holds-still, row-tells}
 use borrow.Author.Needs.{needs}
 use Rattle.sheet.proofs.letters.letter_of.Statement.{statement}
 use Rattle.sheet.proofs.letters.letter_of.Tie as tie
@@ -34,7 +34,7 @@ returns c names n h is =
     let fits = c .before .before .before .before .before .before .before .before .pre .1 in
     let name = composed-name (stretch s (a .start) (a .end)) is in
     let r = c .first-like .result in (
-      name-found names rows (a .count) x n fits h name r (subst (λ (v : List ℕ). FirstLike v (a .count) r) e (c .first-like .ensures)),
+      row-tells names rows (a .count) x n fits h name r (subst (λ (v : List ℕ). FirstLike v (a .count) r) e (c .first-like .ensures)),
       subst (λ (v : List ℕ). HoldNames names v) (sym e) (holds-still names rows (a .count) x n fits h name),
     )
 
