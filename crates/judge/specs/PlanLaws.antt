@@ -15,7 +15,7 @@ use Rattle.sheet.specs.Answers.{LettersOf}
 use Rattle.plan.specs.Letter.{letterAt}
 use Rattle.plan.specs.Plan.{PlanIs}
 use Rattle.plan.specs.Read.{NamesIn}
-use Rattle.plan.specs.ReadLaws.{known-below}
+use Rattle.plan.specs.KnownLaws.{known-below}
 use Rattle.judge.specs.declared.Verdict.{Verdict}
 use Rattle.judge.specs.TableRun.{LettersFit, wordOf, TableJudges}
 

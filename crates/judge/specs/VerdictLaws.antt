@@ -17,7 +17,7 @@ use Rattle.sheet.specs.Read.{Accepted}
 use Rattle.plan.specs.Letter.{letterAt}
 use Rattle.plan.specs.LetterLaws.{letter-below}
 use Rattle.plan.specs.Plan.{PlanIs}
-use Rattle.plan.specs.ReadLaws.{known-below}
+use Rattle.plan.specs.KnownLaws.{known-below}
 use Rattle.tracker.specs.Build.{Store, store, Fitted, clearedStore, Builds}
 use Rattle.tracker.specs.BuildLaws.{file-built}
 use Rattle.tracker.specs.FittedLaws.{fitted-cleared}

@@ -16,7 +16,7 @@ use Rattle.plan.specs.Plan.{planWord, planHead, nameLines, PlanIs, Above
 use Rattle.plan.specs.Parse.{lengths, lettered, lettersAt, endOf, contents, afterHead, planOf}
 use Rattle.plan.specs.HeadLaws.{head-right, head-range, head-form}
 use Rattle.plan.specs.LineLaws.{letters-fault, letters-along}
-use Rattle.plan.specs.ParseLaws.{known-length}
+use Rattle.plan.specs.KnownLaws.{known-length}
 
 head-length : (lead cycle : ℕ) → length (planHead lead cycle) ≡ 11
 unfolding planHead

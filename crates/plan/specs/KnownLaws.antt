@@ -1,6 +1,6 @@
--- The letter that a name stands for is the one that a search among the composed names finds. Assumes nothing.
+-- Known names: each has one letter, which is the sheet's and the one that a search among the composed names finds. Assumes nothing.
 use Prim.Native.Nat.{ℕ, zero, suc, _+_, _<_}
-use mathlib.Core.Path.{_≡_, sym, ap, _∙_}
+use mathlib.Core.Path.{_≡_, refl, sym, ap, _∙_}
 use mathlib.Core.List.{List, [], _∷_, _++_, map, append-assoc}
 use lib.ListN.{length, getD, length-map, length-append, List·getD-append}
 use native.Mathlib.Omega.{arith}
@@ -10,6 +10,7 @@ use Rattle.sheet.specs.Letters.{StandsFor}
 use Rattle.sheet.specs.LettersLaws.{stands-for, stands-none}
 use Rattle.parser.specs.Phase.{letterOf}
 use Rattle.parser.specs.LetterLaws.{letter-first, letter-is, composed-at, distinct-at}
+use Rattle.plan.specs.Plan.{Known, none, more}
 
 -- names that are right are distinct after composing, by their letters
 names-apart : (earlier names : List (List ℕ)) → NamesRight earlier names
@@ -41,3 +42,14 @@ module _ (σ : Sheet) (all : length (σ .names) ≡ σ .k) (x : List ℕ) where
         is = λ g. composed-at (σ .names) l ∙ h .same;
         first = λ i g e. names-apart [] (σ .names) right i l (omega arith) (omega arith) (sym (composed-at (σ .names) i) ∙ (e ∙ sym (h .same)));
       })
+
+-- a name has one letter
+pub known-length : (σ : Sheet) {names : List (List ℕ)} {letters : List ℕ} → Known σ names letters → length letters ≡ length names
+known-length σ none = refl
+known-length σ (more s k) = ap suc (known-length σ k)
+
+-- every letter of a plan is one of the sheet's
+pub known-below : (σ : Sheet) {names : List (List ℕ)} {letters : List ℕ} → Known σ names letters → (i : ℕ) → i < length letters → getD letters i 0 < σ .k
+known-below σ none i l = absurd (omega arith)
+known-below σ (more s k) zero l = s .letter
+known-below σ (more s k) (suc i) l = known-below σ k i (omega arith)

@@ -1,5 +1,5 @@
 -- A file read from the top is a plan file of Plan or has its fault: the phases, one after the other. Assumes nothing.
-use Prim.Native.Nat.{ℕ, suc, _+_, _-_, _≤_}
+use Prim.Native.Nat.{ℕ, _+_, _≤_}
 use mathlib.Core.Path.{_≡_, refl, sym, ap, subst, _∙_}
 use mathlib.Core.List.{List, [], _++_, map}
 use lib.ListN.{length, take, drop, length-take, length-drop, take-append-drop}
@@ -9,15 +9,11 @@ use Rattle.format.specs.Format.{Sheet, endLine}
 use Rattle.parser.specs.Phase.{Phase, refused, passed, andThen}
 use Rattle.parser.specs.EndLaws.{end-outcome}
 use Rattle.plan.specs.declared.Lengths.{Lengths}
-use Rattle.plan.specs.Plan.{planHead, nameLines, mostPlan, LengthsRight, Known, none, more, PlanIs, Above, Faulty}
+use Rattle.plan.specs.Plan.{planHead, nameLines, mostPlan, LengthsRight, Known, PlanIs, Above, Faulty}
 use Rattle.plan.specs.Parse.{Lettered, lettersAt, endOf, Contents, contents, headOf, afterHead, planOf}
 use Rattle.plan.specs.HeadLaws.{HeadOutcome, head-outcome}
+use Rattle.plan.specs.KnownLaws.{known-length}
 use Rattle.plan.specs.LineLaws.{LettersOutcome, LettersRefused, LettersPassed, letters-outcome}
-
--- a name has one letter
-pub known-length : (σ : Sheet) {names : List (List ℕ)} {letters : List ℕ} → Known σ names letters → length letters ≡ length names
-known-length σ none = refl
-known-length σ (more s k) = ap suc (known-length σ k)
 
 -- WHAT READING GIVES: the lead-in's letters, then the cycle's
 abbrev pub leadOf : Contents → List ℕ

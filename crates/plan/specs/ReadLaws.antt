@@ -1,25 +1,19 @@
 -- The answer of reading is the one that the definitions of a plan and of its faults give. Assumes nothing.
-use Prim.Native.Nat.{ℕ, zero, suc, _+_, _≤_, _<_}
+use Prim.Native.Nat.{ℕ, _+_, _≤_}
 use mathlib.Core.Path.{_≡_, sym, ap, _∙_}
 use mathlib.Core.List.{List, _++_, map, append-assoc}
-use lib.ListN.{length, getD, drop, length-take, length-drop, take-append-drop}
+use lib.ListN.{length, drop, length-take, length-drop, take-append-drop}
 use native.Mathlib.Omega.{arith}
 use Rattle.names.specs.Name.{compose}
 use Rattle.format.specs.Format.{Sheet}
 use Rattle.parser.specs.Phase.{Phase, refused, passed}
 use Rattle.plan.specs.declared.Planned.{Planned}
 use Rattle.plan.specs.declared.Planned.the-variants.{Refused, Is}
-use Rattle.plan.specs.Plan.{mostPlan, Known, none, more}
+use Rattle.plan.specs.Plan.{mostPlan}
 use Rattle.plan.specs.Parse.{Contents, lengths, planOf}
 use Rattle.plan.specs.Answers.{PlanRead}
 use Rattle.plan.specs.Read.{Reads}
 use Rattle.plan.specs.ParseLaws.{leadOf, cycleOf, Means, plan-means}
-
--- every letter of a plan is one of the sheet's
-pub known-below : (σ : Sheet) {names : List (List ℕ)} {letters : List ℕ} → Known σ names letters → (i : ℕ) → i < length letters → getD letters i 0 < σ .k
-known-below σ none i l = absurd (omega arith)
-known-below σ (more s k) zero l = s .letter
-known-below σ (more s k) (suc i) l = known-below σ k i (omega arith)
 
 means-read : (σ : Sheet) (p t u : List ℕ) (w : Phase Contents) → Means σ p w → (r : Planned) → PlanRead w t u r → Reads σ p t u r
 means-read σ p t u (refused number line) f (Refused r) e = (number, line, f, cc)
