@@ -126,22 +126,22 @@ pub record Right (σ : Sheet) : Type 0 where
   pub states : StatesRight (σ .states)
   pub transitions : TransitionsRight (σ .n) (σ .k) 0 (σ .transitions)
 
--- "Is the sheet at most 24,576 bytes?"
-abbrev pub most : ℕ
-most = 24576
+-- "Is the sheet at most 24,576 bytes ..? No: 2."
+abbrev pub mostSheet : ℕ
+mostSheet = 24576
 
 -- A SHEET FILE: its lines answer yes, and there are k names and n states. "Then `END`, and nothing after."
 pub record FileIs (s : List ℕ) (σ : Sheet) : Type 0 where
-  pub size : length s ≤ most
+  pub size : length s ≤ mostSheet
   pub right : Right σ
   pub all-names : length (σ .names) ≡ σ .k
   pub all-states : length (σ .states) ≡ σ .n
   pub text : s ≡ lines σ ++ endLine
 
--- NO SHEET FILE. "In a file the first faulty line from the top counts, and on one line the lower number."
+-- NO SHEET FILE. "in a file the first faulty line from the top counts, and on one line the lower number."
 -- The lines above the faulty one are those of the upper part σ of a sheet, and the rest starts with the faulty line.
 pub record Above (s : List ℕ) (σ : Sheet) (rest : List ℕ) : Type 0 where
-  pub size : length s ≤ most
+  pub size : length s ≤ mostSheet
   pub right : Right σ
   pub text : s ≡ lines σ ++ rest
 
@@ -187,11 +187,11 @@ pub data EndFault (n k least : ℕ) (rest : List ℕ) (line : ℕ) : ℕ → ℕ
 -- THE FAULT of a file: its number and its line
 pub data Faulty (s : List ℕ) : ℕ → ℕ → Type 0 where
   -- "Is the sheet at most 24,576 bytes ..? No: 2."
-  size : most < length s → Faulty s 2 0
+  size : mostSheet < length s → Faulty s 2 0
   -- "Is the first sheet line of its form? No: 3."
-  head : length s ≤ most → ((n k : ℕ) (rest : List ℕ) → n < 1000 → k < 1000 → s ≡ headLine n k ++ rest → ⊥) → Faulty s 3 1
+  head : length s ≤ mostSheet → ((n k : ℕ) (rest : List ℕ) → n < 1000 → k < 1000 → s ≡ headLine n k ++ rest → ⊥) → Faulty s 3 1
   -- "Are n and k in range? No: 4."
-  range : length s ≤ most → (n k : ℕ) (rest : List ℕ) → n < 1000 → k < 1000 → s ≡ headLine n k ++ rest → (InRange n k → ⊥) → Faulty s 4 1
+  range : length s ≤ mostSheet → (n k : ℕ) (rest : List ℕ) → n < 1000 → k < 1000 → s ≡ headLine n k ++ rest → (InRange n k → ⊥) → Faulty s 4 1
   -- 5 and 6
   name : {number : ℕ} (σ : Sheet) (rest : List ℕ) → Above s σ rest → NameDue σ → NameFault (σ .names) rest number → Faulty s number (lineDue σ)
   -- "Is each state line of its form? No: 7."

@@ -8,7 +8,7 @@ use Rattle.gate.specs.declared.Refusal.{Refusal}
 use Rattle.automaton.specs.Automaton.{Automaton}
 use Rattle.automaton.specs.Reading.{Passes}
 use Rattle.automaton.specs.Lent.{Tables, clearedTables, lentTable}
-use Rattle.format.specs.Format.{Sheet, most}
+use Rattle.format.specs.Format.{Sheet, mostSheet}
 use Rattle.format.specs.Numbers.{numbers}
 use Rattle.sheet.specs.Read.{Accepted, Refuses}
 use Rattle.plan.specs.Letter.{letterAt}
@@ -24,7 +24,7 @@ use Rattle.judge.specs.Passes.{Judges}
 
 -- "Is the sheet at most 24,576 bytes, the plan at most 12,288?": one question, asked of both before question 3
 pub record SizesFit (s p : List ℕ) : Type 0 where
-  pub sheet : length s ≤ most
+  pub sheet : length s ≤ mostSheet
   pub plan : length p ≤ mostPlan
 
 -- DEMAND 3. The answer is yes exactly if the sheet passes the plan: some endless reading visits must-recur states without end.

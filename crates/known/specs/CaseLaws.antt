@@ -10,7 +10,7 @@ use lib.ListN.{length, take, drop, length-map}
 use lib.Seq.{take-append-seam, drop-append-seam}
 use Rattle.gate.specs.Gate.{refusal}
 use Rattle.automaton.specs.Automaton.{Automaton}
-use Rattle.format.specs.Format.{Sheet, FileIs, most}
+use Rattle.format.specs.Format.{Sheet, FileIs, mostSheet}
 use Rattle.format.specs.Numbers.{numbers}
 use Rattle.parser.specs.Parse.{Contents}
 use Rattle.parser.specs.Phase.{Phase, refused, passed}
@@ -132,10 +132,10 @@ module _ (s p : List ℕ) (f g : Store) (σ : Sheet) (file : FileIs s σ) (x : C
 pub right-forced : (c : Case) → right c ≡ true → Forced c
 unfolding right
 right-forced c e =
-    let (a, i) = and-eq-true-iff (not (ltb most (length (c .sheet)))) _ .0 e in
+    let (a, i) = and-eq-true-iff (not (ltb mostSheet (length (c .sheet)))) _ .0 e in
     let (b, j) = and-eq-true-iff (not (ltb mostPlan (length (c .plan)))) _ .0 i in
     let size : SizesFit (c .sheet) (c .plan) = record {
-      sheet = ltb-false most (length (c .sheet)) (not-true (ltb most (length (c .sheet))) a);
+      sheet = ltb-false mostSheet (length (c .sheet)) (not-true (ltb mostSheet (length (c .sheet))) a);
       plan = ltb-false mostPlan (length (c .plan)) (not-true (ltb mostPlan (length (c .plan))) b);
     } in
     record {

@@ -7,7 +7,7 @@ use lib.ListN.{length, take, drop}
 use Rattle.text.specs.Search.{same}
 use Rattle.text.specs.Choice.{choose}
 use Rattle.automaton.specs.Automaton.{Automaton}
-use Rattle.format.specs.Format.{most}
+use Rattle.format.specs.Format.{mostSheet}
 use Rattle.parser.specs.Parse.{parse}
 use Rattle.parser.specs.Phase.{Phase, refused, passed}
 use Rattle.parser.specs.Parse as S
@@ -65,7 +65,7 @@ rightFile (passed x) p room e = rightWalks (x .numbers) (x .names) p room e
 -- question 2, and the others
 unfoldable pub right : Case → Bool
 right c =
-    not (ltb most (length (c .sheet)))
+    not (ltb mostSheet (length (c .sheet)))
     && (not (ltb mostPlan (length (c .plan))) && rightFile (parse (c .sheet)) (c .plan) (c .room) (c .expected))
 
 -- each case of a table is as expected

@@ -9,7 +9,7 @@ use Rattle.gate.specs.Gate.{cleared}
 use Rattle.gate.specs.declared.Refusal.{Refusal}
 use Rattle.parser.specs.Parse.{Named, Contents, contents, headOf, afterHead, parse}
 use Rattle.parser.specs.Phase.{Phase, refused, passed, andThen}
-use Rattle.format.specs.Format.{most}
+use Rattle.format.specs.Format.{mostSheet}
 use borrow.Author.Tests.{lt-ltb, le-ltb}
 use Rattle.parser.specs.PhaseAnswers.{statesAnswer, FillsTable, NamesRead, NumbersRead, FileRead}
 use Rattle.parser.specs.Rows.{HoldNames}
@@ -119,10 +119,10 @@ module _ (z : Sizes) (y : Named) (rows : List ℕ) (range : InRange (z .n) (z .k
 
 -- THE SIZE
 module _ (s : List ℕ) where
-  pub too-large : most < length s → parse s ≡ refused 2 0
+  pub too-large : mostSheet < length s → parse s ≡ refused 2 0
   unfolding parse
-  too-large h = simp (lt-ltb most (length s) h)
+  too-large h = simp (lt-ltb mostSheet (length s) h)
 
-  pub not-large : length s ≤ most → parse s ≡ andThen (headOf s) (afterHead s)
+  pub not-large : length s ≤ mostSheet → parse s ≡ andThen (headOf s) (afterHead s)
   unfolding parse
-  not-large h = simp (le-ltb most (length s) h)
+  not-large h = simp (le-ltb mostSheet (length s) h)

@@ -7,7 +7,7 @@ use borrow.Author.Tests.{lt-ltb, le-ltb}
 use native.Mathlib.Omega.{arith}
 use native.Mathlib.Nat.{zero-add}
 use Rattle.names.specs.Name.{compose}
-use Rattle.format.specs.Format.{State, Sheet, headLine, nameLines, stateLines, transitionLines, endLine, FlagsRight, stateLine, leastAfter, most, FileIs, Above, NameDue, StateDue, lineDue, NameFault, EndFault, Faulty}
+use Rattle.format.specs.Format.{State, Sheet, headLine, nameLines, stateLines, transitionLines, endLine, FlagsRight, stateLine, leastAfter, mostSheet, FileIs, Above, NameDue, StateDue, lineDue, NameFault, EndFault, Faulty}
 use Rattle.format.specs.Numbers.{flagSet, tableOf}
 use Rattle.format.specs.FormatLaws.{head-length, states-length, transitions-length, lines-parted}
 use Rattle.parser.specs.declared.Sizes.{Sizes}
@@ -44,7 +44,7 @@ module _ (s : List ℕ) (σ : Sheet) (rest : List ℕ) (above : Above s σ rest)
 
   parse-head : parse s ≡ afterHead s sizes
   unfolding parse sizes
-  parse-head = simp (le-ltb most (length s) (above .size), head-right s (σ .n) (σ .k) behind-head (above .right .range) text)
+  parse-head = simp (le-ltb mostSheet (length s) (above .size), head-right s (σ .n) (σ .k) behind-head (above .right .range) text)
 
   -- behind the names
   names-here : (todo : ℕ) → length (σ .names) ≤ σ .k → NamesAlong s behind-names (σ .names) todo 2 12 []
@@ -54,7 +54,7 @@ module _ (s : List ℕ) (σ : Sheet) (rest : List ℕ) (above : Above s σ rest)
       names-along s behind-names (σ .names) todo 2 12 [] (omega arith) (above .right .names) from-names
 
   -- a fault where a name is due
-  pub name-found : NameDue σ → {number : ℕ} → NameFault (σ .names) rest number → parse s ≡ refused number (lineDue σ)
+  name-found : NameDue σ → {number : ℕ} → NameFault (σ .names) rest number → parse s ≡ refused number (lineDue σ)
   unfolding sizes behind-names behind-states stateLines transitionLines
   name-found due {number} fault =
       let m : ℕ = σ .k - suc (length (σ .names)) in
@@ -186,9 +186,9 @@ module _ (s : List ℕ) (σ : Sheet) (rest : List ℕ) (above : Above s σ rest)
 -- EVERY FAULT is the refusal
 pub faulty-parse : (s : List ℕ) (number line : ℕ) → Faulty s number line → parse s ≡ refused number line
 unfolding parse
-faulty-parse s number line (Faulty.size h) = simp (lt-ltb most (length s) h)
-faulty-parse s number line (Faulty.head size none) = simp (le-ltb most (length s) size, head-form s none)
-faulty-parse s number line (Faulty.range size n k rest hn hk e out) = simp (le-ltb most (length s) size, head-range s n k rest hn hk e out)
+faulty-parse s number line (Faulty.size h) = simp (lt-ltb mostSheet (length s) h)
+faulty-parse s number line (Faulty.head size none) = simp (le-ltb mostSheet (length s) size, head-form s none)
+faulty-parse s number line (Faulty.range size n k rest hn hk e out) = simp (le-ltb mostSheet (length s) size, head-range s n k rest hn hk e out)
 faulty-parse s number line (Faulty.name σ rest above due fault) = name-found s σ rest above due fault
 faulty-parse s number line (Faulty.state σ rest above due none) = state-found s σ rest above (due .names) due none
 faulty-parse s number line (Faulty.end σ rest above due fault) = end-found s σ rest above (due .names) (due .states) fault

@@ -22,7 +22,7 @@ use Rattle.parser.specs.PhaseAnswers.{firstAnswer, WithinBounds}
 
 -- THE CODE'S ANSWER tells the phase, whatever is made of the two numbers
 module _ (β : Bounds) {A : Type 0} (make : ℕ → ℕ → A) (form range : ℕ) where
-  abbrev pub answer : Pair → First
+  abbrev answer : Pair → First
   answer w = firstAnswer (firstPhase w β (λ a b. (a, b)) form range)
 
   pub first-passed : (w : Pair) (a b : ℕ) → R.Are a b ≡ answer w → firstPhase w β make form range ≡ passed (make a b)

@@ -5,7 +5,7 @@ use mathlib.Core.List.{List, _++_}
 use lib.ListN.{length, drop}
 use native.Mathlib.Omega.{arith}
 use Rattle.automaton.specs.Automaton.{InRange}
-use Rattle.format.specs.Format.{sheetWord, headLine, most, Faulty, head, range}
+use Rattle.format.specs.Format.{sheetWord, headLine, mostSheet, Faulty, head, range}
 use Rattle.parser.specs.declared.Sizes.{Sizes}
 use Rattle.parser.specs.Parse.{sizes, sheetBounds, headOf}
 use Rattle.parser.specs.Phase.{Phase, refused, passed}
@@ -26,7 +26,7 @@ HeadOutcome s (refused number line) = Faulty s number line
 HeadOutcome s (passed z) = InRange (z .n) (z .k) × (s ≡ headLine (z .n) (z .k) ++ drop 12 s)
 
 module _ (s : List ℕ) where
-  pub head-outcome : length s ≤ most → HeadOutcome s (headOf s)
+  pub head-outcome : length s ≤ mostSheet → HeadOutcome s (headOf s)
   unfolding headOf headLine
   head-outcome size =
       line-outcome sheetFirst s sizes 3 4 (HeadOutcome s) (head size) (λ n k hn hk e out. range size n k (drop 12 s) hn hk e out) (λ n k hn hk e h. (h, e))

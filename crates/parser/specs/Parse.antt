@@ -14,7 +14,7 @@ use Rattle.names.specs.Scan.{nameEndAt}
 use Rattle.names.specs.declared.Ending.{Ending}
 use Rattle.names.specs.declared.Ending.the-variants as E
 use Rattle.automaton.specs.Automaton.{Automaton}
-use Rattle.format.specs.Format.{Transition, sheetWord, most, place}
+use Rattle.format.specs.Format.{Transition, sheetWord, mostSheet, place}
 use Rattle.format.specs.Numbers.{inserted}
 use Rattle.parser.specs.Phase.{Phase, refused, passed, andThen, firstPhase, withEnding, letterOf, endAt}
 use Rattle.parser.specs.declared.Bounds.{Bounds}
@@ -53,7 +53,7 @@ nameLineAt s at l = choose (isNumbered s at 78 l && eqb (getD s (at + 4) 0) spac
 
 -- the line after `names`; `go` says what comes after it, from the position of its LF
 -- "Is each name line of its form? No: 5. Are all names distinct after composing? No: 6, on the later line."
-abbrev pub nameStep : List ℕ → ℕ → ℕ → List (List ℕ) → (ℕ → Phase Named) → Phase Named
+abbrev nameStep : List ℕ → ℕ → ℕ → List (List ℕ) → (ℕ → Phase Named) → Phase Named
 nameStep s line at names go =
     withEnding (nameLineAt s at (length names))
     (λ e. choose (eqb (letterOf names (compose (stretch s (at + 5) e))) (length names)) (go e) (refused 6 line))
@@ -110,7 +110,7 @@ withTransition T.Bad go bad = bad
 
 -- one line; `go` says what comes after a transition
 -- "a line beginning with T answers to question 8, any other to 9"
-abbrev pub transitionStep : List ℕ → ℕ → ℕ → ℕ → ℕ → ℕ → List ℕ → (Transition → Phase (List ℕ)) → Phase (List ℕ)
+abbrev transitionStep : List ℕ → ℕ → ℕ → ℕ → ℕ → ℕ → List ℕ → (Transition → Phase (List ℕ)) → Phase (List ℕ)
 transitionStep s n k line at least table go =
     choose (eqb (getD s at 0) 84) (withTransition (transitionLineAt s at n k least) go (refused 8 line)) (endAt 9 s line at table)
 
@@ -149,4 +149,4 @@ afterHead s z = andThen (namesAt s 2 12 [] (z .k)) (afterNames s z)
 
 -- "Is the sheet at most 24,576 bytes ..? No: 2." Then the lines
 unfoldable pub parse : List ℕ → Phase Contents
-parse s = choose (ltb most (length s)) (refused 2 0) (andThen (headOf s) (afterHead s))
+parse s = choose (ltb mostSheet (length s)) (refused 2 0) (andThen (headOf s) (afterHead s))

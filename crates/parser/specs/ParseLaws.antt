@@ -11,7 +11,7 @@ use native.Mathlib.Nat.{zero-add}
 use Rattle.text.specs.Choice.{choose}
 use Rattle.names.specs.Name.{compose}
 use Rattle.automaton.specs.Automaton.{InRange}
-use Rattle.format.specs.Format.{State, Transition, Sheet, headLine, stateLine, FlagsRight, nameLines, stateLines, transitionLines, endLine, lines, leastAfter, most, FileIs, Above, NameDue, StateDue, EndDue, lineDue, EndFault, Faulty}
+use Rattle.format.specs.Format.{State, Transition, Sheet, headLine, stateLine, FlagsRight, nameLines, stateLines, transitionLines, endLine, lines, leastAfter, mostSheet, FileIs, Above, NameDue, StateDue, EndDue, lineDue, EndFault, Faulty}
 use Rattle.format.specs.Numbers.{numbers}
 use Rattle.format.specs.FormatLaws.{lines-parted}
 use Rattle.parser.specs.declared.Sizes.{Sizes}
@@ -44,7 +44,7 @@ abbrev pub Means : List ℕ → Phase Contents → Type 0
 Means s (refused number line) = Faulty s number line
 Means s (passed c) = (σ : Sheet) × FileIs s σ × AreContents σ c
 
-module _ (s : List ℕ) (size : length s ≤ most) (z : Sizes) (range : InRange (z .n) (z .k)) (head : s ≡ headLine (z .n) (z .k) ++ drop 12 s) where
+module _ (s : List ℕ) (size : length s ≤ mostSheet) (z : Sizes) (range : InRange (z .n) (z .k)) (head : s ≡ headLine (z .n) (z .k) ++ drop 12 s) where
   names-refuse : (number line : ℕ) → NamesRefused s 2 12 [] (z .k) number line → Faulty s number line
   unfolding stateLines transitionLines
   names-refuse number line h = subst (Faulty s number) l (Faulty.name σ (h .rest) above due (h .fault))
@@ -148,18 +148,18 @@ module _ (s : List ℕ) (size : length s ≤ most) (z : Sizes) (range : InRange 
   names-mean (refused number line) g = names-refuse number line g
   names-mean (passed y) g = states-mean y g (statesAt s (y .line) (y .at) 0 0 0 (z .n)) (states-outcome s (z .n) (y .line) (y .at) 0 0 0 (omega arith))
 
-head-means : (s : List ℕ) → length s ≤ most → (p : Phase Sizes) → HeadOutcome s p → Means s (andThen p (afterHead s))
+head-means : (s : List ℕ) → length s ≤ mostSheet → (p : Phase Sizes) → HeadOutcome s p → Means s (andThen p (afterHead s))
 head-means s size (refused number line) h = h
 head-means s size (passed z) h = names-mean s size z (h .0) (h .1) (namesAt s 2 12 [] (z .k)) (names-outcome s (z .k) 2 12 [] (omega arith))
 
 -- EVERY FILE is a sheet file, whose contents are read, or has a fault, which is the refusal
 pub parse-means : (s : List ℕ) → Means s (parse s)
 unfolding parse
-parse-means s = by (ltb most (length s)) refl
+parse-means s = by (ltb mostSheet (length s)) refl
   where
-    by : (t : Bool) → ltb most (length s) ≡ t → Means s (choose t (refused 2 0) (andThen (headOf s) (afterHead s)))
-    by true e = Faulty.size (ltb-true most (length s) e)
-    by false e = head-means s (ltb-false most (length s) e) (headOf s) (head-outcome s (ltb-false most (length s) e))
+    by : (t : Bool) → ltb mostSheet (length s) ≡ t → Means s (choose t (refused 2 0) (andThen (headOf s) (afterHead s)))
+    by true e = Faulty.size (ltb-true mostSheet (length s) e)
+    by false e = head-means s (ltb-false mostSheet (length s) e) (headOf s) (head-outcome s (ltb-false mostSheet (length s) e))
 
 pub parse-accepts : (s : List ℕ) (c : Contents) → parse s ≡ passed c → (σ : Sheet) × FileIs s σ × AreContents σ c
 parse-accepts s c e = subst (Means s) e (parse-means s)

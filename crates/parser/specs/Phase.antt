@@ -12,10 +12,8 @@ use Rattle.text.specs.Search.{same, firstThat}
 use Rattle.text.specs.declared.Pair.{Pair}
 use Rattle.names.specs.declared.Ending.{Ending}
 use Rattle.names.specs.declared.Ending.the-variants as E
-use Rattle.format.specs.Format.{endLine, most}
+use Rattle.format.specs.Format.{endLine}
 use Rattle.parser.specs.declared.Bounds.{Bounds}
-use Rattle.parser.specs.declared.StateLine.the-variants as S
-use Rattle.parser.specs.declared.TransitionLine.the-variants as T
 
 -- A PHASE of reading, one for each kind of line: it refuses with a number and a line, or hands on what it read
 pub data Phase (A : Type 0) : Type 0 where

@@ -1,5 +1,5 @@
 -- What rows tell of the names that they hold. Assumes nothing.
-use Prim.Native.Nat.{ℕ, _+_, _-_, _*_, _≤_}
+use Prim.Native.Nat.{ℕ, _+_, _*_, _≤_}
 use mathlib.Core.Path.{_≡_, sym, _∙_, ap}
 use mathlib.Core.List.{List, [], _∷_, _++_}
 use native.Mathlib.Omega.{arith}
@@ -9,7 +9,6 @@ use borrow.Author.Count.{below-more}
 use Rattle.names.specs.Name.{IsName}
 use Rattle.gate.specs.Gate.{padded}
 use Rattle.gate.specs.GateLaws.{padded-length}
-use Rattle.names.specs.Row.{row}
 use Rattle.text.specs.SetsLaws.{part-stored, part-kept}
 use Rattle.names.specs.RowLaws.{padded-same}
 use Rattle.parser.specs.Rows.{RowIs, HoldNames, FirstLike, FirstName}

@@ -28,7 +28,6 @@ use Rattle.text.specs.ChoiceLaws.{test-true}
 use Rattle.text.specs.NumberLaws.{some-number, numbered-by, numbered-parts}
 use Rattle.text.specs.PairLaws.{some-pair}
 use Rattle.text.specs.WordLaws.{first-byte}
-use Rattle.text.specs.declared.Pair.the-variants as P
 use Rattle.parser.specs.FieldLaws.{Fields, fields-of, fields-is}
 use Rattle.parser.specs.EndLaws.{end-outcome, end-read, end-missing, end-behind}
 

@@ -123,7 +123,7 @@ file-unique s σ τ h g =
     let transitions = transitions-same (σ .n) (σ .k) (omega arith) (omega arith) 0 0 (σ .transitions) (τ .transitions) (h .right .transitions) right e3 in
     λ i. record { n = n i; k = k i; names = names i; states = states i; transitions = transitions i }
 
--- "Each number is returned on its own 'no' and on nothing else": one fault
+-- "Each number is returned on its own "no" and on nothing else": one fault
 pub fault-unique : (s : List ℕ) (x y l m : ℕ) → Faulty s x l → Faulty s y m → (x ≡ y) × (l ≡ m)
 fault-unique s x y l m h g =
     let a = faulty-parse s x l h in

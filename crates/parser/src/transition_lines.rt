@@ -2,7 +2,7 @@
 ghost use mathlib.Core.Path.{_≡_};
 ghost use Prim.Native.Nat.{_+_, _<_, _≤_, _^_};
 ghost use lib.ListN.{length, take, drop};
-ghost use Rattle.format.specs.Format.{most};
+ghost use Rattle.format.specs.Format.{mostSheet};
 ghost use Rattle.parser.specs.Parse.{transitionOf, transitionLineAt, transitionsAt};
 ghost use Rattle.parser.specs.PhaseAnswers.{TransitionFits, FillsTable};
 use super::End;
@@ -62,14 +62,14 @@ pub fn read_transitions(
     start: usize,
     table: &mut [u16],
 ) -> End
-    requires { ⌜ (length (now s) ≤ most) × (first ≤ 26) × (start ≤ 500) × (n ≤ 16) × (k ≤ 8) × (128 ≤ length (now table)) ⌝ }
+    requires { ⌜ (length (now s) ≤ mostSheet) × (first ≤ 26) × (start ≤ 500) × (n ≤ 16) × (k ≤ 8) × (128 ≤ length (now table)) ⌝ }
     ensures { λ r. ⌜ FillsTable (transitionsAt (now (s .entry)) n k first start 0 (take 128 (now (table .entry))) (length (now (s .entry)) + 1))
         (drop 128 (now (table .entry))) (now (table .exit)) r ⌝ }
 {
     let mut line = first;
     let mut at = start;
     let mut least = 0;
-    while text::reader::opening(s, at) == 84 {
+    while text::reader::opening(s, at) == b'T' {
         let TransitionLine::Is(from, letter, to) = transition_line(s, at, n, k, least) else {
             return End::Refused(Refusal {
                 number: 8,

@@ -4,7 +4,7 @@ ghost use Prim.Native.Nat.{_≤_};
 ghost use lib.ListN.{length};
 ghost use Rattle.gate.specs.Gate.{cleared};
 ghost use Rattle.automaton.specs.Automaton.{InRange};
-ghost use Rattle.format.specs.Format.{most};
+ghost use Rattle.format.specs.Format.{mostSheet};
 ghost use Rattle.parser.specs.Parse.{Named, parse, afterNames};
 ghost use Rattle.parser.specs.PhaseAnswers.{NumbersRead, FileRead};
 use super::Bounds;
@@ -24,7 +24,7 @@ use gate::Refusal;
 
 // The state lines and what follows, behind the name lines. A refusal leaves the table all zero.
 fn read_numbers(s: &[u8], z: Sizes, place: Place, table: &mut [u16]) -> File
-    requires { ⌜ (length (now s) ≤ most) × InRange (z .n) (z .k) × (place .line ≤ 10) × (place .at ≤ 252)
+    requires { ⌜ (length (now s) ≤ mostSheet) × InRange (z .n) (z .k) × (place .line ≤ 10) × (place .at ≤ 252)
         × (128 ≤ length (now table)) × (now table ≡ cleared (now table)) ⌝ }
     ensures { λ r. ⌜ ((y : Named) → y .at ≡ place .at → y .line ≡ place .line
         → NumbersRead (afterNames (now (s .entry)) z y) (now (table .entry)) (now (table .exit)) r) ⌝ }

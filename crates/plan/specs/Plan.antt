@@ -25,7 +25,7 @@ nameLines (x ∷ xs) = x ++ (lf ∷ nameLines xs)
 
 -- THE QUESTIONS
 
--- "is the plan at most 12,288 bytes?"
+-- "Is .. the plan at most 12,288? No: 2."
 abbrev pub mostPlan : ℕ
 mostPlan = 12288
 
