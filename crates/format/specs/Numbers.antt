@@ -4,7 +4,7 @@ use mathlib.Core.List.{List, [], _∷_}
 use lib.ListN.{getD, set, replicate}
 use Rattle.sets.specs.Sets.{unionOf}
 use Rattle.automaton.specs.Automaton.{Automaton}
-use Rattle.format.specs.Format.{State, Transition, Sheet}
+use Rattle.format.specs.Format.{State, Transition, cell, Sheet}
 
 -- the states of a list, from state q on, whose flag is 1: the sum of 2^q over them
 unfoldable pub flagSet : (State → ℕ) → ℕ → List State → ℕ
@@ -13,7 +13,7 @@ flagSet flag q (z ∷ zs) = flag z * 2 ^ q + flagSet flag (suc q) zs
 
 -- a table of successor sets with one transition more
 unfoldable pub inserted : List ℕ → Transition → List ℕ
-inserted table t = set table (8 * t .from + t .letter) (unionOf (getD table (8 * t .from + t .letter) 0) (2 ^ t .to))
+inserted table t = set table (cell t) (unionOf (getD table (cell t) 0) (2 ^ t .to))
 
 -- the table with some transitions more
 unfoldable pub tableOf : List ℕ → List Transition → List ℕ

@@ -15,7 +15,7 @@ use Rattle.sets.specs.SetLaws.{no-member, some-member, member-lt, union-right, 
 use Rattle.automaton.specs.declared.Numbers.{Numbers}
 use Rattle.automaton.specs.Automaton.{automaton, AreNumbers, Edge, InRange, Fits}
 use Rattle.automaton.specs.Lent.{lentTable}
-use Rattle.format.specs.Format.{State, Transition, Sheet, FlagsRight, StatesRight, TransitionRight, TransitionsRight, place, Right, FileIs}
+use Rattle.format.specs.Format.{State, Transition, Sheet, FlagsRight, StatesRight, TransitionRight, TransitionsRight, cell, place, Right, FileIs}
 use Rattle.format.specs.Numbers.{flagSet, inserted, tableOf, numbers}
 
 -- Flags
@@ -77,10 +77,6 @@ transition from letter to = record { from = from; letter = letter; to = to }
 -- one of the transitions of a list
 abbrev pub OneOf : List Transition → Transition → Type 0
 OneOf ts t = (i : ℕ) × (i < length ts) × (getD ts i (transition 0 0 0) ≡ t)
-
--- the number of a transition's successor set
-abbrev pub cell : Transition → ℕ
-cell t = 8 * t .from + t .letter
 
 module _ (table : List ℕ) (t : Transition) where
   pub inserted-length : length (inserted table t) ≡ length table
