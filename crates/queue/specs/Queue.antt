@@ -4,7 +4,7 @@
 use Prim.Native.Nat.{ℕ, _+_, _/_, _%_, _≤_, _<_}
 use mathlib.Core.Path.{_≡_}
 use mathlib.Core.List.{List}
-use lib.ListN.{length, getD, set}
+use lib.ListN.{length, getD}
 use Rattle.sets.specs.Sets.{Member}
 
 abbrev pub pair : List ℕ → ℕ → ℕ
