@@ -8,8 +8,8 @@ use native.Mathlib.Decide.{ℕ-discrete, decLt}
 use Rattle.gate.specs.GateLaws.{zeros}
 use lib.ListN.{length, getD, set, replicate}
 use lib.Seq.{getD-set-same, getD-set-other}
-use Rattle.finite.specs.Finite.{FirstEqual, pigeon}
-use Rattle.judge.specs.TableRun.{LeastOf}
+use Rattle.finite.specs.Finite.{pigeon}
+use Rattle.judge.specs.Passes.{FirstRepeat, LeastOf}
 
 -- the ends of some passes are told apart: the cell of each number at an end has the count of passes up to it, itself included
 pub record Seen (end : ℕ → ℕ) (passes : ℕ) (seen : List ℕ) : Type 0 where
@@ -65,13 +65,13 @@ module _ (end : ℕ → ℕ) (passes : ℕ) (seen : List ℕ) (h : Seen end pass
             ])
 
   -- the first end that was seen before
-  pub seen-again : (getD seen (end passes) 0 ≡ 0 → ⊥) → (j : ℕ) × FirstEqual end j passes × (getD seen (end passes) 0 ≡ suc j)
+  pub seen-again : (getD seen (end passes) 0 ≡ 0 → ⊥) → (j : ℕ) × FirstRepeat end j passes × (getD seen (end passes) 0 ≡ suc j)
   seen-again old = by (h .only (end passes))
     where
       by : (getD seen (end passes) 0 ≡ 0) ⊎ ((j : ℕ) × (j < passes) × (end j ≡ end passes))
-          → (j : ℕ) × FirstEqual end j passes × (getD seen (end passes) 0 ≡ suc j)
+          → (j : ℕ) × FirstRepeat end j passes × (getD seen (end passes) 0 ≡ suc j)
       by (inl e) = absurd (old e)
-      by (inr (j, l, e)) = (j, (l, e, apart), ap (λ (n : ℕ). getD seen n 0) (sym e) ∙ h .told j l)
+      by (inr (j, l, e)) = (j, record { earlier = l; equal = e; first = apart }, ap (λ (n : ℕ). getD seen n 0) (sym e) ∙ h .told j l)
 
 -- the least colour of each pass stands at its number, from 1
 abbrev pub Leasts : (ℕ → ℕ) → ℕ → ℕ → ℕ → List ℕ → Type 0

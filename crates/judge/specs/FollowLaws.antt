@@ -1,17 +1,16 @@
 -- The numbers that a tracker's tables lead through are those of the tuples of the run. Assumes nothing.
-use Prim.Native.Nat.{ℕ, zero, suc, _+_, _*_, _/_, _%_, _≤_, _<_}
-use mathlib.Core.Path.{_≡_, sym, _∙_, ap}
+use Prim.Native.Nat.{ℕ, zero, suc, _+_, _*_, _/_, _%_, _<_}
+use mathlib.Core.Path.{_≡_, sym, _∙_, ap, subst}
 use mathlib.Core.List.{List}
 use native.Mathlib.Omega.{arith}
 use native.Mathlib.Decide.{decLt}
-use lib.ListN.{length, getD}
 use Rattle.automaton.specs.Automaton.{Automaton, Fits}
-use Rattle.tuple.specs.Step.{Tuple, run}
+use Rattle.tuple.specs.Step.{Tuple, run, colourEntered}
 use Rattle.tracker.specs.Numbering.{tupleAt, Numbering}
 use Rattle.tracker.specs.Build.{Store, RoomFits, Fitted}
-use Rattle.tracker.specs.FittedLaws.{fitted-colour, fitted-length}
+use Rattle.tracker.specs.FittedLaws.{fitted-colour, fitted-next, fitted-room}
 use Rattle.judge.specs.declared.Verdict.{Verdict}
-use Rattle.judge.specs.Passes.{Judges}
+use Rattle.judge.specs.Passes.{LeastOf, Judges}
 use Rattle.judge.specs.TableRun.{TablesFit, reached, enteredIn, TableJudges}
 
 -- The tables g hold the tracker of A
@@ -34,30 +33,9 @@ module _ {A : Automaton} (fits : Fits A) (room count : ℕ) (f g : Store) (fitte
         ]
       ]
 
-  -- every next number is that of a tuple counted
-  next-below : (i : ℕ) → getD (g .nexts) i 0 < count
-  next-below i =
-      let c = fitted .count-is in
-      let some = numbering .some in
-      elim (decLt (i / 8) (length ts)) [
-        | yes x ↦ elim (decLt (i % 8) (A .k)) [
-          | yes y ↦ let z = fitted .holds .nexts .next i x y .0 in omega arith
-          | no y ↦ let z = fitted .holds .nexts .zero i (λ a b. y b) in omega arith
-        ]
-        | no x ↦ let z = fitted .holds .nexts .zero i (λ a b. x a) in omega arith
-      ]
-
-  -- so the tables are fit to be judged on
+  -- the tables are fit to be judged on
   pub tables-fit : RoomFits room f → TablesFit (g .tuples) (g .nexts) count
-  tables-fit roomy = record {
-    numbers = record {
-      some = omega (arith, fitted .count-is, numbering .some);
-      most = omega (arith, fitted .room-is, roomy .most);
-      room = omega (arith, fitted .room-is, roomy .nexts, fitted .holds .same);
-      below = next-below;
-    };
-    colours = omega (arith, fitted .room-is, roomy .tuples, fitted-length A fits room count f g fitted roomy);
-  }
+  tables-fit roomy = record { room = fitted-room A fits room count f g fitted roomy; numbers = fitted-next A fits room count f g fitted }
 
   module _ (w : ℕ → ℕ) (letters : (t : ℕ) → w t < A .k) where
     -- THE LAW: after t letters the table's number is that of the run's tuple
@@ -83,7 +61,7 @@ module _ {A : Automaton} (fits : Fits A) (room count : ℕ) (f g : Store) (fitte
     same-number s t e =
         numbers-apart (reached (g .nexts) 0 w s) (reached (g .nexts) 0 w t) (follows s .0) (follows t .0) (follows s .1 ∙ (e ∙ sym (follows t .1)))
 
-    entered-colour : (t : ℕ) → enteredIn (g .tuples) (g .nexts) 0 w t ≡ run A w (suc t) .colour
+    entered-colour : (t : ℕ) → enteredIn (g .tuples) (g .nexts) 0 w t ≡ colourEntered A w t
     entered-colour t =
         fitted-colour A fits room count f g fitted (reached (g .nexts) 0 w (suc t)) (follows (suc t) .0)
         ∙ ap (λ u. u .colour) (follows (suc t) .1)
@@ -93,20 +71,10 @@ module _ {A : Automaton} (fits : Fits A) (room count : ℕ) (f g : Store) (fitte
     judges m c z h = record {
       earlier = h .earlier;
       repeat = record {
-        earlier = h .repeat .0;
-        equal = same-tuple (m + h .earlier * c) (m + z .passes * c) (h .repeat .1);
-        first = λ i j l k e. h .repeat .2 i j l k (same-number (m + i * c) (m + j * c) e);
+        earlier = h .repeat .earlier;
+        equal = same-tuple (m + h .earlier * c) (m + z .passes * c) (h .repeat .equal);
+        first = λ i j l k e. h .repeat .first i j l k (same-number (m + i * c) (m + j * c) e);
       };
-      least = record {
-        at = suc (h .least .at);
-        after = omega (arith, h .least .from);
-        up-to = h .least .before;
-        is = sym (entered-colour (h .least .at)) ∙ h .least .is;
-        lowest = λ s l k. low s l k;
-      };
+      least = subst (λ (f : ℕ → ℕ). LeastOf f (m + h .earlier * c) (m + z .passes * c) (z .least)) (λ i t. entered-colour t i) (h .least);
       answer = h .answer;
     }
-      where
-        low : (s : ℕ) → m + h .earlier * c < s → s ≤ m + z .passes * c → z .least ≤ run A w s .colour
-        low zero l k = absurd (omega arith)
-        low (suc s) l k = rw (← entered-colour s) (h .least .lowest s (omega arith) k)

@@ -1,11 +1,11 @@
--- The least value of a stretch: of one place, of one place more, and of stretches that follow each other. Assumes nothing.
+-- The least value of a stretch: there is one; that of one place, of one place more, and of stretches that follow each other. Assumes nothing.
 use Prim.Native.Nat.{ℕ, suc, _+_, _*_, _-_, _/_, _%_, _≤_, _<_, min}
-use mathlib.Core.Path.{_≡_, refl, sym, _∙_, ap}
+use mathlib.Core.Path.{_≡_, refl, sym, _∙_, ap, subst}
 use native.Mathlib.Omega.{arith}
 use native.Mathlib.Nat.{mul-le-mul-right, div-add-mod', mod-lt, suc-mul}
 use native.Mathlib.Decide.{ℕ-discrete, decLe, decLt}
 use Rattle.finite.specs.Least.{lowest, lowest-le, lowest-at}
-use Rattle.judge.specs.TableRun.{LeastOf}
+use Rattle.judge.specs.Passes.{LeastOf}
 
 pub least-one : (f : ℕ → ℕ) (a : ℕ) → LeastOf f a (a + 1) (f a)
 least-one f a = record {
@@ -90,13 +90,18 @@ least-down f a b v h =
       lowest = λ s l m. h .lowest (suc s) (omega arith) (omega arith);
     }
 
--- it is the value that the theory calls lowest
-pub least-lowest : (f : ℕ → ℕ) (a d v : ℕ) → LeastOf f a (a + suc d) v → lowest f a d ≡ v
-least-lowest f a d v h =
+-- there is one least value
+least-low : (f : ℕ → ℕ) (a b x y : ℕ) → LeastOf f a b x → LeastOf f a b y → x ≤ y
+least-low f a b x y h k = subst (λ (n : ℕ). x ≤ n) (k .is) (h .lowest (k .at) (k .from) (k .before))
+
+pub least-once : (f : ℕ → ℕ) (a b x y : ℕ) → LeastOf f a b x → LeastOf f a b y → x ≡ y
+least-once f a b x y h k = omega (arith, least-low f a b x y h k, least-low f a b y x k h)
+
+-- and the theory calls it lowest
+pub least-lowest : (f : ℕ → ℕ) (a d : ℕ) → LeastOf f a (a + suc d) (lowest f a d)
+least-lowest f a d =
     let (s, l, m, e) = lowest-at f a d in
-    let x = h .lowest s l (omega arith) in
-    let y = lowest-le f a d (h .at) (h .from) (omega (arith, h .before)) in
-    omega (arith, h .is)
+    record { at = s; from = l; before = omega arith; is = e; lowest = λ t h k. lowest-le f a d t h (omega arith) }
 
 -- the least of the first i values of f, as a loop keeps it that starts from the most a cell can hold
 pub record LeastSoFar (f : ℕ → ℕ) (i v : ℕ) : Type 0 where

@@ -3,6 +3,7 @@ pub mod Verdict
 pub mod TableRun
 pub mod Parts
 pub mod LeastLaws
+pub mod UniqueLaws
 pub mod TableRunLaws
 pub mod EndLaws
 pub mod PassLaws

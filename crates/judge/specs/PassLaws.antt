@@ -4,11 +4,10 @@ use mathlib.Core.Path.{_≡_, sym, _∙_, ap}
 use mathlib.Core.List.{List}
 use native.Mathlib.Omega.{arith}
 use lib.ListN.{length, getD, set, replicate, length-set, length-replicate}
-use Rattle.finite.specs.Finite.{FirstEqual}
 use Rattle.judge.specs.declared.Pass.{Pass}
 use Rattle.judge.specs.declared.Verdict.{Verdict}
-use Rattle.judge.specs.Passes.{AnswerIs}
-use Rattle.judge.specs.TableRun.{TablesFit, LettersFit, wordOf, enteredIn, endNumber, LeastOf, Passing, TableJudges}
+use Rattle.judge.specs.Passes.{FirstRepeat, LeastOf, AnswerIs}
+use Rattle.judge.specs.TableRun.{TablesFit, LettersFit, wordOf, enteredIn, endNumber, Passing, TableJudges}
 use Rattle.judge.specs.LeastLaws.{least-joined, least-down}
 use Rattle.judge.specs.TableRunLaws.{reached-below, pass-end, pass-least, lead-end}
 use Rattle.judge.specs.EndLaws.{Seen, seen-none, seen-more, seen-few, seen-again, Leasts, leasts-more}
@@ -31,7 +30,7 @@ module _ {tuples nexts : List ℕ} {count : ℕ} {letters : List ℕ} {lead cycl
   end = endNumber nexts word lead cycle
 
   end-below : (i : ℕ) → end i < count
-  end-below i = reached-below nexts 0 count (tables .numbers) (tables .numbers .some) word (lead + i * cycle)
+  end-below i = reached-below nexts 0 count (tables .numbers) (tables .room .some) word (lead + i * cycle)
 
   pub passes-none : (z : Pass) → Passing tuples nexts count 0 (λ i. getD letters (0 + i) 0) lead z
       → AfterPasses tuples nexts count letters lead cycle (replicate 1024 0) (replicate 1025 0) 0 (z .at)
@@ -57,7 +56,7 @@ module _ {tuples nexts : List ℕ} {count : ℕ} {letters : List ℕ} {lead cycl
         let n : getD seen (end passes) 0 ≡ 0 = rw e at new in
         let b = h .below in
         let l = passes-few new in
-        let m = tables .numbers .most in
+        let m = tables .room .most in
         let s : passes + 1 ≡ suc passes = omega arith in
         record {
           here = pass-end letters lead cycle (fit .all) tuples nexts count passes z q ∙ ap end (sym s);
@@ -73,7 +72,7 @@ module _ {tuples nexts : List ℕ} {count : ℕ} {letters : List ℕ} {lead cycl
 
     -- the repeat: the cell of the number at the end tells which pass comes after the earlier end
     module _ (old : getD seen at 0 ≡ 0 → ⊥) where
-      repeat : (j : ℕ) × FirstEqual end j passes × (getD seen at 0 ≡ suc j)
+      repeat : (j : ℕ) × FirstRepeat end j passes × (getD seen at 0 ≡ suc j)
       repeat =
           let (j, r, e) = seen-again end passes seen (h .ends) (rw (h .here) at old) in
           (j, r, ap (λ (x : ℕ). getD seen x 0) (h .here) ∙ e)
@@ -81,8 +80,8 @@ module _ {tuples nexts : List ℕ} {count : ℕ} {letters : List ℕ} {lead cycl
       pub repeat-range : (getD seen at 0 ≤ passes) × (passes < 1025)
       repeat-range =
           let (j, r, e) = repeat in
-          let l = r .0 in
-          let m = tables .numbers .most in
+          let l = r .earlier in
+          let m = tables .room .most in
           (omega arith, omega (arith, h .few))
 
       pub repeat-judged : (z : Verdict) → z .passes ≡ passes → LeastOf (λ i. getD leasts i 0) (getD seen at 0) (passes + 1) (z .least)

@@ -3,7 +3,7 @@ use Prim.Native.Nat.{ℕ, _+_, _*_, _%_, _≤_, _<_}
 use mathlib.Core.Path.{_≡_}
 use mathlib.Core.Bool.{Bool, true, false}
 use Rattle.automaton.specs.Automaton.{Automaton}
-use Rattle.tuple.specs.Step.{Tuple, run}
+use Rattle.tuple.specs.Step.{Tuple, run, colourEntered}
 use Rattle.judge.specs.declared.Answer.{Answer}
 use Rattle.judge.specs.declared.Answer.the-variants.{Yes, No}
 use Rattle.judge.specs.declared.Verdict.{Verdict}
@@ -13,18 +13,23 @@ abbrev pub passEnd : Automaton → (ℕ → ℕ) → ℕ → ℕ → ℕ → Tup
 passEnd A w m c i = run A w (m + i * c)
 
 -- "Passes of the cycle are run until the tuple at a pass's end equals one at an earlier end": pass b is the first such, and a the earlier
-pub record FirstRepeat (A : Automaton) (w : ℕ → ℕ) (m c a b : ℕ) : Type 0 where
+pub record FirstRepeat {X : Type 0} (end : ℕ → X) (a b : ℕ) : Type 0 where
   pub earlier : a < b
-  pub equal : passEnd A w m c a ≡ passEnd A w m c b
-  pub first : (i j : ℕ) → i < j → j < b → passEnd A w m c i ≡ passEnd A w m c j → ⊥
+  pub equal : end a ≡ end b
+  pub first : (i j : ℕ) → i < j → j < b → end i ≡ end j → ⊥
 
--- "the least colour entered after the earlier of the two equal ends, up to and with the later": after t and up to u
-pub record LeastColour (A : Automaton) (w : ℕ → ℕ) (t u least : ℕ) : Type 0 where
+-- the least value of f from a on, before b
+pub record LeastOf (f : ℕ → ℕ) (a b least : ℕ) : Type 0 where
   pub at : ℕ
-  pub after : t < at
-  pub up-to : at ≤ u
-  pub is : run A w at .colour ≡ least
-  pub lowest : (s : ℕ) → t < s → s ≤ u → least ≤ run A w s .colour
+  pub from : a ≤ at
+  pub before : at < b
+  pub is : f at ≡ least
+  pub lowest : (s : ℕ) → a ≤ s → s < b → least ≤ f s
+
+-- "the least colour entered after the earlier of the two equal ends, up to and with the later": the ends lie at t and u,
+-- and the letters from t on, before u, enter these colours
+abbrev pub LeastColour : Automaton → (ℕ → ℕ) → ℕ → ℕ → ℕ → Type 0
+LeastColour A w t u least = LeastOf (colourEntered A w) t u least
 
 -- "The plan is passed, and the answer is yes, if the least colour .. is even; else the answer is no."
 abbrev pub AnswerIs : ℕ → Answer → Type 0
@@ -39,6 +44,6 @@ isYes No = false
 -- THE VERDICT on an endless word with a lead-in of m letters and a cycle of c: "The count of passes is reported"
 pub record Judges (A : Automaton) (w : ℕ → ℕ) (m c : ℕ) (z : Verdict) : Type 0 where
   pub earlier : ℕ
-  pub repeat : FirstRepeat A w m c earlier (z .passes)
+  pub repeat : FirstRepeat (passEnd A w m c) earlier (z .passes)
   pub least : LeastColour A w (m + earlier * c) (m + z .passes * c) (z .least)
   pub answer : AnswerIs (z .least) (z .answer)

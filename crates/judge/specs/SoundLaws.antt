@@ -11,22 +11,14 @@ use Rattle.automaton.specs.Meeting.{Free, Everywhere}
 use Rattle.automaton.specs.Reading.{Passes}
 use Rattle.tuple.specs.Step.{run, colourEntered}
 use Rattle.tuple.specs.Demand.{demand}
-use Rattle.finite.specs.Least.{lowest}
 use Rattle.plan.specs.Letter.{letterAt}
 use Rattle.plan.specs.LetterLaws.{letter-repeats}
 use Rattle.judge.specs.declared.Answer.{Answer}
 use Rattle.judge.specs.declared.Answer.the-variants.{Yes, No}
 use Rattle.judge.specs.declared.Verdict.{Verdict}
-use Rattle.judge.specs.Passes.{AnswerIs, LeastColour, Judges}
+use Rattle.judge.specs.Passes.{AnswerIs, Judges}
 use Rattle.judge.specs.Verdict.{Sound}
-use Rattle.judge.specs.TableRun.{LeastOf}
-use Rattle.judge.specs.LeastLaws.{least-down, least-lowest}
-
--- the colours entered after t and up to u, by the letter that enters them
-entered-least : (A : Automaton) (w : ℕ → ℕ) (t u v : ℕ) → LeastColour A w t u v → LeastOf (colourEntered A w) t u v
-entered-least A w t u v h =
-    least-down (λ s. run A w s .colour) t u v
-    (record { at = h .at; from = h .after; before = omega (arith, h .up-to); is = h .is; lowest = λ s a b. h .lowest s a (omega arith) })
+use Rattle.judge.specs.LeastLaws.{least-once, least-lowest}
 
 by-parity : (A : Automaton) (w : ℕ → ℕ) (least : ℕ) → (least % 2 ≡ 0) ↔ Passes A w → (answer : Answer) → AnswerIs least answer → Sound A w answer
 by-parity A w least h Yes e = h .0 e
@@ -71,7 +63,8 @@ sound {A} fits free lead cycle some letters z h = by-parity A w (z .least) parit
 
     parity : (z .least % 2 ≡ 0) ↔ Passes A w
     parity =
-        rw (least-lowest (colourEntered A w) T d (z .least) (rw later (entered-least A w T (m + z .passes * c) (z .least) (h .least)))) at
+        let once = least-once (colourEntered A w) T (T + suc d) _ (z .least) (least-lowest (colourEntered A w) T d) (rw later (h .least)) in
+        rw once at
         (demand fits free w letters T d
         (λ t l. ap (λ (x : ℕ). w (t + x)) letters-of ∙ letter-repeats lead cycle k t (omega arith))
         (ap (run A w) later ∙ sym (h .repeat .equal)))

@@ -4,23 +4,20 @@ use Prim.Native.Nat.{ℕ, zero, suc, _+_, _*_, _≤_, _<_}
 use mathlib.Core.Path.{_≡_}
 use mathlib.Core.List.{List}
 use lib.ListN.{length, getD, take, drop}
-use Rattle.finite.specs.Finite.{FirstEqual}
 use Rattle.plan.specs.Letter.{letterAt}
+use Rattle.tracker.specs.Build.{store, RoomFits}
 use Rattle.judge.specs.declared.Pass.{Pass}
 use Rattle.judge.specs.declared.Verdict.{Verdict}
-use Rattle.judge.specs.Passes.{AnswerIs}
+use Rattle.judge.specs.Passes.{FirstRepeat, LeastOf, AnswerIs}
 
--- what judging asks of the next table of `count` tuples: every number in it is one of theirs
-pub record NextsFit (nexts : List ℕ) (count : ℕ) : Type 0 where
-  pub some : 0 < count
-  pub most : count ≤ 1024
-  pub room : 8 * count ≤ length nexts
-  pub below : (i : ℕ) → getD nexts i 0 < count
+-- every cell is below m
+abbrev pub AllBelow : List ℕ → ℕ → Type 0
+AllBelow cells m = (i : ℕ) → getD cells i 0 < m
 
--- and of the tuple table: it has their colours
+-- what judging asks of the tables of `count` tuples: that they are there, and every next number is one of theirs
 pub record TablesFit (tuples nexts : List ℕ) (count : ℕ) : Type 0 where
-  pub numbers : NextsFit nexts count
-  pub colours : 17 * count ≤ length tuples
+  pub room : RoomFits count (store tuples nexts)
+  pub numbers : AllBelow nexts count
 
 -- and of the letters: the lead-in's, then the cycle's, each one of 8
 pub record LettersFit (letters : List ℕ) (lead cycle : ℕ) : Type 0 where
@@ -28,7 +25,7 @@ pub record LettersFit (letters : List ℕ) (lead cycle : ℕ) : Type 0 where
   pub cycle-some : 1 ≤ cycle
   pub cycle-most : cycle ≤ 200
   pub all : lead + cycle ≤ length letters
-  pub below : (i : ℕ) → getD letters i 0 < 8
+  pub below : AllBelow letters 8
 
 -- the endless word of these letters
 abbrev pub wordOf : List ℕ → ℕ → ℕ → ℕ → ℕ
@@ -47,14 +44,6 @@ colourIn tuples i = getD tuples (17 * i + 16) 0
 abbrev pub enteredIn : List ℕ → List ℕ → ℕ → (ℕ → ℕ) → ℕ → ℕ
 enteredIn tuples nexts at w t = colourIn tuples (reached nexts at w (suc t))
 
--- the least value of f from a on, before b
-pub record LeastOf (f : ℕ → ℕ) (a b least : ℕ) : Type 0 where
-  pub at : ℕ
-  pub from : a ≤ at
-  pub before : at < b
-  pub is : f at ≡ least
-  pub lowest : (s : ℕ) → a ≤ s → s < b → least ≤ f s
-
 -- a pass of some letters, from number `at`: where it ends, and the least colour entered if there is a letter
 pub record Passing (tuples nexts : List ℕ) (count at : ℕ) (w : ℕ → ℕ) (size : ℕ) (z : Pass) : Type 0 where
   pub end : z .at ≡ reached nexts at w size
@@ -68,7 +57,7 @@ endNumber nexts w m c i = reached nexts 0 w (m + i * c)
 -- THE VERDICT by numbers
 pub record TableJudges (tuples nexts : List ℕ) (count : ℕ) (w : ℕ → ℕ) (m c : ℕ) (z : Verdict) : Type 0 where
   pub earlier : ℕ
-  pub repeat : FirstEqual (endNumber nexts w m c) earlier (z .passes)
+  pub repeat : FirstRepeat (endNumber nexts w m c) earlier (z .passes)
   pub least : LeastOf (enteredIn tuples nexts 0 w) (m + earlier * c) (m + z .passes * c) (z .least)
   pub answer : AnswerIs (z .least) (z .answer)
   pub passes : z .passes ≤ count

@@ -1,5 +1,5 @@
 -- The run through a next table: one letter more, the letters in two stretches, and the letters of a plan. Assumes nothing.
-use Prim.Native.Nat.{ℕ, zero, suc, _+_, _*_, _-_, _≤_, _<_}
+use Prim.Native.Nat.{ℕ, zero, suc, _+_, _*_, _≤_, _<_}
 use mathlib.Core.Path.{_≡_, refl, sym, _∙_, ap}
 use mathlib.Core.List.{List}
 use native.Mathlib.Omega.{arith}
@@ -9,7 +9,8 @@ use lib.Seq.{getD-take}
 use Rattle.text.specs.CellsLaws.{part-at}
 use Rattle.plan.specs.LetterLaws.{letter-lead, letter-cycle}
 use Rattle.judge.specs.declared.Pass.{Pass}
-use Rattle.judge.specs.TableRun.{NextsFit, wordOf, reached, colourIn, enteredIn, endNumber, LeastOf, Passing}
+use Rattle.judge.specs.Passes.{LeastOf}
+use Rattle.judge.specs.TableRun.{AllBelow, wordOf, reached, colourIn, enteredIn, endNumber, Passing}
 use Rattle.judge.specs.LeastLaws.{least-from}
 
 module _ (nexts : List ℕ) (at : ℕ) where
@@ -21,10 +22,10 @@ module _ (nexts : List ℕ) (at : ℕ) where
   unfolding reached
   reached-more w t = refl
 
-  pub reached-below : (count : ℕ) → NextsFit nexts count → at < count → (w : ℕ → ℕ) (t : ℕ) → reached nexts at w t < count
+  pub reached-below : (count : ℕ) → AllBelow nexts count → at < count → (w : ℕ → ℕ) (t : ℕ) → reached nexts at w t < count
   unfolding reached
   reached-below count h l w zero = l
-  reached-below count h l w (suc t) = h .below (8 * reached nexts at w t + w t)
+  reached-below count h l w (suc t) = h (8 * reached nexts at w t + w t)
 
   -- first t letters, then s more
   reached-add : (w : ℕ → ℕ) (t s : ℕ) → reached nexts at w (t + s) ≡ reached nexts (reached nexts at w t) (λ i. w (t + i)) s

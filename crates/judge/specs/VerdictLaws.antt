@@ -18,8 +18,8 @@ use Rattle.plan.specs.Letter.{letterAt}
 use Rattle.plan.specs.LetterLaws.{letter-below}
 use Rattle.plan.specs.Plan.{PlanIs}
 use Rattle.plan.specs.KnownLaws.{known-below}
-use Rattle.tracker.specs.Build.{Store, store, Fitted, clearedStore, Builds}
-use Rattle.tracker.specs.BuildLaws.{file-built}
+use Rattle.tracker.specs.Build.{Store, store, Fitted, Builds}
+use Rattle.tracker.specs.BuildLaws.{store-cleared, file-built}
 use Rattle.tracker.specs.FittedLaws.{fitted-cleared}
 use Rattle.tracker.specs.declared.Tracker.{Tracker}
 use Rattle.tracker.specs.declared.Built.{Built}
@@ -40,7 +40,7 @@ letters-below σ p lead cycle plan =
     (λ i l. subst (λ (x : ℕ). x < σ .k) (getD-append-add lead cycle i 0) (known-below σ (plan .known) (length lead + i) (rw (length-append lead cycle) (omega arith))))
 
 -- THE VERDICT on an accepted sheet's tracker
-pub verdicts : (s : List ℕ) (σ : Sheet) → Accepted s σ → (room : ℕ) (f g : Store) (count : ℕ) → Fitted (numbers σ) room f g count
+verdicts : (s : List ℕ) (σ : Sheet) → Accepted s σ → (room : ℕ) (f g : Store) (count : ℕ) → Fitted (numbers σ) room f g count
     → (p lead cycle : List ℕ) (z : Verdict) → PlanIs σ p lead cycle
     → TableJudges (g .tuples) (g .nexts) count (letterAt lead cycle) (length lead) (length cycle) z → Verdicts σ p lead cycle count z
 unfolding numbers
@@ -54,10 +54,6 @@ verdicts s σ accepted room f g count fitted p lead cycle z plan table =
       passes = table .passes;
       sound = sound fits (accepted .free) lead cycle (plan .range .cycle-some) letters z judged;
     }
-
--- TABLES that are cleared one by one
-pub store-cleared : (f : Store) (tuples nexts : List ℕ) → tuples ≡ cleared (f .tuples) → nexts ≡ cleared (f .nexts) → store tuples nexts ≡ clearedStore f
-store-cleared f tuples nexts a b = rw (a, b)
 
 module _ {s p : List ℕ} {room : ℕ} {t u : List ℕ} {v w : Tables} {f g : Store} where
   -- 1 and 2
@@ -94,7 +90,7 @@ module _ {s p : List ℕ} {room : ℕ} {t u : List ℕ} {v w : Tables} {f g : St
             let (l, (σ, accepted, are, is, fitted), y) = file-built (answered told) in
             let (number, line, faulty, e) = h σ (accepted .file) in
             Judgement.refused l r (Refusing.by-plan sizes σ accepted g (x .tuples) fitted number line faulty e y) refl (cu ∙ same-cleared t u same)
-            (store-cleared g tuples nexts ct cn ∙ fitted-cleared (numbers σ) (sheet-fits s σ (accepted .file)) room (x .tuples) f g fitted (l .store))
+            (store-cleared g ct cn ∙ fitted-cleared (numbers σ) (sheet-fits s σ (accepted .file)) room (x .tuples) f g fitted (l .store))
 
         -- the answer
         pub plan-judged : {z : Verdict} → ((σ : Sheet) → FileIs s σ → PlanJudged σ p (g .tuples) (g .nexts) (x .tuples) (Judged z))

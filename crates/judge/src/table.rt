@@ -1,16 +1,16 @@
 // The verdict by tuple numbers: nothing is asked of a tracker's tables but next numbers and colours.
 ghost use mathlib.Core.Path.{_≡_};
-ghost use Prim.Native.Nat.{ℕ, _+_, _*_, _<_, _≤_, min};
+ghost use Prim.Native.Nat.{_+_, _*_, _<_, _≤_, min};
 ghost use lib.ListN.{length, getD};
-ghost use Rattle.judge.specs.Passes.{AnswerIs};
-ghost use Rattle.judge.specs.TableRun.{NextsFit, TablesFit, LettersFit, wordOf, LeastOf, Passing, TableJudges};
+ghost use Rattle.judge.specs.Passes.{LeastOf, AnswerIs};
+ghost use Rattle.judge.specs.TableRun.{AllBelow, TablesFit, LettersFit, wordOf, Passing, TableJudges};
 use super::Answer;
 use super::Pass;
 use super::Verdict;
 
 // Letter i of a plan.
 fn letter(letters: &[u8], i: usize) -> usize
-    requires { ⌜ (i < length (now letters)) × ((i : ℕ) → getD (now letters) i 0 < 8) ⌝ }
+    requires { ⌜ (i < length (now letters)) × AllBelow (now letters) 8 ⌝ }
     ensures { λ r. ⌜ (r ≡ getD (now (letters .entry)) i 0) × (r < 8) ⌝ }
 {
     letters[i] as usize
@@ -18,7 +18,7 @@ fn letter(letters: &[u8], i: usize) -> usize
 
 // The next number of tuple `at` on a letter.
 fn next(nexts: &[u16], count: usize, at: usize, letter: usize) -> usize
-    requires { ⌜ NextsFit (now nexts) count × (at < count) × (letter < 8) ⌝ }
+    requires { ⌜ (8 * count ≤ length (now nexts)) × AllBelow (now nexts) count × (at < count) × (letter < 8) ⌝ }
     ensures { λ r. ⌜ (r ≡ getD (now (nexts .entry)) (8 * at + letter) 0) × (r < count) ⌝ }
 {
     nexts[8 * at + letter] as usize
@@ -41,7 +41,7 @@ fn pass(
     start: usize,
 ) -> Pass
     requires { ⌜ TablesFit (now tuples) (now nexts) count × (start < count) ⌝ }
-    requires { ⌜ (from + size ≤ length (now letters)) × ((i : ℕ) → getD (now letters) i 0 < 8) ⌝ }
+    requires { ⌜ (from + size ≤ length (now letters)) × AllBelow (now letters) 8 ⌝ }
     ensures { λ r. ⌜ Passing (now (tuples .entry)) (now (nexts .entry)) count start (λ i. getD (now (letters .entry)) (from + i) 0) size r ⌝ }
 {
     let mut at = start;
@@ -49,7 +49,7 @@ fn pass(
     let mut i = 0;
     while i < size {
         at = next(nexts, count, at, letter(letters, from + i));
-        least = lesser(least, tuples[17 * at + 16]);
+        least = lesser(least, tuples[rows::CELLS * at + 16]);
         i += 1;
     }
     Pass { at, least }

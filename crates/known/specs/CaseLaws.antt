@@ -33,10 +33,11 @@ use Rattle.judge.specs.declared.Outcome.the-variants as O
 use Rattle.judge.specs.declared.Verdict.{Verdict}
 use Rattle.judge.specs.Passes.{Judges}
 use Rattle.judge.specs.Verdict.{SizesFit}
+use Rattle.judge.specs.UniqueLaws.{one-verdict}
 use Rattle.known.specs.Case.{Expected, judged, meeting, Case, Tracked, VerdictIs, BuiltIs, Forced}
 use Rattle.known.specs.Case as E
 use Rattle.known.specs.VerdictTest.{isVerdict}
-use Rattle.known.specs.VerdictTestLaws.{verdict-is, one-verdict}
+use Rattle.known.specs.VerdictTestLaws.{verdict-is}
 use Rattle.known.specs.CaseTest.{isRefused, rightPlan, rightColours, right}
 use Rattle.known.specs.CauseLaws.{Planned, IsBuilt, verdict-cause, build-cause}
 use Rattle.known.specs.SheetLaws.{sheet-asked}

@@ -5,8 +5,8 @@ use mathlib.Core.List.{List, [], _∷_, _++_}
 use lib.Dec.{eqb, ltb}
 use Rattle.finite.specs.Least.{lowest}
 use Rattle.automaton.specs.Automaton.{Automaton}
-use Rattle.tuple.specs.Step.{Tuple, run}
-use Rattle.tracker.specs.Explore.{numberOf}
+use Rattle.tuple.specs.Step.{Tuple, colourEntered}
+use Rattle.tracker.specs.Explore.{tupleNumber}
 use Rattle.judge.specs.declared.Answer.{Answer}
 use Rattle.judge.specs.declared.Answer.the-variants.{Yes, No}
 use Rattle.judge.specs.declared.Verdict.{Verdict}
@@ -20,7 +20,7 @@ ends A w m c (suc b) = ends A w m c b ++ (passEnd A w m c b ∷ [])
 
 -- the earlier end that pass b's is equal to; b where there is none
 unfoldable pub earlierOf : Automaton → (ℕ → ℕ) → ℕ → ℕ → ℕ → ℕ
-earlierOf A w m c b = numberOf (passEnd A w m c b) (ends A w m c b)
+earlierOf A w m c b = tupleNumber (passEnd A w m c b) (ends A w m c b)
 
 -- pass b is the first whose end equals an earlier one
 unfoldable pub isRepeat : Automaton → (ℕ → ℕ) → ℕ → ℕ → ℕ → Bool
@@ -28,7 +28,7 @@ isRepeat A w m c b = ltb (earlierOf A w m c b) b && all b (λ j. not (ltb (earli
 
 -- the least colour entered after t, up to u
 unfoldable pub leastEntered : Automaton → (ℕ → ℕ) → ℕ → ℕ → ℕ
-leastEntered A w t u = lowest (λ s. run A w s .colour) (suc t) (u - suc t)
+leastEntered A w t u = lowest (colourEntered A w) t (u - suc t)
 
 -- the answer goes by the least colour
 unfoldable pub isAnswer : ℕ → Answer → Bool

@@ -14,7 +14,7 @@ use Rattle.automaton.specs.QuestionLaws.{numbers-number}
 use Rattle.sheet.specs.ReadLaws.{refuses-number}
 use Rattle.tracker.specs.Build.{Store, RoomFits, Fitted, BuildsNumbers, Builds}
 use Rattle.tracker.specs.BuildLaws.{numbers-built, file-built}
-use Rattle.tracker.specs.FittedLaws.{fitted-length, fitted-cleared}
+use Rattle.tracker.specs.FittedLaws.{fitted-room, fitted-cleared}
 use Rattle.tracker.specs.declared.Tracker.{Tracker}
 use Rattle.tracker.specs.declared.Built.{Built}
 use Rattle.tracker.specs.declared.Built.the-variants.{Refused as BuildRefused, Is}
@@ -30,10 +30,8 @@ sized {A} {room} {f} {h} x fits roomy are fitted =
     let n = are .n in
     let k = are .k in
     let (a, b, c, d) = fits .range in
-    let e = fitted .room-is in
-    let p = fitted-length A fits room (x .tuples) f h fitted roomy in
-    let q = fitted .holds .same in
-    record { states = omega arith; letters = omega arith; most = omega arith; tuple-cells = omega arith; next-cells = omega arith }
+    let r = fitted-room A fits room (x .tuples) f h fitted roomy in
+    record { sizes = record { states = omega arith; letters = omega arith; most = r .most }; tuple-cells = r .tuples; next-cells = r .nexts }
 
 -- NO QUESTION BEHIND THE FIRST HAS NUMBER 1
 

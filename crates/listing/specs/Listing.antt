@@ -5,10 +5,14 @@ use lib.ListN.{getD}
 use Rattle.text.specs.Bytes.{lf, endLine}
 use Rattle.text.specs.Column.{column}
 
--- the columns, w wide, of a sequence's numbers from i on, of which there are `left`
-unfoldable pub columns : ℕ → (ℕ → ℕ) → ℕ → ℕ → List ℕ
-columns w f i zero = []
-columns w f i (suc left) = column w (f i) ++ columns w f (suc i) left
+-- the texts of a sequence from i on, of which there are `left`, one behind the other
+unfoldable pub pieces : (ℕ → List ℕ) → ℕ → ℕ → List ℕ
+pieces g i zero = []
+pieces g i (suc left) = g i ++ pieces g (suc i) left
+
+-- the first `count` numbers of a sequence in columns, w wide
+abbrev pub columns : ℕ → (ℕ → ℕ) → ℕ → List ℕ
+columns w f count = pieces (λ i. column w (f i)) 0 count
 
 -- "First line: TRACK, n (3), k (3), tuples (5)."
 unfoldable pub trackLine : ℕ → ℕ → ℕ → List ℕ
@@ -19,14 +23,13 @@ unfoldable pub tupleLine : ℕ → ℕ → List ℕ → List ℕ → ℕ → Lis
 tupleLine n k tuples nexts t =
     81 ∷ (column 5 t
     ++ (column 3 (getD tuples (17 * t + 16) 0)
-    ++ (columns 6 (λ i. getD tuples (17 * t + i) 0) 0 n
-    ++ (columns 5 (λ l. getD nexts (8 * t + l) 0) 0 k ++ (lf ∷ [])))))
+    ++ (columns 6 (λ i. getD tuples (17 * t + i) 0) n
+    ++ (columns 5 (λ l. getD nexts (8 * t + l) 0) k ++ (lf ∷ [])))))
 
--- the lines of the tuples from t on
-unfoldable pub tupleLines : ℕ → ℕ → List ℕ → List ℕ → ℕ → ℕ → List ℕ
-tupleLines n k tuples nexts t zero = []
-tupleLines n k tuples nexts t (suc left) = tupleLine n k tuples nexts t ++ tupleLines n k tuples nexts (suc t) left
+-- the lines of the first `count` tuples
+abbrev pub tupleLines : ℕ → ℕ → List ℕ → List ℕ → ℕ → List ℕ
+tupleLines n k tuples nexts count = pieces (tupleLine n k tuples nexts) 0 count
 
 -- "The last line is END."
 unfoldable pub listing : ℕ → ℕ → ℕ → List ℕ → List ℕ → List ℕ
-listing n k count tuples nexts = trackLine n k count ++ (tupleLines n k tuples nexts 0 count ++ endLine)
+listing n k count tuples nexts = trackLine n k count ++ (tupleLines n k tuples nexts count ++ endLine)

@@ -4,25 +4,23 @@ use mathlib.Core.Path.{_≡_, refl, sym, ap, _∙_}
 use mathlib.Core.List.{List, [], _∷_, _++_}
 use native.Mathlib.Decide.{decLt}
 use native.Mathlib.Omega.{arith}
-use lib.ListN.{getD, List·getD-eq-default}
+use lib.ListN.{length, getD, List·getD-eq-default}
 use lib.Pow.{pow-mono}
 use Rattle.automaton.specs.Automaton.{Automaton, Fits}
 use Rattle.tuple.specs.TupleLaws.{small}
 use Rattle.tracker.specs.Build.{Store, RoomFits, Fitted}
-use Rattle.tracker.specs.FittedLaws.{tuple, fitted-formed, fitted-set, fitted-colour, fitted-behind}
+use Rattle.tracker.specs.FittedLaws.{tuple, fitted-formed, fitted-set, fitted-colour, fitted-behind, fitted-next, fitted-room}
 use Rattle.text.specs.Bytes.{lf, endLine}
 use Rattle.text.specs.BytesLaws.{append-same}
 use Rattle.text.specs.Column.{column}
 use Rattle.text.specs.ColumnLaws.{column-length, column-injective}
-use Rattle.listing.specs.Listing.{columns, trackLine, tupleLine, tupleLines, listing}
-use Rattle.listing.specs.Put.{cellsFrom}
+use Rattle.listing.specs.Listing.{pieces, columns, trackLine, tupleLine, tupleLines, listing}
+use Rattle.listing.specs.Put.{cellsFrom, Sizes}
 use Rattle.listing.specs.PutLaws.{columns-length, line-length, lines-length, first-length}
 
 -- the numbers of a tracker as a listing shows them: each has its columns, and every cell that is not listed is zero
 pub record Shown (n k count : ℕ) (tuples nexts : List ℕ) : Type 0 where
-  pub states : n ≤ 16
-  pub letters : k ≤ 8
-  pub most : count ≤ 1024
+  pub sizes : Sizes n k count
   pub sets : (i : ℕ) → getD tuples i 0 < 65536
   pub colours : (t : ℕ) → getD tuples (17 * t + 16) 0 ≤ 33
   pub next : (c : ℕ) → getD nexts c 0 < 1024
@@ -39,47 +37,39 @@ column-same w u v c d p q e =
     let (x, y) = append-same (column w u) (column w v) c d (column-length w u ∙ sym (column-length w v)) e in
     (column-injective w u v p q x, y)
 
-columns-same : (w : ℕ) (f g : ℕ → ℕ) → ((j : ℕ) → f j < 10 ^ w) → ((j : ℕ) → g j < 10 ^ w) → (i left : ℕ) → columns w f i left ≡ columns w g i left
-    → (j : ℕ) → i ≤ j → j < i + left → f j ≡ g j
-unfolding columns
-columns-same w f g p q i zero e j h l = absurd (omega arith)
-columns-same w f g p q i (suc left) e j h l = by (column-same w (f i) (g i) (columns w f (suc i) left) (columns w g (suc i) left) (p i) (q i) e) (decLt i j) (columns-same w f g p q (suc i) left)
+-- pieces as long, one by one
+pieces-same : (g h : ℕ → List ℕ) → ((i : ℕ) → length (g i) ≡ length (h i)) → (i left : ℕ) → pieces g i left ≡ pieces h i left
+    → (j : ℕ) → i ≤ j → j < i + left → g j ≡ h j
+unfolding pieces
+pieces-same g h each i zero e j a b = absurd (omega arith)
+pieces-same g h each i (suc left) e j a b =
+    by (append-same (g i) (h i) (pieces g (suc i) left) (pieces h (suc i) left) (each i) e) (decLt i j) (pieces-same g h each (suc i) left)
   where
-    by : (f i ≡ g i) × (columns w f (suc i) left ≡ columns w g (suc i) left) → Dec (i < j)
-        → (columns w f (suc i) left ≡ columns w g (suc i) left → (j : ℕ) → suc i ≤ j → j < suc i + left → f j ≡ g j) → f j ≡ g j
+    by : (g i ≡ h i) × (pieces g (suc i) left ≡ pieces h (suc i) left) → Dec (i < j)
+        → (pieces g (suc i) left ≡ pieces h (suc i) left → (j : ℕ) → suc i ≤ j → j < suc i + left → g j ≡ h j) → g j ≡ h j
     by (x, y) (yes k) ih = ih y j k (omega arith)
-    by (x, y) (no k) ih = let z : j ≡ i = omega arith in ap f z ∙ x ∙ ap g (sym z)
+    by (x, y) (no k) ih = let z : j ≡ i = omega arith in ap g z ∙ x ∙ ap h (sym z)
 
-lines-same : (n k : ℕ) (t₁ n₁ t₂ n₂ : List ℕ) (t left : ℕ) → tupleLines n k t₁ n₁ t left ≡ tupleLines n k t₂ n₂ t left
-    → (j : ℕ) → t ≤ j → j < t + left → tupleLine n k t₁ n₁ j ≡ tupleLine n k t₂ n₂ j
-unfolding tupleLines
-lines-same n k t₁ n₁ t₂ n₂ t zero e j h l = absurd (omega arith)
-lines-same n k t₁ n₁ t₂ n₂ t (suc left) e j h l =
-    by
-    (append-same (tupleLine n k t₁ n₁ t) (tupleLine n k t₂ n₂ t) (tupleLines n k t₁ n₁ (suc t) left) (tupleLines n k t₂ n₂ (suc t) left)
-    (line-length n k t₁ n₁ t ∙ sym (line-length n k t₂ n₂ t)) e)
-    (decLt t j) (lines-same n k t₁ n₁ t₂ n₂ (suc t) left)
-  where
-    by : (tupleLine n k t₁ n₁ t ≡ tupleLine n k t₂ n₂ t) × (tupleLines n k t₁ n₁ (suc t) left ≡ tupleLines n k t₂ n₂ (suc t) left) → Dec (t < j)
-        → (tupleLines n k t₁ n₁ (suc t) left ≡ tupleLines n k t₂ n₂ (suc t) left → (j : ℕ) → suc t ≤ j → j < suc t + left → tupleLine n k t₁ n₁ j ≡ tupleLine n k t₂ n₂ j)
-        → tupleLine n k t₁ n₁ j ≡ tupleLine n k t₂ n₂ j
-    by (x, y) (yes m) ih = ih y j m (omega arith)
-    by (x, y) (no m) ih = let z : j ≡ t = omega arith in ap (tupleLine n k t₁ n₁) z ∙ x ∙ ap (tupleLine n k t₂ n₂) (sym z)
+columns-same : (w : ℕ) (f g : ℕ → ℕ) → ((j : ℕ) → f j < 10 ^ w) → ((j : ℕ) → g j < 10 ^ w) → (count : ℕ) → columns w f count ≡ columns w g count
+    → (j : ℕ) → j < count → f j ≡ g j
+columns-same w f g p q count e j h =
+    column-injective w (f j) (g j) (p j) (q j)
+    (pieces-same (λ i. column w (f i)) (λ i. column w (g i)) (λ i. column-length w (f i) ∙ sym (column-length w (g i))) 0 count e j (omega arith) (omega arith))
 
-first-same : (n k count n' k' count' : ℕ) → n ≤ 16 → k ≤ 8 → count ≤ 1024 → n' ≤ 16 → k' ≤ 8 → count' ≤ 1024
+first-same : (n k count n' k' count' : ℕ) → Sizes n k count → Sizes n' k' count'
     → trackLine n k count ≡ trackLine n' k' count' → (n ≡ n') × (k ≡ k') × (count ≡ count')
 unfolding trackLine
-first-same n k count n' k' count' a b c a' b' c' e =
+first-same n k count n' k' count' s s' e =
     let rest : List ℕ = column 3 k ++ (column 5 count ++ (lf ∷ [])) in
     let rest' : List ℕ = column 3 k' ++ (column 5 count' ++ (lf ∷ [])) in
     let (w, x) = append-same (84 ∷ 82 ∷ 65 ∷ 67 ∷ 75 ∷ []) (84 ∷ 82 ∷ 65 ∷ 67 ∷ 75 ∷ []) (column 3 n ++ rest) (column 3 n' ++ rest') refl e in
-    let (p, y) = column-same 3 n n' rest rest' (omega arith) (omega arith) x in
-    let (q, z) = column-same 3 k k' (column 5 count ++ (lf ∷ [])) (column 5 count' ++ (lf ∷ [])) (omega arith) (omega arith) y in
-    let (r, u) = column-same 5 count count' (lf ∷ []) (lf ∷ []) (omega arith) (omega arith) z in
+    let (p, y) = column-same 3 n n' rest rest' (omega (arith, s .states)) (omega (arith, s' .states)) x in
+    let (q, z) = column-same 3 k k' (column 5 count ++ (lf ∷ [])) (column 5 count' ++ (lf ∷ [])) (omega (arith, s .letters)) (omega (arith, s' .letters)) y in
+    let (r, u) = column-same 5 count count' (lf ∷ []) (lf ∷ []) (omega (arith, s .most)) (omega (arith, s' .most)) z in
     (p, q, r)
 
 -- what a tuple's line shows
-pub record SameLine (n k : ℕ) (t₁ n₁ t₂ n₂ : List ℕ) (t : ℕ) : Type 0 where
+record SameLine (n k : ℕ) (t₁ n₁ t₂ n₂ : List ℕ) (t : ℕ) : Type 0 where
   pub colour : getD t₁ (17 * t + 16) 0 ≡ getD t₂ (17 * t + 16) 0
   pub sets : (i : ℕ) → i < n → getD t₁ (17 * t + i) 0 ≡ getD t₂ (17 * t + i) 0
   pub nexts : (l : ℕ) → l < k → getD n₁ (8 * t + l) 0 ≡ getD n₂ (8 * t + l) 0
@@ -90,20 +80,20 @@ module _ (n k count : ℕ) (t₁ n₁ t₂ n₂ : List ℕ) (s₁ : Shown n k co
   line-same t e =
       let x₁ = getD t₁ (17 * t + 16) 0 in
       let x₂ = getD t₂ (17 * t + 16) 0 in
-      let a₁ = columns 6 (cellsFrom t₁ (17 * t)) 0 n in
-      let a₂ = columns 6 (cellsFrom t₂ (17 * t)) 0 n in
-      let b₁ = columns 5 (cellsFrom n₁ (8 * t)) 0 k in
-      let b₂ = columns 5 (cellsFrom n₂ (8 * t)) 0 k in
+      let a₁ = columns 6 (cellsFrom t₁ (17 * t)) n in
+      let a₂ = columns 6 (cellsFrom t₂ (17 * t)) n in
+      let b₁ = columns 5 (cellsFrom n₁ (8 * t)) k in
+      let b₂ = columns 5 (cellsFrom n₂ (8 * t)) k in
       let (q, d) = append-same (81 ∷ column 5 t) (81 ∷ column 5 t) (column 3 x₁ ++ (a₁ ++ (b₁ ++ (lf ∷ [])))) (column 3 x₂ ++ (a₂ ++ (b₂ ++ (lf ∷ [])))) refl e in
       let p₁ = s₁ .colours t in
       let p₂ = s₂ .colours t in
       let (c, f) = column-same 3 x₁ x₂ (a₁ ++ (b₁ ++ (lf ∷ []))) (a₂ ++ (b₂ ++ (lf ∷ []))) (omega arith) (omega arith) d in
-      let (g, h) = append-same a₁ a₂ (b₁ ++ (lf ∷ [])) (b₂ ++ (lf ∷ [])) (columns-length 6 (cellsFrom t₁ (17 * t)) 0 n ∙ sym (columns-length 6 (cellsFrom t₂ (17 * t)) 0 n)) f in
-      let (i, j) = append-same b₁ b₂ (lf ∷ []) (lf ∷ []) (columns-length 5 (cellsFrom n₁ (8 * t)) 0 k ∙ sym (columns-length 5 (cellsFrom n₂ (8 * t)) 0 k)) h in
+      let (g, h) = append-same a₁ a₂ (b₁ ++ (lf ∷ [])) (b₂ ++ (lf ∷ [])) (columns-length 6 (cellsFrom t₁ (17 * t)) n ∙ sym (columns-length 6 (cellsFrom t₂ (17 * t)) n)) f in
+      let (i, j) = append-same b₁ b₂ (lf ∷ []) (lf ∷ []) (columns-length 5 (cellsFrom n₁ (8 * t)) k ∙ sym (columns-length 5 (cellsFrom n₂ (8 * t)) k)) h in
       record {
         colour = c;
-        sets = λ m l. columns-same 6 (cellsFrom t₁ (17 * t)) (cellsFrom t₂ (17 * t)) (λ z. omega (arith, s₁ .sets (17 * t + z))) (λ z. omega (arith, s₂ .sets (17 * t + z))) 0 n g m (omega arith) (omega arith);
-        nexts = λ m l. columns-same 5 (cellsFrom n₁ (8 * t)) (cellsFrom n₂ (8 * t)) (λ z. omega (arith, s₁ .next (8 * t + z))) (λ z. omega (arith, s₂ .next (8 * t + z))) 0 k i m (omega arith) (omega arith);
+        sets = λ m l. columns-same 6 (cellsFrom t₁ (17 * t)) (cellsFrom t₂ (17 * t)) (λ z. omega (arith, s₁ .sets (17 * t + z))) (λ z. omega (arith, s₂ .sets (17 * t + z))) n g m l;
+        nexts = λ m l. columns-same 5 (cellsFrom n₁ (8 * t)) (cellsFrom n₂ (8 * t)) (λ z. omega (arith, s₁ .next (8 * t + z))) (λ z. omega (arith, s₂ .next (8 * t + z))) k i m l;
       }
 
   module _ (lines : (t : ℕ) → t < count → SameLine n k t₁ n₁ t₂ n₂ t) where
@@ -142,11 +132,11 @@ pub record Same (n₁ k₁ c₁ : ℕ) (t₁ e₁ : List ℕ) (n₂ k₂ c₂ : 
 pub listing-determines : (n₁ k₁ c₁ : ℕ) (t₁ e₁ : List ℕ) (n₂ k₂ c₂ : ℕ) (t₂ e₂ : List ℕ) → Shown n₁ k₁ c₁ t₁ e₁ → Shown n₂ k₂ c₂ t₂ e₂
     → listing n₁ k₁ c₁ t₁ e₁ ≡ listing n₂ k₂ c₂ t₂ e₂ → Same n₁ k₁ c₁ t₁ e₁ n₂ k₂ c₂ t₂ e₂
 unfolding listing
-listing-determines n₁ k₁ c₁ t₁ e₁ n₂ k₂ c₂ t₂ e₂ s₁ s₂ e = by (first-same n₁ k₁ c₁ n₂ k₂ c₂ (s₁ .states) (s₁ .letters) (s₁ .most) (s₂ .states) (s₂ .letters) (s₂ .most) (parts .0))
+listing-determines n₁ k₁ c₁ t₁ e₁ n₂ k₂ c₂ t₂ e₂ s₁ s₂ e = by (first-same n₁ k₁ c₁ n₂ k₂ c₂ (s₁ .sizes) (s₂ .sizes) (parts .0))
   where
-    parts : (trackLine n₁ k₁ c₁ ≡ trackLine n₂ k₂ c₂) × (tupleLines n₁ k₁ t₁ e₁ 0 c₁ ++ endLine ≡ tupleLines n₂ k₂ t₂ e₂ 0 c₂ ++ endLine)
+    parts : (trackLine n₁ k₁ c₁ ≡ trackLine n₂ k₂ c₂) × (tupleLines n₁ k₁ t₁ e₁ c₁ ++ endLine ≡ tupleLines n₂ k₂ t₂ e₂ c₂ ++ endLine)
     parts =
-        append-same (trackLine n₁ k₁ c₁) (trackLine n₂ k₂ c₂) (tupleLines n₁ k₁ t₁ e₁ 0 c₁ ++ endLine) (tupleLines n₂ k₂ t₂ e₂ 0 c₂ ++ endLine)
+        append-same (trackLine n₁ k₁ c₁) (trackLine n₂ k₂ c₂) (tupleLines n₁ k₁ t₁ e₁ c₁ ++ endLine) (tupleLines n₂ k₂ t₂ e₂ c₂ ++ endLine)
         (first-length n₁ k₁ c₁ ∙ sym (first-length n₂ k₂ c₂)) e
 
     by : (n₁ ≡ n₂) × (k₁ ≡ k₂) × (c₁ ≡ c₂) → Same n₁ k₁ c₁ t₁ e₁ n₂ k₂ c₂ t₂ e₂
@@ -155,25 +145,23 @@ listing-determines n₁ k₁ c₁ t₁ e₁ n₂ k₂ c₂ t₂ e₂ s₁ s₂ e
         s₂' : Shown n₁ k₁ c₁ t₂ e₂
         s₂' = rw (p, q, r) s₂
 
-        texts : tupleLines n₁ k₁ t₁ e₁ 0 c₁ ++ endLine ≡ tupleLines n₁ k₁ t₂ e₂ 0 c₁ ++ endLine
+        texts : tupleLines n₁ k₁ t₁ e₁ c₁ ++ endLine ≡ tupleLines n₁ k₁ t₂ e₂ c₁ ++ endLine
         texts = rw (← p, ← q, ← r) at (parts .1)
 
         lines : (t : ℕ) → t < c₁ → SameLine n₁ k₁ t₁ e₁ t₂ e₂ t
         lines t h =
             let (x, y) =
-            append-same (tupleLines n₁ k₁ t₁ e₁ 0 c₁) (tupleLines n₁ k₁ t₂ e₂ 0 c₁) endLine endLine
-            (lines-length n₁ k₁ t₁ e₁ 0 c₁ ∙ sym (lines-length n₁ k₁ t₂ e₂ 0 c₁)) texts in
-            line-same n₁ k₁ c₁ t₁ e₁ t₂ e₂ s₁ s₂' t (lines-same n₁ k₁ t₁ e₁ t₂ e₂ 0 c₁ x t (omega arith) (omega arith))
+            append-same (tupleLines n₁ k₁ t₁ e₁ c₁) (tupleLines n₁ k₁ t₂ e₂ c₁) endLine endLine
+            (lines-length n₁ k₁ t₁ e₁ c₁ ∙ sym (lines-length n₁ k₁ t₂ e₂ c₁)) texts in
+            line-same n₁ k₁ c₁ t₁ e₁ t₂ e₂ s₁ s₂' t (pieces-same (tupleLine n₁ k₁ t₁ e₁) (tupleLine n₁ k₁ t₂ e₂) (λ i. line-length n₁ k₁ t₁ e₁ i ∙ sym (line-length n₁ k₁ t₂ e₂ i)) 0 c₁ x t (omega arith) (omega arith))
 
 -- A TRACKER THAT IS BUILT is shown by its listing
 pub fitted-shown : (A : Automaton) → Fits A → (room m : ℕ) (v w : Store) → RoomFits room v → Fitted A room v w m → Shown (A .n) (A .k) m (w .tuples) (w .nexts)
 fitted-shown A fits room m v w r f = record {
-  states = fits .range .1;
-  letters = fits .range .3;
-  most = (let a = r .most in let b = f .room-is in omega arith);
+  sizes = record { states = fits .range .1; letters = fits .range .3; most = fitted-room A fits room m v w f r .most };
   sets = λ i. set-small i (decLt (i / 17) m) (decLt (i % 17) 16);
   colours = λ t. colour-small t (decLt t m);
-  next = λ c. next-small c (decLt (c / 8) m) (decLt (c % 8) (A .k));
+  next = λ c. omega (arith, fitted-next A fits room m v w f c, fitted-room A fits room m v w f r .most);
   no-set = λ t i h k. no-set t i h k (decLt t m);
   no-tuple = fitted-behind A fits room m v w f;
   no-next = λ c z. let e = f .count-is in f .holds .nexts .zero c (λ g l. z (omega arith) l);
@@ -206,13 +194,3 @@ fitted-shown A fits room m v w r f = record {
         let x = ap (λ (i : ℕ). getD (w .tuples) i 0) e in
         let c = colour-small (i / 17) (yes h) in
         omega arith
-
-    next-small : (c : ℕ) → Dec (c / 8 < m) → Dec (c % 8 < A .k) → getD (w .nexts) c 0 < 1024
-    next-small c (yes h) (yes k) =
-        let e = f .count-is in
-        let x = f .holds .nexts .next c (omega arith) k .0 in
-        let a = r .most in
-        let b = f .room-is in
-        omega arith
-    next-small c (yes h) (no k) = let z = f .holds .nexts .zero c (λ g l. k l) in omega arith
-    next-small c (no h) y = let e = f .count-is in let z = f .holds .nexts .zero c (λ g l. h (omega arith)) in omega arith

@@ -15,7 +15,7 @@ cellsFrom table from i = getD table (from + i) 0
 pub record CellsThere (out : List ℕ) (at w : ℕ) (table : List ℕ) (from count : ℕ) : Type 0 where
   pub wide : w ≤ 6
   pub cells : from + count ≤ length table
-  pub bytes : at + w * count ≤ length out
+  pub bytes : at + count * w ≤ length out
 
 -- the bytes of a tuple's line, and of the whole listing
 abbrev pub lineBytes : ℕ → ℕ → ℕ
@@ -24,11 +24,15 @@ lineBytes n k = 10 + (6 * n + 5 * k)
 abbrev pub listingBytes : ℕ → ℕ → ℕ → ℕ
 listingBytes n k count = 21 + count * lineBytes n k
 
--- a tracker's tables, with at most as many states, letters and tuples as there may be
-pub record Sized (n k count : ℕ) (tuples nexts : List ℕ) : Type 0 where
+-- at most as many states, letters and tuples as there may be
+pub record Sizes (n k count : ℕ) : Type 0 where
   pub states : n ≤ 16
   pub letters : k ≤ 8
   pub most : count ≤ 1024
+
+-- and tables with the rows of the tuples
+pub record Sized (n k count : ℕ) (tuples nexts : List ℕ) : Type 0 where
+  pub sizes : Sizes n k count
   pub tuple-cells : 17 * count ≤ length tuples
   pub next-cells : 8 * count ≤ length nexts
 

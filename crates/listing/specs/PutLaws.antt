@@ -1,37 +1,37 @@
 -- The text of a listing: its length, and how it is written part by part. Assumes nothing.
 use Prim.Native.Nat.{ℕ, zero, suc, _+_, _-_, _*_, _≤_, _<_}
-use mathlib.Core.Path.{_≡_, refl, ap, _∙_}
+use mathlib.Core.Path.{_≡_, refl, sym, ap, _∙_}
 use mathlib.Core.List.{List, [], _∷_, _++_}
 use native.Mathlib.Numerals.{add-one}
-use native.Mathlib.Nat.{mul-le-mul, mul-suc, suc-mul, sub-eq-zero-of-le}
+use native.Mathlib.Nat.{mul-le-mul, suc-mul, sub-zero, sub-eq-zero-of-le}
 use native.Mathlib.Omega.{arith}
 use lib.ListN.{length, getD, length-append}
-use lib.Seq.{sets}
+use lib.Seq.{sets, length-sets}
 use Rattle.text.specs.Bytes.{lf, endLine}
 use Rattle.text.specs.Column.{column}
 use Rattle.text.specs.ColumnLaws.{column-length}
 use Rattle.text.specs.LeftLaws.{left-more}
 use Rattle.text.specs.SetsLaws.{sets-part}
-use Rattle.listing.specs.Listing.{columns, trackLine, tupleLine, tupleLines, listing}
-use Rattle.listing.specs.Put.{cellsFrom, lineBytes, listingBytes}
+use Rattle.listing.specs.Listing.{pieces, columns, trackLine, tupleLine, tupleLines, listing}
+use Rattle.listing.specs.Put.{cellsFrom, lineBytes, listingBytes, Sizes}
 
 -- LENGTHS
 
-pub columns-length : (w : ℕ) (f : ℕ → ℕ) (i left : ℕ) → length (columns w f i left) ≡ w * left
-unfolding columns
-columns-length w f i zero = omega arith
-columns-length w f i (suc left) = length-append (column w (f i)) (columns w f (suc i) left) ∙ omega (arith, column-length w (f i), columns-length w f (suc i) left, mul-suc w left)
+-- pieces of w bytes each
+pieces-length : (g : ℕ → List ℕ) (w : ℕ) → ((i : ℕ) → length (g i) ≡ w) → (i left : ℕ) → length (pieces g i left) ≡ left * w
+unfolding pieces
+pieces-length g w each i zero = omega arith
+pieces-length g w each i (suc left) = length-append (g i) (pieces g (suc i) left) ∙ omega (arith, each i, pieces-length g w each (suc i) left, suc-mul left w)
+
+pub columns-length : (w : ℕ) (f : ℕ → ℕ) (count : ℕ) → length (columns w f count) ≡ count * w
+columns-length w f count = pieces-length (λ i. column w (f i)) w (λ i. column-length w (f i)) 0 count
 
 pub line-length : (n k : ℕ) (tuples nexts : List ℕ) (t : ℕ) → length (tupleLine n k tuples nexts t) ≡ lineBytes n k
 unfolding tupleLine
 line-length n k tuples nexts t = simp (length-append, column-length, columns-length) (omega arith)
 
-pub lines-length : (n k : ℕ) (tuples nexts : List ℕ) (t left : ℕ) → length (tupleLines n k tuples nexts t left) ≡ left * lineBytes n k
-unfolding tupleLines
-lines-length n k tuples nexts t zero = omega arith
-lines-length n k tuples nexts t (suc left) =
-    length-append (tupleLine n k tuples nexts t) (tupleLines n k tuples nexts (suc t) left)
-    ∙ omega (arith, line-length n k tuples nexts t, lines-length n k tuples nexts (suc t) left, suc-mul left (lineBytes n k))
+pub lines-length : (n k : ℕ) (tuples nexts : List ℕ) (count : ℕ) → length (tupleLines n k tuples nexts count) ≡ count * lineBytes n k
+lines-length n k tuples nexts count = pieces-length (tupleLine n k tuples nexts) (lineBytes n k) (line-length n k tuples nexts) 0 count
 
 pub first-length : (n k count : ℕ) → length (trackLine n k count) ≡ 17
 unfolding trackLine
@@ -42,32 +42,14 @@ unfolding listing
 listing-length n k count tuples nexts = simp (length-append, first-length, lines-length) (omega arith)
 
 -- a product within the bounds of a listing
-pub listing-small : (n k count : ℕ) → n ≤ 16 → k ≤ 8 → count ≤ 1024 → count * lineBytes n k ≤ 149504
-listing-small n k count a b c =
-    let h : lineBytes n k ≤ 146 = omega arith in
-    let p : count * lineBytes n k ≤ 1024 * 146 = mul-le-mul c h in
+pub listing-small : (n k count : ℕ) → Sizes n k count → count * lineBytes n k ≤ 149504
+listing-small n k count s =
+    let h : lineBytes n k ≤ 146 = omega (arith, s .states, s .letters) in
+    let p : count * lineBytes n k ≤ 1024 * 146 = mul-le-mul (s .most) h in
     p
 
 -- PART BY PART
 
--- a text that is t, of w bytes, and then u
-pub record Parts (text t : List ℕ) (w : ℕ) (u : List ℕ) : Type 0 where
-  pub left : length text ≡ w + length u
-  pub put : (out : List ℕ) (p : ℕ) → sets out p text ≡ sets (sets out p t) (p + w) u
-
-parts : {text : List ℕ} {w : ℕ} (t u : List ℕ) → text ≡ t ++ u → length t ≡ w → Parts text t w u
-parts {w = w} t u e l = record {
-  left = ap length e ∙ length-append t u ∙ ap (_+ length u) l;
-  put = λ out p. ap (sets out p) e ∙ sets-part t u out p (p + w) (ap (p +_) l);
-}
-
-pub columns-next : (w : ℕ) (f : ℕ → ℕ) (i count : ℕ) → i < count → Parts (columns w f i (count - i)) (column w (f i)) w (columns w f (i + 1) (count - (i + 1)))
-unfolding columns
-columns-next w f i count h = parts (column w (f i)) (columns w f (i + 1) (count - (i + 1))) (rw (left-more h, add-one)) (column-length w (f i))
-
-pub columns-none : (w : ℕ) (f : ℕ → ℕ) (i count : ℕ) → count ≤ i → columns w f i (count - i) ≡ []
-unfolding columns
-columns-none w f i count h = rw (sub-eq-zero-of-le h)
 
 pub first-put : (out : List ℕ) (n k count : ℕ)
     → sets out 0 (trackLine n k count)
@@ -86,15 +68,15 @@ pub tuple-put : (out : List ℕ) (at n k : ℕ) (tuples nexts : List ℕ) (t : �
     ≡ sets
     (sets
     (sets (sets (sets (sets out at (81 ∷ [])) (at + 1) (column 5 t)) (at + 6) (column 3 (getD tuples (17 * t + 16) 0))) (at + 9)
-    (columns 6 (cellsFrom tuples (17 * t)) 0 n))
-    (at + 9 + 6 * n) (columns 5 (cellsFrom nexts (8 * t)) 0 k))
+    (columns 6 (cellsFrom tuples (17 * t)) n))
+    (at + 9 + 6 * n) (columns 5 (cellsFrom nexts (8 * t)) k))
     (at + 9 + 6 * n + 5 * k) (10 ∷ [])
 unfolding tupleLine
 tuple-put out at n k tuples nexts t =
     let x = column 5 t in
     let y = column 3 (getD tuples (17 * t + 16) 0) in
-    let z = columns 6 (cellsFrom tuples (17 * t)) 0 n in
-    let u = columns 5 (cellsFrom nexts (8 * t)) 0 k in
+    let z = columns 6 (cellsFrom tuples (17 * t)) n in
+    let u = columns 5 (cellsFrom nexts (8 * t)) k in
     let a = sets out at (81 ∷ []) in
     let b = sets a (at + 1) x in
     let c = sets b (at + 6) y in
@@ -102,24 +84,54 @@ tuple-put out at n k tuples nexts t =
     sets-part (81 ∷ []) (x ++ (y ++ (z ++ (u ++ (lf ∷ []))))) out at (at + 1) refl
     ∙ sets-part x (y ++ (z ++ (u ++ (lf ∷ [])))) a (at + 1) (at + 6) (omega (arith, column-length 5 t))
     ∙ sets-part y (z ++ (u ++ (lf ∷ []))) b (at + 6) (at + 9) (omega (arith, column-length 3 (getD tuples (17 * t + 16) 0)))
-    ∙ sets-part z (u ++ (lf ∷ [])) c (at + 9) (at + 9 + 6 * n) (omega (arith, columns-length 6 (cellsFrom tuples (17 * t)) 0 n))
-    ∙ sets-part u (lf ∷ []) d (at + 9 + 6 * n) (at + 9 + 6 * n + 5 * k) (omega (arith, columns-length 5 (cellsFrom nexts (8 * t)) 0 k))
-
-pub lines-next : (n k : ℕ) (tuples nexts : List ℕ) (t count : ℕ) → t < count
-    → Parts (tupleLines n k tuples nexts t (count - t)) (tupleLine n k tuples nexts t) (lineBytes n k) (tupleLines n k tuples nexts (t + 1) (count - (t + 1)))
-unfolding tupleLines
-lines-next n k tuples nexts t count h =
-    parts (tupleLine n k tuples nexts t) (tupleLines n k tuples nexts (t + 1) (count - (t + 1))) (rw (left-more h, add-one)) (line-length n k tuples nexts t)
-
-pub lines-none : (n k : ℕ) (tuples nexts : List ℕ) (t count : ℕ) → count ≤ t → tupleLines n k tuples nexts t (count - t) ≡ []
-unfolding tupleLines
-lines-none n k tuples nexts t count h = rw (sub-eq-zero-of-le h)
+    ∙ sets-part z (u ++ (lf ∷ [])) c (at + 9) (at + 9 + 6 * n) (omega (arith, columns-length 6 (cellsFrom tuples (17 * t)) n))
+    ∙ sets-part u (lf ∷ []) d (at + 9 + 6 * n) (at + 9 + 6 * n + 5 * k) (omega (arith, columns-length 5 (cellsFrom nexts (8 * t)) k))
 
 pub listing-put : (out : List ℕ) (n k count : ℕ) (tuples nexts : List ℕ)
     → sets out 0 (listing n k count tuples nexts)
-    ≡ sets (sets (sets out 0 (trackLine n k count)) 17 (tupleLines n k tuples nexts 0 count)) (17 + count * lineBytes n k) (69 ∷ 78 ∷ 68 ∷ 10 ∷ [])
+    ≡ sets (sets (sets out 0 (trackLine n k count)) 17 (tupleLines n k tuples nexts count)) (17 + count * lineBytes n k) (69 ∷ 78 ∷ 68 ∷ 10 ∷ [])
 unfolding listing
 listing-put out n k count tuples nexts =
-    let ls = tupleLines n k tuples nexts 0 count in
+    let ls = tupleLines n k tuples nexts count in
     sets-part (trackLine n k count) (ls ++ endLine) out 0 17 (omega (arith, first-length n k count))
-    ∙ sets-part ls endLine (sets out 0 (trackLine n k count)) 17 (17 + count * lineBytes n k) (omega (arith, lines-length n k tuples nexts 0 count))
+    ∙ sets-part ls endLine (sets out 0 (trackLine n k count)) 17 (17 + count * lineBytes n k) (omega (arith, lines-length n k tuples nexts count))
+
+-- THE LOOP that writes pieces of w bytes each
+
+-- before piece i, at position p: what is left to write gives the whole, which stands at `at` in a buffer that was o
+pub record Putting (g : ℕ → List ℕ) (o : List ℕ) (at count : ℕ) (out : List ℕ) (p i : ℕ) : Type 0 where
+  pub within : i ≤ count
+  pub kept : length out ≡ length o
+  pub room : p + length (pieces g i (count - i)) ≤ length o
+  pub whole : sets out p (pieces g i (count - i)) ≡ sets o at (pieces g 0 count)
+
+module _ (g : ℕ → List ℕ) (w : ℕ) (each : (i : ℕ) → length (g i) ≡ w) {o : List ℕ} {at count : ℕ} where
+  pub put-none : at + count * w ≤ length o → Putting g o at count o at 0
+  put-none h = record { within = omega arith; kept = refl; room = rw sub-zero (omega (arith, pieces-length g w each 0 count)); whole = rw sub-zero refl }
+
+  module _ {out : List ℕ} {p i : ℕ} (h : Putting g o at count out p i) (l : i < count) where
+    left : pieces g i (count - i) ≡ g i ++ pieces g (i + 1) (count - (i + 1))
+    unfolding pieces
+    left = rw (left-more l, add-one)
+
+    left-length : length (pieces g i (count - i)) ≡ w + length (pieces g (i + 1) (count - (i + 1)))
+    left-length = ap length left ∙ length-append (g i) (pieces g (i + 1) (count - (i + 1))) ∙ ap (_+ length (pieces g (i + 1) (count - (i + 1)))) (each i)
+
+    pub put-room : p + w ≤ length out
+    put-room = omega (arith, left-length, h .room, h .kept)
+
+    pub put-more : {out' : List ℕ} → out' ≡ sets out p (g i) → Putting g o at count out' (p + w) (i + 1)
+    put-more {out'} e = record {
+      within = omega arith;
+      kept = ap length e ∙ length-sets out p (g i) ∙ h .kept;
+      room = omega (arith, left-length, h .room);
+      whole =
+          ap (λ (x : List ℕ). sets x (p + w) (pieces g (i + 1) (count - (i + 1)))) e
+          ∙ sym (ap (sets out p) left ∙ sets-part (g i) (pieces g (i + 1) (count - (i + 1))) out p (p + w) (ap (p +_) (each i)))
+          ∙ h .whole;
+    }
+
+-- behind the last
+pub put-all : {g : ℕ → List ℕ} {o : List ℕ} {at count : ℕ} {out : List ℕ} {p i : ℕ} → Putting g o at count out p i → count ≤ i → out ≡ sets o at (pieces g 0 count)
+unfolding pieces
+put-all h l = rw (sub-eq-zero-of-le l) at (h .whole)

@@ -5,11 +5,11 @@ ghost use lib.ListN.{length};
 ghost use lib.Seq.{sets};
 ghost use Rattle.listing.specs.Listing.{columns, trackLine, tupleLine, tupleLines, listing};
 ghost use Rattle.gate.specs.Gate.{lentText};
-ghost use Rattle.listing.specs.Put.{cellsFrom, CellsThere, lineBytes, listingBytes, Sized};
+ghost use Rattle.listing.specs.Put.{cellsFrom, CellsThere, lineBytes, listingBytes, Sizes, Sized};
 
 // How many bytes a listing has.
 pub fn listing_length(n: usize, k: usize, count: usize) -> usize
-    requires { ⌜ (n ≤ 16) × (k ≤ 8) × (count ≤ 1024) ⌝ }
+    requires { ⌜ Sizes n k count ⌝ }
     ensures { λ r. ⌜ r ≡ listingBytes n k count ⌝ }
 {
     21 + count * (10 + (6 * n + 5 * k))
@@ -18,7 +18,7 @@ pub fn listing_length(n: usize, k: usize, count: usize) -> usize
 // The numbers in a table's cells from `from` on, each in w columns.
 fn put_cells(out: &mut [u8], at: usize, w: usize, table: &[u16], from: usize, count: usize)
     requires { ⌜ CellsThere (now out) at w (now table) from count ⌝ }
-    ensures { λ _. ⌜ now (out .exit) ≡ sets (now (out .entry)) at (columns w (cellsFrom (now (table .entry)) from) 0 count) ⌝ }
+    ensures { λ _. ⌜ now (out .exit) ≡ sets (now (out .entry)) at (columns w (cellsFrom (now (table .entry)) from) count) ⌝ }
 {
     let mut p = at;
     let mut i: usize = 0;
@@ -54,7 +54,7 @@ fn put_tuples(
     count: usize,
 )
     requires { ⌜ Sized n k count (now tuples) (now nexts) × (at + count * lineBytes n k ≤ length (now out)) ⌝ }
-    ensures { λ _. ⌜ now (out .exit) ≡ sets (now (out .entry)) at (tupleLines n k (now (tuples .entry)) (now (nexts .entry)) 0 count) ⌝ }
+    ensures { λ _. ⌜ now (out .exit) ≡ sets (now (out .entry)) at (tupleLines n k (now (tuples .entry)) (now (nexts .entry)) count) ⌝ }
 {
     let line = 10 + (6 * n + 5 * k);
     let mut p = at;

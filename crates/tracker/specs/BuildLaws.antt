@@ -1,10 +1,10 @@
--- The answers of building, one by one. Assumes nothing.
-use Prim.Native.Nat.{ℕ, _-_}
+-- The lent tables, and the answers of building, one by one. Assumes nothing.
+use Prim.Native.Nat.{ℕ}
 use mathlib.Core.Path.{_≡_, refl, sym, subst}
 use mathlib.Core.List.{List}
 use mathlib.Core.Logic.{inl, inr}
 use native.Mathlib.Omega.{arith}
-use lib.ListN.{take}
+use lib.ListN.{length, replicate, take}
 use Rattle.gate.specs.Gate.{cleared}
 use Rattle.gate.specs.declared.Refusal.{Refusal}
 use Rattle.automaton.specs.Automaton.{Automaton, automaton, Fits, AreNumbers}
@@ -19,7 +19,21 @@ use Rattle.sheet.specs.declared.Read.the-variants.{Refused as ReadRefused, Is a
 use Rattle.automaton.specs.declared.Numbers.{Numbers}
 use Rattle.tracker.specs.declared.Tracker.{Tracker}
 use Rattle.tracker.specs.declared.Built.the-variants.{Refused, Is}
-use Rattle.tracker.specs.Build.{Store, clearedStore, Lent, Fitted, Tracks, BuildsNumbers, Builds}
+use Rattle.tracker.specs.Build.{Store, store, clearedStore, RoomFits, Lent, Fitted, Tracks, BuildsNumbers, Builds}
+
+-- THE LENT TABLES
+
+-- as long as tables that are long enough
+pub room-alike : {room : ℕ} {v w : Store} → length (w .tuples) ≡ length (v .tuples) → length (w .nexts) ≡ length (v .nexts) → RoomFits room v → RoomFits room w
+room-alike p q r = record { some = r .some; most = r .most; tuples = rw p (r .tuples); nexts = rw q (r .nexts) }
+
+-- cleared one by one
+pub store-cleared : (v : Store) {tuples nexts : List ℕ} → tuples ≡ cleared (v .tuples) → nexts ≡ cleared (v .nexts) → store tuples nexts ≡ clearedStore v
+store-cleared v p q i = store (p i) (q i)
+
+-- tables as long are cleared alike
+pub cleared-alike : (v w : Store) → length (v .tuples) ≡ length (w .tuples) → length (v .nexts) ≡ length (w .nexts) → clearedStore v ≡ clearedStore w
+cleared-alike v w p q i = record { tuples = replicate (p i) 0; nexts = replicate (q i) 0 }
 
 -- FROM NUMBERS
 pub numbers-refused : {A : Automaton} {room : ℕ} {v w : Tables} {f g : Store} {r : Refusal} → Lent room (A .table) v f

@@ -16,12 +16,12 @@ unfoldable pub sameTuple : Tuple → Tuple → Bool
 sameTuple u v = same (u .sets) (v .sets) && eqb (u .colour) (v .colour)
 
 -- the number of a tuple in a list, and the list's length where it is not there
-abbrev pub numberOf : Tuple → List Tuple → ℕ
-numberOf u ts = firstThat (sameTuple u) ts
+abbrev pub tupleNumber : Tuple → List Tuple → ℕ
+tupleNumber u ts = firstThat (sameTuple u) ts
 
 -- a tuple behind those of a list, where it is new
 unfoldable pub addNew : List Tuple → Tuple → List Tuple
-addNew ts u = choose (ltb (numberOf u ts) (length ts)) ts (ts ++ (u ∷ []))
+addNew ts u = choose (ltb (tupleNumber u ts) (length ts)) ts (ts ++ (u ∷ []))
 
 -- step c, from tuple c / 8 on letter c % 8: there may be no such tuple or no such letter
 unfoldable pub step : Automaton → ℕ → List Tuple → List Tuple

@@ -1,5 +1,5 @@
 -- What is found is the numbering: once every step of its tuples is taken, `found` lists each reachable tuple once, as found. Assumes nothing.
-use Prim.Native.Nat.{ℕ, zero, suc, _+_, _/_, _%_, _≤_, _<_}
+use Prim.Native.Nat.{ℕ, zero, suc, _/_, _%_, _≤_, _<_}
 use mathlib.Core.Path.{_≡_, refl, sym, ap, subst, _∙_}
 use mathlib.Core.Bool.{_&&_, and-eq-true-iff}
 use mathlib.Core.List.{List, [], _∷_, _++_}
@@ -17,7 +17,7 @@ use Rattle.text.specs.Choice.{choose}
 use Rattle.automaton.specs.Automaton.{Automaton}
 use Rattle.tuple.specs.Step.{Tuple, first, next}
 use Rattle.tracker.specs.Numbering.{tupleAt, Distinct, entered, FoundBy}
-use Rattle.tracker.specs.Explore.{sameTuple, numberOf, addNew, step, found}
+use Rattle.tracker.specs.Explore.{sameTuple, tupleNumber, addNew, step, found}
 
 -- EQUAL TUPLES
 
@@ -38,11 +38,11 @@ Listed A ts u = (i : ℕ) × (i < length ts) × (tupleAt A ts i ≡ u)
 
 -- the number of a tuple: it is listed there, or nowhere
 pub number-is : (A : Automaton) (u : Tuple) (ts : List Tuple)
-    → ((numberOf u ts < length ts) × (tupleAt A ts (numberOf u ts) ≡ u)) ⊎ ((length ts ≤ numberOf u ts) × (Listed A ts u → ⊥))
-number-is A u ts = by (first-found (first A) u (sameTuple u) (tells-tuple u) ts) (decLt (numberOf u ts) (length ts))
+    → ((tupleNumber u ts < length ts) × (tupleAt A ts (tupleNumber u ts) ≡ u)) ⊎ ((length ts ≤ tupleNumber u ts) × (Listed A ts u → ⊥))
+number-is A u ts = by (first-found (first A) u (sameTuple u) (tells-tuple u) ts) (decLt (tupleNumber u ts) (length ts))
   where
-    by : First (first A) ts u (numberOf u ts) → Dec (numberOf u ts < length ts)
-        → ((numberOf u ts < length ts) × (tupleAt A ts (numberOf u ts) ≡ u)) ⊎ ((length ts ≤ numberOf u ts) × (Listed A ts u → ⊥))
+    by : First (first A) ts u (tupleNumber u ts) → Dec (tupleNumber u ts < length ts)
+        → ((tupleNumber u ts < length ts) × (tupleAt A ts (tupleNumber u ts) ≡ u)) ⊎ ((length ts ≤ tupleNumber u ts) × (Listed A ts u → ⊥))
     by f (yes h) = inl (h, f .is h)
     by f (no h) = inr (omega arith, λ (i, l, e). f .first i (omega arith) e)
 
@@ -78,12 +78,12 @@ stepped A c ts = by (decLt (c / 8) (length ts)) (decLt (c % 8) (A .k)) (number-i
     u = entered A ts c
 
     by : Dec (c / 8 < length ts) → Dec (c % 8 < A .k)
-        → ((numberOf u ts < length ts) × (tupleAt A ts (numberOf u ts) ≡ u)) ⊎ ((length ts ≤ numberOf u ts) × (Listed A ts u → ⊥))
+        → ((tupleNumber u ts < length ts) × (tupleAt A ts (tupleNumber u ts) ≡ u)) ⊎ ((length ts ≤ tupleNumber u ts) × (Listed A ts u → ⊥))
         → Stepped A c ts (step A c ts)
     by (no h) d r = Stepped.skip (λ g l. h g) (step-skips A c ts (λ g l. h g))
     by (yes h) (no l) r = Stepped.skip (λ h. l) (step-skips A c ts (λ h. l))
-    by (yes h) (yes l) (inl (g, e)) = Stepped.old h l (numberOf u ts, g, e) (step-adds A c ts h l ∙ rw (lt-ltb (numberOf u ts) (length ts) g))
-    by (yes h) (yes l) (inr (g, f)) = Stepped.new h l f (step-adds A c ts h l ∙ rw (le-ltb (numberOf u ts) (length ts) g))
+    by (yes h) (yes l) (inl (g, e)) = Stepped.old h l (tupleNumber u ts, g, e) (step-adds A c ts h l ∙ rw (lt-ltb (tupleNumber u ts) (length ts) g))
+    by (yes h) (yes l) (inr (g, f)) = Stepped.new h l f (step-adds A c ts h l ∙ rw (le-ltb (tupleNumber u ts) (length ts) g))
 
 pub step-keeps : (A : Automaton) (c : ℕ) (ts : List Tuple) → Listed A ts (entered A ts c) → step A c ts ≡ ts
 step-keeps A c ts g = by (stepped A c ts)

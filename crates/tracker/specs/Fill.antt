@@ -9,7 +9,7 @@ use Rattle.automaton.specs.Automaton.{Automaton, Fits}
 use Rattle.tuple.specs.Colour.{neutral}
 use Rattle.tuple.specs.Step.{Tuple}
 use Rattle.tracker.specs.Numbering.{tupleAt, entered, rows, MoreThan}
-use Rattle.tracker.specs.Build.{Store, RoomFits, Fitted}
+use Rattle.tracker.specs.Build.{Store, store, RoomFits, Fitted}
 use Rattle.tracker.specs.Explore.{found}
 
 -- "its next on letter l is number 8t+l", of the steps before c; every other cell is zero
@@ -20,9 +20,7 @@ pub record NextsBefore (A : Automaton) (c : ℕ) (ts : List Tuple) (nexts : List
 -- before step c the tables hold the m tuples that are found, with the index of their rows, and zero behind
 pub record Filled (A : Automaton) (room c m : ℕ) (tuples nexts head link : List ℕ) : Type 0 where
   pub fits : Fits A
-  pub most : room ≤ 1024
-  pub tuple-cells : 17 * room ≤ length tuples
-  pub next-cells : 8 * room ≤ length nexts
+  pub room-fits : RoomFits room (store tuples nexts)
   pub count : m ≡ length (found A c)
   pub room-is : m ≤ room
   pub tuples-are : tuples ≡ rows (found A c) ++ replicate (length tuples - 17 * m) 0

@@ -1,15 +1,15 @@
 -- The lent tables before the first step, from step to step, and behind the last. Assumes nothing.
-use Prim.Native.Nat.{ℕ, zero, suc, _+_, _-_, _*_, _/_, _%_, _≤_, _<_}
+use Prim.Native.Nat.{ℕ, zero, _+_, _-_, _*_, _/_, _%_, _≤_, _<_}
 use mathlib.Core.Path.{_≡_, refl, sym, ap, subst, _∙_}
-use mathlib.Core.List.{List, [], _∷_, _++_, append-assoc, append-nil}
+use mathlib.Core.List.{List, [], _∷_, _++_}
 use native.Mathlib.Decide.{ℕ-discrete}
 use native.Mathlib.Numerals.{add-one}
 use native.Mathlib.Omega.{arith}
 use borrow.Author.Tests.{eq-eqb, ne-eqb}
-use lib.ListN.{length, getD, set, replicate, length-append, length-set, length-replicate}
-use lib.Seq.{take-at, drop-at, drop-drop, sets, sets-eq, length-sets, getD-set-same, getD-set-other}
+use lib.ListN.{length, getD, set, replicate, length-set, length-replicate}
+use lib.Seq.{sets, length-sets, getD-set-same, getD-set-other}
 use Rattle.text.specs.BytesLaws.{length-more}
-use Rattle.gate.specs.GateLaws.{zeros, drop-zeros, length-cleared}
+use Rattle.gate.specs.GateLaws.{zeros, length-cleared}
 use Rattle.rows.specs.Rows.{rowAt, Found, Added}
 use Rattle.automaton.specs.Automaton.{Automaton, Fits}
 use Rattle.gate.specs.Gate.{cleared}
@@ -22,60 +22,20 @@ use Rattle.tuple.specs.RowLaws.{formed-length, formed-row, row-injective, forme
 use Rattle.tracker.specs.Numbering.{tupleAt, entered, rows}
 use Rattle.tracker.specs.Explore.{step, found}
 use Rattle.tracker.specs.ExploreLaws.{Listed, Agree, step-skips, step-keeps, step-finds, agree-more, last-is, enters-alike}
-use Rattle.tracker.specs.NumberingLaws.{reachable-all, found-reachable, found-all, found-more}
+use Rattle.tracker.specs.NumberingLaws.{found-reachable, found-all, found-more}
 use Rattle.tracker.specs.Build.{Store, store, clearedStore, RoomFits, Fitted}
+use Rattle.tracker.specs.RowsLaws.{Whole, row-is, row-written, reachable-formed, reachable-whole}
+use Rattle.tracker.specs.BuildLaws.{room-alike}
 use Rattle.tracker.specs.Fill.{NextsBefore, Filled, Taken, Goes, firstCells, Filling, Fills}
-
--- ROWS
-
--- each row has 17 cells
-abbrev pub Whole : List Tuple → Type 0
-Whole [] = Unit
-Whole (u ∷ ts) = (length (row u) ≡ 17) × Whole ts
-
-pub whole : (ts : List Tuple) (d : Tuple) → ((i : ℕ) → i < length ts → length (row (getD ts i d)) ≡ 17) → Whole ts
-whole [] d f = tt
-whole (u ∷ ts) d f = (f 0 (omega arith), whole ts d (λ i h. f (suc i) (omega arith)))
-
-pub rows-length : (ts : List Tuple) → Whole ts → length (rows ts) ≡ 17 * length ts
-unfolding rows
-rows-length [] w = refl
-rows-length (u ∷ ts) w = length-append (row u) (rows ts) ∙ omega (arith, rows-length ts (w .1), w .0)
-
-rows-more : (ts : List Tuple) (u : Tuple) → rows (ts ++ (u ∷ [])) ≡ rows ts ++ row u
-unfolding rows
-rows-more [] u = append-nil (row u)
-rows-more (v ∷ ts) u = ap (λ (l : List ℕ). row v ++ l) (rows-more ts u) ∙ sym (append-assoc (row v) (rows ts) (row u))
-
--- row t of the table is that of tuple t
-pub row-is : (ts : List Tuple) (d : Tuple) (behind : List ℕ) (t : ℕ) → Whole ts → t < length ts → rowAt (rows ts ++ behind) t ≡ row (getD ts t d)
-unfolding rows
-row-is [] d behind t w h = absurd (omega arith)
-row-is (u ∷ ts) d behind zero w h = rw append-assoc (take-at (row u) (rows ts ++ behind) 17 (w .0))
-row-is (u ∷ ts) d behind (suc t) w h =
-    let e : 17 * suc t ≡ 17 + 17 * t = omega arith in
-    rw (append-assoc, e, ← drop-drop (17 * t) 17 (row u ++ (rows ts ++ behind)), drop-at (row u) (rows ts ++ behind) 17 (w .0)) (row-is ts d behind t (w .1) (omega arith))
-
--- a row that is written behind the others
-row-written : (ts : List Tuple) (u : Tuple) (n : ℕ) → Whole ts → length (row u) ≡ 17 → 17 ≤ n
-    → sets (rows ts ++ replicate n 0) (17 * length ts) (row u) ≡ rows (ts ++ (u ∷ [])) ++ replicate (n - 17) 0
-row-written ts u n w e h =
-    let table = rows ts ++ replicate n 0 in
-    let l : length (rows ts) ≡ 17 * length ts = rows-length ts w in
-    let s : length table ≡ 17 * length ts + n = length-append (rows ts) (replicate n 0) ∙ omega (arith, l, length-replicate {A = ℕ} n 0) in
-    sets-eq (row u) table (17 * length ts) (omega arith)
-    ∙ rw (e, take-at (rows ts) (replicate n 0) (17 * length ts) l, ← drop-drop 17 (17 * length ts) table, drop-at (rows ts) (replicate n 0) (17 * length ts) l, drop-zeros 17 n, rows-more ts u)
 
 -- WHAT IS FOUND
 
 module _ (A : Automaton) (fits : Fits A) where
-  -- every tuple that is found is as a step enters it
   found-formed : (c i : ℕ) → i < length (found A c) → Formed A (tupleAt A (found A c) i)
-  found-formed c i h =
-      reachable-all A (Formed A) (first-formed fits) (λ u l f k. next-formed fits l k u) (tupleAt A (found A c) i) (found-reachable A c i h)
+  found-formed c i h = reachable-formed fits (tupleAt A (found A c) i) (found-reachable A c i h)
 
   found-whole : (c : ℕ) → Whole (found A c)
-  found-whole c = whole (found A c) (first A) (λ i h. formed-length fits (found-formed c i h))
+  found-whole c = reachable-whole fits (found A c) (found-reachable A c)
 
 -- ONE STEP
 
@@ -108,7 +68,7 @@ module _ {A : Automaton} {room c m : ℕ} {tuples nexts head link : List ℕ} (f
   in-nexts s =
       let p = s .from in
       let q = f .room-is in
-      let r = f .next-cells in
+      let r = f .room-fits .nexts in
       omega arith
 
   entered-formed : Taken A c m → Formed A (entered A ts c)
@@ -134,9 +94,7 @@ module _ {A : Automaton} {room c m : ℕ} {tuples nexts head link : List ℕ} (f
   filled-same : found A (c + 1) ≡ ts → (nexts' : List ℕ) → length nexts' ≡ length nexts → NextsBefore A (c + 1) ts nexts' → Filled A room (c + 1) m tuples nexts' head link
   filled-same e nexts' l n = record {
     fits = f .fits;
-    most = f .most;
-    tuple-cells = f .tuple-cells;
-    next-cells = rw l (f .next-cells);
+    room-fits = room-alike refl l (f .room-fits);
     count = f .count ∙ ap length (sym e);
     room-is = f .room-is;
     tuples-are = rw e (f .tuples-are);
@@ -225,7 +183,7 @@ module _ {A : Automaton} {room c m : ℕ} {tuples nexts head link : List ℕ} (f
           let n = length tuples - 17 * m in
           let e : 17 * m ≡ 17 * length ts = omega (arith, f .count) in
           let p : length tuples' - 17 * (m + 1) ≡ n - 17 = omega (arith, same-length) in
-          let q = f .tuple-cells in
+          let q = f .room-fits .tuples in
           a .is ∙ ap (λ (l : List ℕ). sets l (17 * m) (row (entered A ts c))) (f .tuples-are)
           ∙ ap (λ (i : ℕ). sets (rows ts ++ replicate n 0) i (row (entered A ts c))) e
           ∙ row-written ts (entered A ts c) n (found-whole A (f .fits) c) (entered-cells s) (omega arith)
@@ -235,9 +193,7 @@ module _ {A : Automaton} {room c m : ℕ} {tuples nexts head link : List ℕ} (f
       filled-new : Filled A room (c + 1) (m + 1) tuples' (set nexts c m) head' link'
       filled-new = record {
         fits = f .fits;
-        most = f .most;
-        tuple-cells = rw same-length (f .tuple-cells);
-        next-cells = rw (length-set nexts c m) (f .next-cells);
+        room-fits = room-alike same-length (length-set nexts c m) (f .room-fits);
         count = sym us-length ∙ ap length (sym found-new);
         room-is = omega arith;
         tuples-are = rw found-new tuples-new;
@@ -341,15 +297,11 @@ module _ (A : Automaton) (fits : Fits A) (room : ℕ) (v : Store) (r : RoomFits 
   filled-first : Filled A room 0 1 tuples' (cleared (v .nexts)) head' link'
   unfolding found
   filled-first =
-      let p = r .nexts in
-      let q = r .some in
       record {
         fits = fits;
-        most = r .most;
-        tuple-cells = rw first-length (r .tuples);
-        next-cells = rw (length-replicate {A = ℕ} (length (v .nexts)) 0) p;
+        room-fits = room-alike first-length (length-cleared (v .nexts)) r;
         count = refl;
-        room-is = q;
+        room-is = r .some;
         tuples-are = first-tuples;
         nexts-are = record {
           next = λ d h. absurd (omega arith);
@@ -383,19 +335,10 @@ fills-all f v p q h =
 pub cleared-filling : (A : Automaton) (room : ℕ) (v : Store) → Fits A → RoomFits room v → Filling A room (clearedStore v)
 cleared-filling A room v f r = record {
   fits = f;
-  room-fits = record {
-    some = r .some;
-    most = r .most;
-    tuples = rw (length-cleared (v .tuples)) (r .tuples);
-    nexts = rw (length-cleared (v .nexts)) (r .nexts);
-  };
+  room-fits = room-alike (length-cleared (v .tuples)) (length-cleared (v .nexts)) r;
   tuples = rw (length-cleared (v .tuples));
   nexts = rw (length-cleared (v .nexts));
 }
-
--- tables as long are cleared alike
-pub cleared-alike : (v w : Store) → length (v .tuples) ≡ length (w .tuples) → length (v .nexts) ≡ length (w .nexts) → clearedStore v ≡ clearedStore w
-cleared-alike v w p q i = record { tuples = replicate (p i) 0; nexts = replicate (q i) 0 }
 
 -- the tables' former contents do not matter
 pub cleared-fitted : (A : Automaton) (room : ℕ) (v w : Store) (m : ℕ) → Fitted A room (clearedStore v) w m → Fitted A room v w m

@@ -1,7 +1,8 @@
 -- The cells of a tracker that is built: the sets and the colour of each tuple, and zero behind the last. Assumes nothing.
-use Prim.Native.Nat.{ℕ, _+_, _-_, _*_, _≤_, _<_}
+use Prim.Native.Nat.{ℕ, _+_, _-_, _*_, _/_, _%_, _≤_, _<_}
 use mathlib.Core.Path.{_≡_, sym, ap, _∙_}
 use mathlib.Core.List.{List, _++_}
+use native.Mathlib.Decide.{decLt}
 use native.Mathlib.Omega.{arith}
 use lib.ListN.{length, getD, replicate, length-append, length-replicate}
 use lib.Seq.{getD-append-add}
@@ -10,26 +11,27 @@ use Rattle.text.specs.CellsLaws.{part-at}
 use Rattle.automaton.specs.Automaton.{Automaton, Fits}
 use Rattle.tuple.specs.Step.{Tuple, setAt, first, Formed}
 use Rattle.tuple.specs.Row.{row}
-use Rattle.tuple.specs.TupleLaws.{first-formed, next-formed}
-use Rattle.tuple.specs.RowLaws.{formed-length, row-set, row-colour}
-use Rattle.tracker.specs.Numbering.{tupleAt, rows}
-use Rattle.tracker.specs.NumberingLaws.{reachable-all, numbering-reachable}
+use Rattle.tuple.specs.RowLaws.{row-set, row-colour}
+use Rattle.tracker.specs.Numbering.{Reachable, tupleAt, rows}
+use Rattle.tracker.specs.NumberingLaws.{numbering-reachable}
 use Rattle.tracker.specs.Build.{Store, clearedStore, RoomFits, Fitted}
 use Rattle.gate.specs.GateLaws.{zeros}
-use Rattle.tracker.specs.FillLaws.{Whole, whole, rows-length, row-is, cleared-alike}
+use Rattle.tracker.specs.RowsLaws.{Whole, rows-length, row-is, reachable-formed, reachable-whole}
+use Rattle.tracker.specs.BuildLaws.{cleared-alike}
 
 module _ (A : Automaton) (fits : Fits A) (room m : ℕ) (v w : Store) (f : Fitted A room v w m) where
   -- tuple t of the tracker
   abbrev pub tuple : ℕ → Tuple
   tuple t = tupleAt A (f .list) t
 
+  reachable : (t : ℕ) → t < length (f .list) → Reachable A (tuple t)
+  reachable = numbering-reachable A (f .list) (f .holds .numbering)
+
   pub fitted-formed : (t : ℕ) → t < m → Formed A (tuple t)
-  fitted-formed t h =
-      let e = f .count-is in
-      reachable-all A (Formed A) (first-formed fits) (λ u l g k. next-formed fits l k u) (tuple t) (numbering-reachable A (f .list) (f .holds .numbering) t (omega arith))
+  fitted-formed t h = let e = f .count-is in reachable-formed fits (tuple t) (reachable t (omega arith))
 
   fitted-whole : Whole (f .list)
-  fitted-whole = let e = f .count-is in whole (f .list) (first A) (λ i h. formed-length fits (fitted-formed i (omega arith)))
+  fitted-whole = reachable-whole fits (f .list) reachable
 
   fitted-cell : (t j : ℕ) → t < m → j < 17 → getD (w .tuples) (17 * t + j) 0 ≡ getD (row (tuple t)) j 0
   fitted-cell t j h k =
@@ -59,14 +61,39 @@ module _ (A : Automaton) (fits : Fits A) (room m : ℕ) (v w : Store) (f : Fitte
       ∙ getD-append-add (rows (f .list)) (replicate n 0) (i - 17 * m) 0
       ∙ zeros n (i - 17 * m)
 
+  -- every next number is that of a tuple counted
+  pub fitted-next : (c : ℕ) → getD (w .nexts) c 0 < m
+  fitted-next c =
+      let e = f .count-is in
+      let some = f .holds .numbering .some in
+      elim (decLt (c / 8) (length (f .list))) [
+        | yes x ↦ elim (decLt (c % 8) (A .k)) [
+          | yes y ↦ let z = f .holds .nexts .next c x y .0 in omega arith
+          | no y ↦ let z = f .holds .nexts .zero c (λ a b. y b) in omega arith
+        ]
+        | no x ↦ let z = f .holds .nexts .zero c (λ a b. x a) in omega arith
+      ]
+
   -- the tables are as long as they were
-  pub fitted-length : RoomFits room v → length (w .tuples) ≡ length (v .tuples)
+  fitted-length : RoomFits room v → length (w .tuples) ≡ length (v .tuples)
   fitted-length r =
       let n = length (v .tuples) - 17 * length (f .list) in
       let a = f .count-is in
       let b = f .room-is in
       let c = r .tuples in
       ap length (f .holds .tuples) ∙ length-append (rows (f .list)) (replicate n 0) ∙ omega (arith, fitted-rows, length-replicate {A = ℕ} n 0)
+
+  -- so they are long enough for the tuples that there are
+  pub fitted-room : RoomFits room v → RoomFits m w
+  fitted-room r =
+      let c = f .count-is in
+      let b = f .room-is in
+      record {
+        some = omega (arith, f .holds .numbering .some);
+        most = omega (arith, r .most);
+        tuples = omega (arith, r .tuples, fitted-length r);
+        nexts = omega (arith, r .nexts, f .holds .same);
+      }
 
   pub fitted-cleared : RoomFits room v → clearedStore w ≡ clearedStore v
   fitted-cleared r = cleared-alike w v (fitted-length r) (f .holds .same)

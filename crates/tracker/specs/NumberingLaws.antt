@@ -125,7 +125,7 @@ found-all A c k h =
 -- ONE NUMBERING
 
 -- what is found is the beginning of every numbering
-pub record Begins (A : Automaton) (ts us : List Tuple) : Type 0 where
+record Begins (A : Automaton) (ts us : List Tuple) : Type 0 where
   pub most : length us ≤ length ts
   pub alike : Agree A (length us) us ts
 

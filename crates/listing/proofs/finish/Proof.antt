@@ -2,6 +2,7 @@
 use mathlib.Core.Path.{_≡_, refl, sym, _∙_}
 use lib.ListN.{length}
 use Rattle.tracker.specs.Build.{store}
+use Rattle.tracker.specs.BuildLaws.{store-cleared}
 use Rattle.listing.specs.Listing.{listing}
 use Rattle.listing.specs.PutLaws.{listing-length}
 use borrow.Author.Needs.{needs}
@@ -44,9 +45,10 @@ returns c =
     let second = emptied .before .before .before .before in
     let first = second .before .before .before .before in
     let short = first .before .before in
-    let p = first .clear .ensures in
-    let q = second .clear2 .ensures in
-    ((rw (length-is (short .before)) (short .if1 .taken), refl, emptied .clear-bytes .ensures), λ i. store (p i) (q i))
+    let a = start (short .before) .args in (
+      (rw (length-is (short .before)) (short .if1 .taken), refl, emptied .clear-bytes .ensures),
+      store-cleared (store (a .tuples .now) (a .nexts .now)) (first .clear .ensures) (second .clear2 .ensures),
+    )
 
 write-requires : tie.Need-write-requires
 write-requires c κs = search needs

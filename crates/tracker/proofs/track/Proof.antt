@@ -3,7 +3,8 @@ use mathlib.Core.Path.{refl, sym, subst, _∙_}
 use Rattle.automaton.specs.Automaton.{automaton}
 use Rattle.tracker.specs.Build.{Store, store, Fitted}
 use Rattle.tracker.specs.Fill.{Filling}
-use Rattle.tracker.specs.FillLaws.{cleared-filling, cleared-fitted, cleared-alike}
+use Rattle.tracker.specs.BuildLaws.{cleared-alike}
+use Rattle.tracker.specs.FillLaws.{cleared-filling, cleared-fitted}
 use borrow.Author.Needs.{needs}
 use Rattle.tracker.proofs.track.Statement.{statement}
 use Rattle.tracker.proofs.track.Tie as tie

@@ -4,7 +4,7 @@ use mathlib.Core.Logic.{inl, inr}
 use Rattle.automaton.specs.LentLaws.{tables-cleared}
 use Rattle.automaton.specs.Lent.{tables}
 use Rattle.tracker.specs.Build.{store}
-use Rattle.judge.specs.VerdictLaws.{store-cleared}
+use Rattle.tracker.specs.BuildLaws.{store-cleared}
 use borrow.Author.Needs.{needs}
 use Rattle.judge.proofs.files.too_long.Statement.{statement}
 use Rattle.judge.proofs.files.too_long.Tie as tie
@@ -63,7 +63,7 @@ returns c =
       refl,
       first .clear .ensures,
       tables-cleared (tables (a .word .now) (a .one .now) (a .other .now)) (fourth .clear4 .ensures) (fifth .clear5 .ensures) (sixth .clear6 .ensures),
-      store-cleared (store (a .tuples .now) (a .nexts .now)) _ _ (second .clear2 .ensures) (third .clear3 .ensures),
+      store-cleared (store (a .tuples .now) (a .nexts .now)) (second .clear2 .ensures) (third .clear3 .ensures),
     )
 
 same-length-7 : tie.Need-same-length-7

@@ -3,7 +3,7 @@ use mathlib.Core.Path.{_≡_}
 use Prim.Native.Nat.{_+_, _-_, _≤_}
 use native.Mathlib.Omega.{arith}
 use lib.ListN.{getD}
-use Rattle.judge.specs.TableRun.{LeastOf}
+use Rattle.judge.specs.Passes.{LeastOf}
 use Rattle.judge.specs.LeastLaws.{least-one, least-more}
 use borrow.Author.Needs.{needs}
 use Rattle.judge.proofs.table.least_of.Statement.{statement}

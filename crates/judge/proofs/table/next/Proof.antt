@@ -21,12 +21,12 @@ shared-slice-read-result c = search needs
 cast-result : tie.Need-cast-result
 cast-result c =
     let a = c .before .args in
-    omega (arith, c .before .pre .0 .below (8 * a .at + a .letter))
+    omega (arith, c .before .pre .1 (8 * a .at + a .letter))
 
 returns : tie.Need-returns
 returns c =
     let a = c .before .args in
-    (refl, c .before .pre .0 .below (8 * a .at + a .letter))
+    (refl, c .before .pre .1 (8 * a .at + a .letter))
 
 pub next-spec : {M : Type 1} → statement M
 next-spec =

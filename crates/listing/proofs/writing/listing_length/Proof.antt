@@ -1,5 +1,5 @@
 -- The product is small. Assumes nothing.
-use Prim.Native.Nat.{_-_, _*_, _≤_}
+use Prim.Native.Nat.{_*_, _≤_}
 use mathlib.Core.Path.{refl}
 use native.Mathlib.Omega.{arith}
 use Rattle.listing.specs.Put.{lineBytes}
@@ -9,7 +9,7 @@ use Rattle.listing.proofs.writing.listing_length.Statement.{statement}
 use Rattle.listing.proofs.writing.listing_length.Tie as tie
 
 small : (c : tie.Start) → c .args .count * lineBytes (c .args .n) (c .args .k) ≤ 149504
-small c = listing-small (c .args .n) (c .args .k) (c .args .count) (c .pre .0) (c .pre .1) (c .pre .2)
+small c = listing-small (c .args .n) (c .args .k) (c .args .count) (c .pre)
 
 mul-result : tie.Need-mul-result
 mul-result c = search needs

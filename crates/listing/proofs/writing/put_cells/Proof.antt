@@ -1,38 +1,34 @@
 -- What is left to write gives the whole. Assumes nothing.
-use Prim.Native.Nat.{ℕ, _+_, _-_, _≤_, _<_}
-use mathlib.Core.Path.{_≡_, refl, sym, ap, _∙_}
+use Prim.Native.Nat.{ℕ, _+_, _-_}
+use mathlib.Core.Path.{_≡_}
 use mathlib.Core.List.{List}
-use native.Mathlib.Nat.{sub-zero}
 use native.Mathlib.Omega.{arith}
 use lib.ListN.{length}
-use lib.Seq.{sets}
-use Rattle.listing.specs.Listing.{columns}
+use Rattle.text.specs.Column.{column}
+use Rattle.text.specs.ColumnLaws.{column-length}
 use Rattle.listing.specs.Put.{cellsFrom}
-use Rattle.listing.specs.PutLaws.{columns-length, columns-next, columns-none}
+use Rattle.listing.specs.PutLaws.{Putting, put-none, put-room, put-more, put-all}
 use borrow.Author.Needs.{needs}
 use Rattle.listing.proofs.writing.put_cells.Statement.{statement}
 use Rattle.listing.proofs.writing.put_cells.Tie as tie
 
 abbrev Inv-loop : tie.InvT-loop
-Inv-loop out₀ at w table from count p₀ i₀ out p i =
-    (i ≤ count)
-    × (length out ≡ length out₀)
-    × (p + length (columns w (cellsFrom table from) i (count - i)) ≤ length out₀)
-    × (sets out p (columns w (cellsFrom table from) i (count - i)) ≡ sets out₀ at (columns w (cellsFrom table from) 0 count))
+Inv-loop out₀ at w table from count p₀ i₀ out p i = Putting (λ i. column w (cellsFrom table from i)) out₀ at count out p i
 
 abbrev μ-loop : tie.MeasureT-loop
 μ-loop out₀ at w table from count p₀ i₀ out p i = count - i
 
+-- the columns, each w wide
+abbrev cells : tie.Start Inv-loop μ-loop → ℕ → List ℕ
+cells c i = column (c .args .w) (cellsFrom (c .args .table .now) (c .args .from) i)
+
+wide : (c : tie.Start Inv-loop μ-loop) (i : ℕ) → length (cells c i) ≡ c .args .w
+wide c i = column-length (c .args .w) (cellsFrom (c .args .table .now) (c .args .from) i)
+
 loop-holds : tie.Need-loop-holds Inv-loop μ-loop
 loop-holds c =
-    let a = c .before .before .args in
-    let f = cellsFrom (a .table .now) (a .from) in
-    let b = c .before .before .pre .bytes in (
-      omega arith,
-      refl,
-      rw sub-zero (omega (arith, columns-length (a .w) f 0 (a .count))),
-      rw sub-zero refl,
-    )
+    let s = c .before .before in
+    put-none (cells s) (s .args .w) (wide s) (s .pre .bytes)
 
 add-put-column : tie.Need-add-put-column Inv-loop μ-loop
 add-put-column c = search needs
@@ -48,13 +44,8 @@ cast-put-column c = omega (arith, c .shared-slice-known2 .given (c .before .befo
 
 put-column-requires : tie.Need-put-column-requires Inv-loop μ-loop
 put-column-requires c κs =
-    let a = c .before .before .before .before .before .before .args in
-    let f = cellsFrom (a .table .now) (a .from) in
-    let l = c .before .before .before .loop in
-    let h : l .i < a .count = c .before .before .loop-test .taken in
-    let k = l .inv .2 in
-    let e = l .inv .1 in
-    (c .before .before .before .before .before .before .pre .wide, omega (arith, columns-next (a .w) f (l .i) (a .count) h .left))
+    let s = c .before .before .before .before .before .before in
+    (s .pre .wide, put-room (cells s) (s .args .w) (wide s) (c .before .before .before .loop .inv) (c .before .before .loop-test .taken))
 
 add-p : tie.Need-add-p Inv-loop μ-loop
 add-p c = search needs
@@ -67,29 +58,15 @@ loop-less c = search needs
 
 loop-again : tie.Need-loop-again Inv-loop μ-loop
 loop-again c =
-    let a = c .before .before .before .before .before .before .before .before .before .args in
-    let f = cellsFrom (a .table .now) (a .from) in
-    let l = c .before .before .before .before .before .before .loop in
-    let next = columns-next (a .w) f (l .i) (a .count) (c .before .before .before .before .before .loop-test .taken) in
-    let e = c .before .before .put-column .ensures in
-    let k = l .inv .2 in (
-      omega arith,
-      c .before .before .put-column .kept .0 ∙ l .inv .1,
-      omega (arith, next .left),
-      ap (λ (o : List ℕ). sets o (l .p + a .w) (columns (a .w) f (l .i + 1) (a .count - (l .i + 1)))) e
-          ∙ sym (next .put (l .out) (l .p))
-          ∙ l .inv .3,
-    )
+    let tested = c .before .before .before .before .before in
+    let s = tested .before .before .before .before in
+    put-more (cells s) (s .args .w) (wide s) (tested .before .loop .inv) (tested .loop-test .taken) (c .before .before .put-column .ensures)
 
 same-length : tie.Need-same-length Inv-loop μ-loop
 same-length c = search needs
 
 returns : tie.Need-returns Inv-loop μ-loop
-returns c =
-    let a = c .before .before .before .before .args in
-    let f = cellsFrom (a .table .now) (a .from) in
-    let l = c .before .loop in
-    rw (columns-none (a .w) f (l .i) (a .count) (c .loop-test .left)) at (l .inv .3)
+returns c = put-all (c .before .loop .inv) (c .loop-test .left)
 
 pub put-cells-spec : {M : Type 1} → statement M
 put-cells-spec =

@@ -1,5 +1,4 @@
 -- The parts of the line follow one another. Assumes nothing.
-use Prim.Native.Nat.{_-_}
 use mathlib.Core.Path.{sym}
 use Rattle.listing.specs.PutLaws.{first-put}
 use borrow.Author.Needs.{needs}

@@ -1,5 +1,5 @@
 -- The parts of the line follow one another. Assumes nothing.
-use Prim.Native.Nat.{_+_, _-_, _*_}
+use Prim.Native.Nat.{_+_, _*_}
 use mathlib.Core.Path.{sym}
 use native.Mathlib.Omega.{arith}
 use Rattle.listing.specs.PutLaws.{tuple-put}

@@ -5,7 +5,6 @@ use native.Mathlib.Omega.{arith}
 use lib.ListN.{set, replicate}
 use Rattle.rows.specs.Rows.{Indexed, Added}
 use Rattle.rows.specs.IndexLaws.{indexed-none}
-use Rattle.tuple.specs.Row.{row}
 use Rattle.tracker.specs.Fill.{firstCells}
 use borrow.Author.Needs.{needs}
 use Rattle.tracker.proofs.filling.begin.Statement.{statement}

@@ -1,5 +1,6 @@
 -- Each table is cleared. Assumes nothing.
 use Rattle.tracker.specs.Build.{store}
+use Rattle.tracker.specs.BuildLaws.{store-cleared}
 use borrow.Author.Needs.{needs}
 use Rattle.tracker.proofs.filling.clear.Statement.{statement}
 use Rattle.tracker.proofs.filling.clear.Tie as tie
@@ -18,9 +19,9 @@ same-length-2 c = search needs
 
 returns : tie.Need-returns
 returns c =
-    let t = c .before .before .before .before .before .before .clear .ensures in
-    let n = c .before .before .clear2 .ensures in
-    λ i. store (t i) (n i)
+    let first = c .before .before .before .before .before .before in
+    let a = first .before .before .before .before .args in
+    store-cleared (store (a .tuples .now) (a .nexts .now)) (first .clear .ensures) (c .before .before .clear2 .ensures)
 
 pub clear-spec : {M : Type 1} → statement M
 clear-spec = tie.close (tie.spec clear-requires clear-requires-2 same-length same-length-2 returns)

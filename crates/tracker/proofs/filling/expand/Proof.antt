@@ -43,8 +43,8 @@ enter-requires c κs =
     let f = start tested .pre .0 in
     let p = start tested .pre .1 in
     let q = f .room-is in
-    let r = f .most in
-    let t = f .tuple-cells in
+    let r = f .room-fits .most in
+    let t = f .room-fits .tuples in
     (fill-steps f (taken tested), record { small = omega arith; row = omega arith; cells = refl })
 
 slice-aggregate-digest : tie.Need-slice-aggregate-digest
@@ -100,8 +100,8 @@ add-requires c κs =
     let fits = c .before .before .before .before in
     let found = fits .before .before in
     let f = start (passed found) .pre .0 in
-    let q = f .most in
-    let r = f .tuple-cells in
+    let q = f .room-fits .most in
+    let r = f .room-fits .tuples in
     let h = fits .if3 .taken in
     let e = found .before .before .before .before .before .digest .ensures in
     (f .index, record { cells = entered found .enter .kept .1 .1 .1 .1 .0; digest = e .0; small = e .1 }, omega arith, omega arith)

@@ -36,7 +36,7 @@ few : (c : tie.In-loop Inv-loop μ-loop) →
     (c .before .loop .c < 8 * room) × (room ≤ 1024)
 few c =
     let f = c .before .loop .inv .0 in
-    (omega (arith, f .room-is, c .loop-test .taken), f .most)
+    (omega (arith, f .room-is, c .loop-test .taken), f .room-fits .most)
 
 slice-aggregate-begin : tie.Need-slice-aggregate-begin Inv-loop μ-loop
 slice-aggregate-begin c = search needs
@@ -61,7 +61,7 @@ mul-loop : tie.Need-mul-loop Inv-loop μ-loop
 mul-loop c =
     let f = c .loop .inv .0 in
     let q = f .room-is in
-    let r = f .most in
+    let r = f .room-fits .most in
     omega arith
 
 slice-aggregate-expand : tie.Need-slice-aggregate-expand Inv-loop μ-loop
