@@ -110,12 +110,15 @@ module _ (g : ℕ → List ℕ) (w : ℕ) (each : (i : ℕ) → length (g i) ≡
   put-none h = record { within = omega arith; kept = refl; room = rw sub-zero (omega (arith, pieces-length g w each 0 count)); whole = rw sub-zero refl }
 
   module _ {out : List ℕ} {p i : ℕ} (h : Putting g o at count out p i) (l : i < count) where
-    left : pieces g i (count - i) ≡ g i ++ pieces g (i + 1) (count - (i + 1))
+    abbrev rest : List ℕ
+    rest = pieces g (i + 1) (count - (i + 1))
+
+    left : pieces g i (count - i) ≡ g i ++ rest
     unfolding pieces
     left = rw (left-more l, add-one)
 
-    left-length : length (pieces g i (count - i)) ≡ w + length (pieces g (i + 1) (count - (i + 1)))
-    left-length = ap length left ∙ length-append (g i) (pieces g (i + 1) (count - (i + 1))) ∙ ap (_+ length (pieces g (i + 1) (count - (i + 1)))) (each i)
+    left-length : length (pieces g i (count - i)) ≡ w + length rest
+    left-length = ap length left ∙ length-append (g i) rest ∙ ap (_+ length rest) (each i)
 
     pub put-room : p + w ≤ length out
     put-room = omega (arith, left-length, h .room, h .kept)
@@ -126,8 +129,8 @@ module _ (g : ℕ → List ℕ) (w : ℕ) (each : (i : ℕ) → length (g i) ≡
       kept = ap length e ∙ length-sets out p (g i) ∙ h .kept;
       room = omega (arith, left-length, h .room);
       whole =
-          ap (λ (x : List ℕ). sets x (p + w) (pieces g (i + 1) (count - (i + 1)))) e
-          ∙ sym (ap (sets out p) left ∙ sets-part (g i) (pieces g (i + 1) (count - (i + 1))) out p (p + w) (ap (p +_) (each i)))
+          ap (λ (x : List ℕ). sets x (p + w) rest) e
+          ∙ sym (ap (sets out p) left ∙ sets-part (g i) rest out p (p + w) (ap (p +_) (each i)))
           ∙ h .whole;
     }
 

@@ -1,4 +1,5 @@
--- The cells of a tracker that is built: the sets and the colour of each tuple, and zero behind the last. Assumes nothing.
+-- The tables of a tracker that is built: the sets and the colour of each tuple, zero behind the last, next numbers below the count, and the
+-- lengths. Assumes nothing.
 use Prim.Native.Nat.{ℕ, _+_, _-_, _*_, _/_, _%_, _≤_, _<_}
 use mathlib.Core.Path.{_≡_, sym, ap, _∙_}
 use mathlib.Core.List.{List, _++_}
