@@ -50,7 +50,6 @@ listing-small n k count s =
 
 -- PART BY PART
 
-
 pub first-put : (out : List ℕ) (n k count : ℕ)
     → sets out 0 (trackLine n k count)
     ≡ sets (sets (sets (sets (sets out 0 (84 ∷ 82 ∷ 65 ∷ 67 ∷ 75 ∷ [])) 5 (column 3 n)) 8 (column 3 k)) 11 (column 5 count)) 16 (10 ∷ [])
