@@ -6,7 +6,7 @@ use native.Mathlib.Omega.{arith}
 use native.Mathlib.Nat.{add-zero, add-suc, suc-mul}
 use lib.ListN.{length, getD, take, drop, length-take, length-drop}
 use lib.Seq.{getD-take}
-use Rattle.text.specs.CellsLaws.{part-at}
+use Rattle.lists.specs.CellsLaws.{part-at}
 use Rattle.plan.specs.LetterLaws.{letter-lead, letter-cycle}
 use Rattle.judge.specs.declared.Pass.{Pass}
 use Rattle.judge.specs.Passes.{LeastOf}

@@ -14,7 +14,7 @@ use Rattle.format.specs.Format.{Sheet, FileIs, mostSheet}
 use Rattle.format.specs.Numbers.{numbers}
 use Rattle.parser.specs.Parse.{Contents}
 use Rattle.parser.specs.Phase.{Phase, refused, passed}
-use Rattle.text.specs.SearchLaws.{same-is}
+use Rattle.lists.specs.SearchLaws.{same-is}
 use Rattle.parser.specs.ParseLaws.{AreContents}
 use Rattle.tuple.specs.Step.{Tuple}
 use Rattle.tracker.specs.declared.Built.{Built}

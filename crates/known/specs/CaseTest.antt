@@ -4,8 +4,8 @@ use mathlib.Core.Bool.{Bool, true, false, not, _&&_}
 use mathlib.Core.List.{List, [], _∷_, map}
 use lib.Dec.{eqb, ltb}
 use lib.ListN.{length, take, drop}
-use Rattle.text.specs.Search.{same}
-use Rattle.text.specs.Choice.{choose}
+use Rattle.lists.specs.Search.{same}
+use Rattle.lists.specs.Choice.{choose}
 use Rattle.automaton.specs.Automaton.{Automaton}
 use Rattle.format.specs.Format.{mostSheet}
 use Rattle.parser.specs.Parse.{parse}

@@ -7,7 +7,7 @@ use Rattle.sets.specs.Sets.{bit, unionOf, interOf, minusOf, isWithin}
 use Rattle.automaton.specs.Successors.{given, successorsBelow, successorsOf}
 use Rattle.text.specs.Number as N
 use Rattle.text.specs.Number.{digitOf, valueOf, numberAt, isNumbered}
-use Rattle.text.specs.Search.{same, firstThat}
+use Rattle.lists.specs.Search.{same, firstThat}
 use Rattle.text.specs.Word.{startsAt}
 use Rattle.text.specs.Column.{digitByte, column}
 use Rattle.names.specs.Name.{oneOf, isUmlaut, isVowel, umlautOf, compose}

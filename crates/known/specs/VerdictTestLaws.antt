@@ -9,7 +9,7 @@ use native.Mathlib.Decide.{ℕ-discrete}
 use borrow.Author.Tests.{ltb-true, ltb-false, eqb-true, not-true}
 use lib.Dec.{ltb}
 use lib.ListN.{length}
-use Rattle.text.specs.BytesLaws.{length-more}
+use Rattle.lists.specs.AppendLaws.{length-more}
 use Rattle.finite.specs.Least.{lowest}
 use Rattle.automaton.specs.Automaton.{Automaton}
 use Rattle.tuple.specs.Step.{Tuple, colourEntered}

@@ -11,7 +11,7 @@ use Rattle.tuple.specs.TupleLaws.{small}
 use Rattle.tracker.specs.Build.{Store, RoomFits, Fitted}
 use Rattle.tracker.specs.FittedLaws.{tuple, fitted-formed, fitted-set, fitted-colour, fitted-behind, fitted-next, fitted-room}
 use Rattle.text.specs.Bytes.{lf, endLine}
-use Rattle.text.specs.BytesLaws.{append-same}
+use Rattle.lists.specs.AppendLaws.{append-same}
 use Rattle.text.specs.Column.{column}
 use Rattle.text.specs.ColumnLaws.{column-length, column-injective}
 use Rattle.listing.specs.Listing.{pieces, columns, trackLine, tupleLine, tupleLines, listing}

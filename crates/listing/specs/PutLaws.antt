@@ -10,8 +10,8 @@ use lib.Seq.{sets, length-sets}
 use Rattle.text.specs.Bytes.{lf, endLine}
 use Rattle.text.specs.Column.{column}
 use Rattle.text.specs.ColumnLaws.{column-length}
-use Rattle.text.specs.LeftLaws.{left-more}
-use Rattle.text.specs.SetsLaws.{sets-part}
+use Rattle.lists.specs.LeftLaws.{left-more}
+use Rattle.lists.specs.StoreLaws.{sets-part}
 use Rattle.listing.specs.Listing.{pieces, columns, trackLine, tupleLine, tupleLines, listing}
 use Rattle.listing.specs.Put.{cellsFrom, lineBytes, listingBytes, Sizes}
 

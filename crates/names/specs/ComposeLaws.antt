@@ -12,7 +12,7 @@ use native.Mathlib.Nat.{add-zero}
 use native.Mathlib.Omega.{arith}
 use Rattle.text.specs.Bytes.{stretch}
 use Rattle.text.specs.BytesLaws.{stretch-none, stretch-cons, stretch-length, stretch-at}
-use Rattle.text.specs.ChoiceLaws.{lt-or-ge, neither}
+use Rattle.lists.specs.ChoiceLaws.{lt-or-ge, neither}
 use Rattle.names.specs.Name.{isVowel, isDecomposed, umlautOf, compose}
 use Rattle.names.specs.Row.{diaeresisAt}
 

@@ -6,7 +6,7 @@ use mathlib.Core.List.{List, [], _∷_, _++_, map}
 use lib.ListN.{length, getD}
 use lib.Dec.{eqb}
 use native.Mathlib.Omega.{arith}
-use Rattle.text.specs.Choice.{choose}
+use Rattle.lists.specs.Choice.{choose}
 use Rattle.text.specs.Word.{without}
 use Rattle.names.specs.Name.{isVowel, isDecomposed, umlautOf, Part, RightPart, RightParts, partBytes, nameBytes, IsName, composedPart, compose}
 use Rattle.names.specs.Name.Part.{plain, composed, decomposed}

@@ -10,8 +10,8 @@ use lib.Dec.{eqb, leb}
 use borrow.Author.Tests.{eq-eqb, ne-eqb, eqb-true, leb-true}
 use native.Mathlib.Numerals.{add-one}
 use native.Mathlib.Omega.{arith}
-use Rattle.text.specs.Choice.{choose}
-use Rattle.text.specs.ChoiceLaws.{true-or-false}
+use Rattle.lists.specs.Choice.{choose}
+use Rattle.lists.specs.ChoiceLaws.{true-or-false}
 use Rattle.text.specs.Number.{isBetween}
 use Rattle.text.specs.Word.{without}
 use Rattle.names.specs.Name.{oneOf, isUmlaut, isVowel, isDecomposed, umlautOf, Part, RightPart, RightParts, partBytes, nameBytes, composedPart}

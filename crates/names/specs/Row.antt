@@ -4,7 +4,7 @@ use mathlib.Core.Bool.{Bool, false}
 use mathlib.Core.List.{List}
 use lib.ListN.{length, getD, take, drop}
 use lib.Dec.{ltb}
-use Rattle.text.specs.Choice.{choose}
+use Rattle.lists.specs.Choice.{choose}
 use Rattle.names.specs.Name.{isDecomposed}
 
 -- a stretch lies within a list

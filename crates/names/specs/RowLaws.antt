@@ -7,9 +7,9 @@ use lib.Seq.{sets}
 use native.Mathlib.Omega.{arith}
 use Rattle.gate.specs.Gate.{padded}
 use Rattle.gate.specs.GateLaws.{take-zeros}
-use Rattle.text.specs.Search.{leading}
-use Rattle.text.specs.SearchLaws.{leading-padded}
-use Rattle.text.specs.SetsLaws.{sets-append}
+use Rattle.lists.specs.Search.{leading}
+use Rattle.lists.specs.SearchLaws.{leading-padded}
+use Rattle.lists.specs.StoreLaws.{sets-append}
 use Rattle.text.specs.WordLaws.{no-zero-at}
 use Rattle.names.specs.Name.{IsName}
 use Rattle.names.specs.NameLaws.{name-without}

@@ -10,9 +10,9 @@ use borrow.Author.Tests.{eq-eqb, ne-eqb, lt-ltb, le-ltb, eqb-true, eqb-false, lt
 use native.Mathlib.Nat.{add-zero, sub-eq-zero-of-le}
 use native.Mathlib.Omega.{arith}
 use Rattle.text.specs.Bytes.{lf, stretch}
-use Rattle.text.specs.LeftLaws.{left-more}
+use Rattle.lists.specs.LeftLaws.{left-more}
 use Rattle.text.specs.BytesLaws.{stretch-is, stretch-rest}
-use Rattle.text.specs.Choice.{choose}
+use Rattle.lists.specs.Choice.{choose}
 use Rattle.text.specs.Word.{startsAt, noZero}
 use Rattle.text.specs.WordLaws.{first-byte, byte-is, starts-is}
 use Rattle.names.specs.Name.{isUmlaut, isVowel, isDecomposed, Part, RightPart, RightParts, partBytes, nameBytes, IsName}

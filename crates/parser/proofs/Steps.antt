@@ -12,7 +12,7 @@ use Rattle.format.specs.Format.{place}
 use Rattle.format.specs.Numbers.{inserted}
 use Rattle.parser.specs.Parse.{withFlags, stateLineAt, statesAt, withTransition, transitionLineAt, transitionsAt, nameLineAt, namesAt}
 use Rattle.parser.specs.Phase.{refused, passed, endAt, letterOf}
-use Rattle.text.specs.LeftLaws.{left-more}
+use Rattle.lists.specs.LeftLaws.{left-more}
 use Rattle.text.specs.Bytes.{stretch}
 use Rattle.names.specs.Name.{compose}
 use Rattle.gate.specs.Gate.{padded}

@@ -7,7 +7,7 @@ use lib.ListN.{length, drop, length-drop, drop-of-length-le}
 use lib.Dec.{eqb}
 use borrow.Author.Tests.{eqb-true, eqb-false}
 use native.Mathlib.Omega.{arith}
-use Rattle.text.specs.Choice.{choose}
+use Rattle.lists.specs.Choice.{choose}
 use Rattle.text.specs.Word.{startsAt}
 use Rattle.text.specs.WordLaws.{starts-is, no-word}
 use Rattle.format.specs.Format.{endLine}

@@ -7,7 +7,7 @@ use lib.ListN.{length, drop}
 use native.Mathlib.Omega.{arith}
 use Rattle.gate.specs.Gate.{refusal}
 use Rattle.gate.specs.declared.Refusal.{Refusal}
-use Rattle.text.specs.Choice.{choose}
+use Rattle.lists.specs.Choice.{choose}
 use Rattle.text.specs.NumberLaws.{between-is, between-of}
 use Rattle.text.specs.Pair.{wordAndPair, firstLine}
 use Rattle.text.specs.PairLaws.{NoFirst, first-of, first-outcome}

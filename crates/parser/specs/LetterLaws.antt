@@ -4,8 +4,8 @@ use mathlib.Core.Path.{_≡_, sym, _∙_}
 use mathlib.Core.List.{List, [], _∷_, map}
 use lib.ListN.{length, getD, length-map, List·getD-map}
 use native.Mathlib.Omega.{arith}
-use Rattle.text.specs.Search.{same}
-use Rattle.text.specs.SearchLaws.{tells-same, first-found, first-one}
+use Rattle.lists.specs.Search.{same}
+use Rattle.lists.specs.SearchLaws.{tells-same, first-found, first-one}
 use Rattle.names.specs.Name.{compose}
 use Rattle.format.specs.Format.{Distinct}
 use Rattle.parser.specs.Phase.{letterOf}

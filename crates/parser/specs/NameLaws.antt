@@ -9,7 +9,7 @@ use borrow.Author.Tests.{eq-eqb, ne-eqb, eqb-true, eqb-false}
 use native.Mathlib.Omega.{arith}
 use native.Mathlib.Nat.{zero-add, add-zero, suc-add}
 use Rattle.text.specs.Bytes.{lf, space, stretch}
-use Rattle.text.specs.Choice.{choose}
+use Rattle.lists.specs.Choice.{choose}
 use Rattle.text.specs.Column.{column}
 use Rattle.text.specs.Number.{isNumbered}
 use Rattle.text.specs.NumberLaws.{numbered-of, numbered-is}
@@ -23,9 +23,10 @@ use Rattle.format.specs.Format.{nameLine, nameLines, Distinct, NamesRight, Name
 use Rattle.format.specs.FormatLaws.{name-parted, name-behind, name-rest}
 use Rattle.parser.specs.Parse.{Named, nameLineAt, namesAt}
 use Rattle.parser.specs.Phase.{Phase, refused, passed, withEnding, letterOf}
-use Rattle.text.specs.BytesLaws.{length-more, stretch-is}
+use Rattle.lists.specs.AppendLaws.{length-more}
+use Rattle.text.specs.BytesLaws.{stretch-is}
 use Rattle.parser.specs.LetterLaws.{distinct-letter, letter-distinct}
-use Rattle.text.specs.ChoiceLaws.{test-true}
+use Rattle.lists.specs.ChoiceLaws.{test-true}
 
 -- ONE LINE
 

@@ -5,7 +5,7 @@ use mathlib.Core.List.{List, [], _∷_, _++_}
 use mathlib.Core.Bool.{_&&_}
 use lib.ListN.{length, getD, replicate}
 use lib.Dec.{ltb, leb, eqb}
-use Rattle.text.specs.Choice.{choose}
+use Rattle.lists.specs.Choice.{choose}
 use Rattle.text.specs.Bytes.{space, stretch}
 use Rattle.text.specs.Number.{numberAt, withNumber, isNumbered, isBetween}
 use Rattle.text.specs.Pair.{pairAt, withPair, wordAndPair}

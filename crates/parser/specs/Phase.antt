@@ -4,11 +4,11 @@ use mathlib.Core.List.{List}
 use mathlib.Core.Bool.{Bool, _&&_}
 use lib.ListN.{length}
 use lib.Dec.{eqb}
-use Rattle.text.specs.Choice.{choose}
+use Rattle.lists.specs.Choice.{choose}
 use Rattle.text.specs.Number.{isBetween}
 use Rattle.text.specs.Pair.{withPair}
 use Rattle.text.specs.Word.{startsAt}
-use Rattle.text.specs.Search.{same, firstThat}
+use Rattle.lists.specs.Search.{same, firstThat}
 use Rattle.text.specs.declared.Pair.{Pair}
 use Rattle.names.specs.declared.Ending.{Ending}
 use Rattle.names.specs.declared.Ending.the-variants as E

@@ -3,7 +3,7 @@ use Prim.Native.Nat.{ℕ, _*_, _≤_, _<_}
 use mathlib.Core.Path.{_≡_}
 use mathlib.Core.List.{List, []}
 use lib.ListN.{length, getD}
-use Rattle.text.specs.Search.{First}
+use Rattle.lists.specs.Search.{First}
 use Rattle.names.specs.Name.{IsName}
 use Rattle.gate.specs.Gate.{padded}
 use Rattle.names.specs.Row.{row}

@@ -9,7 +9,7 @@ use borrow.Author.Count.{below-more}
 use Rattle.names.specs.Name.{IsName}
 use Rattle.gate.specs.Gate.{padded}
 use Rattle.gate.specs.GateLaws.{padded-length}
-use Rattle.text.specs.SetsLaws.{part-stored, part-kept}
+use Rattle.lists.specs.StoreLaws.{part-stored, part-kept}
 use Rattle.names.specs.RowLaws.{padded-same}
 use Rattle.parser.specs.Rows.{RowIs, HoldNames, FirstLike, FirstName}
 

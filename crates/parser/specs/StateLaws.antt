@@ -19,7 +19,7 @@ use Rattle.parser.specs.Parse.{withFlags, stateLineAt, statesAt}
 use Rattle.parser.specs.Phase.{Phase, refused, passed}
 use Rattle.text.specs.BytesLaws.{stretch-rest}
 use Rattle.text.specs.Pair.{pairAt}
-use Rattle.text.specs.ChoiceLaws.{test-true}
+use Rattle.lists.specs.ChoiceLaws.{test-true}
 use Rattle.text.specs.NumberLaws.{between-is, between-of}
 use Rattle.text.specs.PairLaws.{some-pair}
 use Rattle.parser.specs.FieldLaws.{fields-of, fields-is}

@@ -10,7 +10,7 @@ use borrow.Author.Tests.{eq-eqb, ne-eqb, eqb-true, eqb-false, lt-ltb, ltb-true, 
 use native.Mathlib.Omega.{arith}
 use native.Mathlib.Numerals.{add-one}
 use native.Mathlib.Nat.{zero-add, add-zero, suc-add}
-use Rattle.text.specs.Choice.{choose}
+use Rattle.lists.specs.Choice.{choose}
 use Rattle.text.specs.Column.{column}
 use Rattle.text.specs.Number.{numberAt}
 use Rattle.text.specs.declared.Number.the-variants as N
@@ -24,7 +24,7 @@ use Rattle.parser.specs.Parse.{withTransition, transitionOf, transitionL
 use Rattle.parser.specs.Phase.{Phase, refused, passed, endAt}
 use Rattle.text.specs.BytesLaws.{stretch-rest}
 use Rattle.text.specs.Pair.{pairAt}
-use Rattle.text.specs.ChoiceLaws.{test-true}
+use Rattle.lists.specs.ChoiceLaws.{test-true}
 use Rattle.text.specs.NumberLaws.{some-number, numbered-by, numbered-parts}
 use Rattle.text.specs.PairLaws.{some-pair}
 use Rattle.text.specs.WordLaws.{first-byte}

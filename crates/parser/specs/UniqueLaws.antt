@@ -6,7 +6,7 @@ use mathlib.Core.List.{List, [], _∷_, _++_, append-assoc}
 use lib.ListN.{length, getD}
 use native.Mathlib.Omega.{arith}
 use Rattle.text.specs.Bytes.{stretch}
-use Rattle.text.specs.BytesLaws.{append-same}
+use Rattle.lists.specs.AppendLaws.{append-same}
 use Rattle.names.specs.Name.{IsName}
 use Rattle.names.specs.declared.Ending.the-variants as E
 use Rattle.automaton.specs.Automaton.{InRange}

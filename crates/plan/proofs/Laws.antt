@@ -8,7 +8,7 @@ use borrow.Author.Tests.{lt-ltb, le-ltb}
 use native.Mathlib.Omega.{arith}
 use native.Mathlib.Nat.{sub-eq-zero-of-le}
 use native.Mathlib.Numerals.{add-one}
-use Rattle.text.specs.LeftLaws.{left-more}
+use Rattle.lists.specs.LeftLaws.{left-more}
 use Rattle.names.specs.Scan.{nameEndAt}
 use Rattle.names.specs.declared.Ending.the-variants as E
 use Rattle.gate.specs.Gate.{refusal}

@@ -7,7 +7,7 @@ use native.Mathlib.Omega.{arith}
 use native.Mathlib.Nat.{mod-lt, mod-eq-of-lt, add-mul-mod-self-right}
 use borrow.Author.Tests.{lt-ltb, le-ltb}
 use lib.ListN.{length, getD}
-use Rattle.text.specs.ChoiceLaws.{lt-or-ge}
+use Rattle.lists.specs.ChoiceLaws.{lt-or-ge}
 use Rattle.plan.specs.Letter.{letterAt}
 
 module _ (lead cycle : List ℕ) where

@@ -11,7 +11,7 @@ use native.Mathlib.Decide.{decLt}
 use native.Mathlib.Nat.{zero-add, add-zero, suc-add}
 use Rattle.text.specs.Bytes.{lf, stretch}
 use Rattle.text.specs.BytesLaws.{stretch-is, stretch-rest}
-use Rattle.text.specs.Choice.{choose}
+use Rattle.lists.specs.Choice.{choose}
 use Rattle.text.specs.WordLaws.{goes-on}
 use Rattle.names.specs.Name.{IsName, compose}
 use Rattle.names.specs.Scan.{nameEndAt}

@@ -4,7 +4,7 @@ use Prim.Native.Nat.{ℕ, zero, suc, _+_}
 use mathlib.Core.List.{List, [], _∷_, _++_}
 use lib.ListN.{length}
 use lib.Dec.{ltb}
-use Rattle.text.specs.Choice.{choose}
+use Rattle.lists.specs.Choice.{choose}
 use Rattle.text.specs.Bytes.{stretch}
 use Rattle.names.specs.Name.{compose}
 use Rattle.names.specs.Scan.{nameEndAt}

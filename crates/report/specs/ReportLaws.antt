@@ -8,7 +8,7 @@ use lib.Seq.{sets}
 use Rattle.text.specs.Bytes.{lf}
 use Rattle.text.specs.Column.{column}
 use Rattle.text.specs.ColumnLaws.{column-length}
-use Rattle.text.specs.SetsLaws.{sets-part, sets-over}
+use Rattle.lists.specs.StoreLaws.{sets-part, sets-over}
 use Rattle.report.specs.Report.{reportLine}
 
 pub pieces : (out word : List ℕ) (a b : ℕ) → length out ≡ 12 → length word ≡ 3

@@ -7,7 +7,7 @@ use native.Mathlib.Omega.{arith}
 use lib.ListN.{length, getD, set, replicate, length-set, length-replicate}
 use lib.Seq.{getD-set-same, getD-set-other, sets, length-sets}
 use Rattle.gate.specs.GateLaws.{zeros}
-use Rattle.text.specs.SetsLaws.{part-stored, part-kept}
+use Rattle.lists.specs.StoreLaws.{part-stored, part-kept}
 use Rattle.rows.specs.Rows.{rowAt, digestOf, Index, Indexed, Sought, Found, Added}
 
 -- Place p of the walk: one more than a row with digest h, or 0. No row that is looked for stands at p or behind.

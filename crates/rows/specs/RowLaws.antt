@@ -5,7 +5,7 @@ use mathlib.Core.List.{List}
 use native.Mathlib.Numerals.{add-one}
 use borrow.Author.Tests.{eq-eqb, ne-eqb}
 use lib.ListN.{getD}
-use Rattle.text.specs.LeftLaws.{left-more}
+use Rattle.lists.specs.LeftLaws.{left-more}
 use Rattle.rows.specs.Rows.{mix, mixFrom}
 
 pub mix-stops : (row : List ℕ) (h i : ℕ) → i < 16 → getD row i 0 ≡ 0 → mixFrom row h i (16 - i) ≡ h

@@ -5,7 +5,7 @@ use mathlib.Core.List.{List}
 use lib.Dec.{eqb}
 use lib.ListN.{length, getD, take, drop}
 use lib.Seq.{sets}
-use Rattle.text.specs.Choice.{choose}
+use Rattle.lists.specs.Choice.{choose}
 
 -- the cells of a row: document 01's "Tuple t has numbers 17t to 17t+16"
 abbrev rowCells : ℕ

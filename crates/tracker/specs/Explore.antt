@@ -5,8 +5,8 @@ use mathlib.Core.Bool.{Bool, _&&_}
 use mathlib.Core.List.{List, [], _∷_, _++_}
 use lib.Dec.{eqb, ltb}
 use lib.ListN.{length}
-use Rattle.text.specs.Choice.{choose}
-use Rattle.text.specs.Search.{same, firstThat}
+use Rattle.lists.specs.Choice.{choose}
+use Rattle.lists.specs.Search.{same, firstThat}
 use Rattle.automaton.specs.Automaton.{Automaton}
 use Rattle.tuple.specs.Step.{Tuple, first}
 use Rattle.tracker.specs.Numbering.{entered}

@@ -10,10 +10,10 @@ use borrow.Author.Tests.{lt-ltb, le-ltb, eq-eqb, eqb-true}
 use lib.Dec.{eqb, ltb}
 use lib.ListN.{length, List·getD-append}
 use lib.Seq.{getD-append-seam}
-use Rattle.text.specs.BytesLaws.{length-more}
-use Rattle.text.specs.Search.{same, First}
-use Rattle.text.specs.SearchLaws.{same-is, same-self, Tells, first-found}
-use Rattle.text.specs.Choice.{choose}
+use Rattle.lists.specs.AppendLaws.{length-more}
+use Rattle.lists.specs.Search.{same, First}
+use Rattle.lists.specs.SearchLaws.{same-is, same-self, Tells, first-found}
+use Rattle.lists.specs.Choice.{choose}
 use Rattle.automaton.specs.Automaton.{Automaton}
 use Rattle.tuple.specs.Step.{Tuple, first, next}
 use Rattle.tracker.specs.Numbering.{tupleAt, Distinct, entered, FoundBy}

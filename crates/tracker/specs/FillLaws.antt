@@ -8,7 +8,7 @@ use native.Mathlib.Omega.{arith}
 use borrow.Author.Tests.{eq-eqb, ne-eqb}
 use lib.ListN.{length, getD, set, replicate, length-set, length-replicate}
 use lib.Seq.{sets, length-sets, getD-set-same, getD-set-other}
-use Rattle.text.specs.BytesLaws.{length-more}
+use Rattle.lists.specs.AppendLaws.{length-more}
 use Rattle.gate.specs.GateLaws.{zeros, length-cleared}
 use Rattle.rows.specs.Rows.{rowAt, Found, Added}
 use Rattle.automaton.specs.Automaton.{Automaton, Fits}

@@ -8,7 +8,7 @@ use native.Mathlib.Omega.{arith}
 use lib.ListN.{length, getD, replicate, length-append, length-replicate}
 use lib.Seq.{getD-append-add}
 use Rattle.rows.specs.Rows.{rowAt}
-use Rattle.text.specs.CellsLaws.{part-at}
+use Rattle.lists.specs.CellsLaws.{part-at}
 use Rattle.automaton.specs.Automaton.{Automaton, Fits}
 use Rattle.tuple.specs.Step.{Tuple, setAt, first, Formed}
 use Rattle.tuple.specs.Row.{row}

@@ -7,7 +7,7 @@ use native.Mathlib.Decide.{ℕ-discrete, decLt}
 use native.Mathlib.Omega.{arith}
 use lib.ListN.{length, take}
 use lib.Seq.{getD-take, length-take-le, ext-getD}
-use Rattle.text.specs.BytesLaws.{length-more}
+use Rattle.lists.specs.AppendLaws.{length-more}
 use Rattle.finite.specs.Finite.{pigeon-rel}
 use Rattle.automaton.specs.Automaton.{Automaton}
 use Rattle.tuple.specs.Step.{Tuple, first, next}

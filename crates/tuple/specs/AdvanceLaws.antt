@@ -8,8 +8,8 @@ use lib.ListN.{length, getD, set, take, drop, length-map}
 use lib.Seq.{take-suc, drop-cons, getD-at, set-at, length-take-le, slice, slice-empty, slice-cons}
 use Rattle.automaton.specs.Successors.{successorsOf}
 use Rattle.tuple.specs.Row.{setCells, setsOf}
-use Rattle.text.specs.Search.{leading}
-use Rattle.text.specs.SearchLaws.{leading-stop, leading-more}
+use Rattle.lists.specs.Search.{leading}
+use Rattle.lists.specs.SearchLaws.{leading-stop, leading-more}
 use Rattle.tuple.specs.Parts.{Advanced}
 
 -- the first i cells are sets, and replaced

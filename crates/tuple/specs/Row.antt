@@ -4,7 +4,7 @@ use mathlib.Core.Path.{_≡_}
 use mathlib.Core.List.{List, [], _∷_, _++_}
 use lib.ListN.{length, getD, take, replicate}
 use Rattle.automaton.specs.Automaton.{Automaton, Fits}
-use Rattle.text.specs.Search.{leading}
+use Rattle.lists.specs.Search.{leading}
 use Rattle.tuple.specs.Step.{Tuple}
 
 -- the cells of a row that hold sets; one more holds the colour

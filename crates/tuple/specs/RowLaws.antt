@@ -7,7 +7,7 @@ use lib.ListN.{length, getD, take, replicate, length-append, length-replicate, L
 use lib.Seq.{take-at, getD-at}
 use Rattle.automaton.specs.Automaton.{Automaton, Fits}
 use Rattle.gate.specs.GateLaws.{zeros}
-use Rattle.text.specs.SearchLaws.{leading-padded}
+use Rattle.lists.specs.SearchLaws.{leading-padded}
 use Rattle.tuple.specs.Step.{Tuple, setAt, Formed}
 use Rattle.tuple.specs.Row.{setCells, setsOf, row, tupleOf, Steps}
 

@@ -17,7 +17,7 @@ use Rattle.tuple.specs.PlaceLaws.{places-length}
 use Rattle.tuple.specs.TupleLaws.{next-formed}
 use Rattle.tuple.specs.Row.{setCells, setsOf, row, tupleOf, Steps}
 use Rattle.tuple.specs.RowLaws.{row-length, row-set}
-use Rattle.text.specs.SearchLaws.{leading-length}
+use Rattle.lists.specs.SearchLaws.{leading-length}
 use Rattle.tuple.specs.Parts.{Advanced, Swept, Placed, settled}
 
 -- the pass does not touch place 0

@@ -8,7 +8,7 @@ use lib.Seq.{sets}
 use Rattle.text.specs.Bytes.{lf, space}
 use Rattle.text.specs.Column.{column}
 use Rattle.text.specs.Pair.{threeNumbers}
-use Rattle.text.specs.SetsLaws.{sets-append}
+use Rattle.lists.specs.StoreLaws.{sets-append}
 use Rattle.format.specs.Format.{sheetWord, headLine, nameLine}
 
 pub name-stored : (out : List ℕ) (at l : ℕ) (name : List ℕ) →

@@ -7,8 +7,8 @@ use native.Mathlib.Nat.{sub-eq-zero-of-le}
 use native.Mathlib.Numerals.{add-one}
 use lib.ListN.{length, getD}
 use lib.Seq.{sets}
-use Rattle.text.specs.LeftLaws.{left-more}
-use Rattle.text.specs.SetsLaws.{sets-append}
+use Rattle.lists.specs.LeftLaws.{left-more}
+use Rattle.lists.specs.StoreLaws.{sets-append}
 use Rattle.sets.specs.Sets.{bit}
 use Rattle.sets.specs.SetLaws.{bit-zero}
 use Rattle.format.specs.Format.{transitionLine, transitionLines}

@@ -1,7 +1,7 @@
 -- Names in rows of 24 bytes, with zeros behind them: no name has a zero byte.
 use Prim.Native.Nat.{ℕ, zero, suc, _*_}
 use mathlib.Core.List.{List, [], _∷_}
-use Rattle.text.specs.Search.{leading}
+use Rattle.lists.specs.Search.{leading}
 use Rattle.names.specs.Row.{row}
 
 -- the name in row l

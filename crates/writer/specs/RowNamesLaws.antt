@@ -8,10 +8,10 @@ use native.Mathlib.Nat.{add-zero, zero-add, sub-eq-zero-of-le}
 use lib.ListN.{length, getD, take, drop, length-append}
 use lib.Seq.{sets, drop-cons}
 use Rattle.text.specs.Bytes.{stretch}
-use Rattle.text.specs.LeftLaws.{left-more}
-use Rattle.text.specs.Search.{leading}
-use Rattle.text.specs.SearchLaws.{leading-stop, leading-more, leading-first}
-use Rattle.text.specs.SetsLaws.{sets-append}
+use Rattle.lists.specs.LeftLaws.{left-more}
+use Rattle.lists.specs.Search.{leading}
+use Rattle.lists.specs.SearchLaws.{leading-stop, leading-more, leading-first}
+use Rattle.lists.specs.StoreLaws.{sets-append}
 use Rattle.names.specs.RowLaws.{leading-name}
 use Rattle.parser.specs.Rows.{HoldNames}
 use Rattle.format.specs.Format.{nameLine, nameLines}

@@ -5,8 +5,8 @@ use mathlib.Core.List.{List}
 use native.Mathlib.Nat.{sub-eq-zero-of-le}
 use native.Mathlib.Numerals.{add-one}
 use lib.Seq.{sets}
-use Rattle.text.specs.LeftLaws.{left-more}
-use Rattle.text.specs.SetsLaws.{sets-append}
+use Rattle.lists.specs.LeftLaws.{left-more}
+use Rattle.lists.specs.StoreLaws.{sets-append}
 use Rattle.format.specs.Format.{stateLine, stateLines}
 use Rattle.format.specs.Written.{stateOf, statesOf}
 use Rattle.format.specs.FormatLaws.{state-length}

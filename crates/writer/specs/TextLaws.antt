@@ -4,7 +4,7 @@ use mathlib.Core.Path.{_≡_, refl, sym, ap, _∙_}
 use mathlib.Core.List.{List, _++_, map}
 use lib.ListN.{length, length-append}
 use lib.Seq.{sets}
-use Rattle.text.specs.SetsLaws.{sets-append}
+use Rattle.lists.specs.StoreLaws.{sets-append}
 use Rattle.names.specs.Name.{compose}
 use Rattle.automaton.specs.Automaton.{Automaton}
 use Rattle.format.specs.Format.{headLine, nameLines, stateLines, transitionLines, endLine}

@@ -9,7 +9,7 @@ use lib.ListN.{getD}
 use denote.Ref.{now}
 use borrow.Author.Tests.{eq-eqb, ne-eqb, lt-ltb, le-ltb}
 use Rattle.text.specs.Bytes.{lf}
-use Rattle.text.specs.Choice.{choose}
+use Rattle.lists.specs.Choice.{choose}
 use Rattle.text.specs.WordLaws.{within}
 use Rattle.names.specs.Scan.{nameEndAt}
 use Rattle.names.specs.declared.Ending.{Ending}

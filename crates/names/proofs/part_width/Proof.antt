@@ -5,7 +5,7 @@ use native.Mathlib.Omega.{arith}
 use lib.Dec.{ltb}
 use borrow.Author.Tests.{ne-eqb, lt-ltb, le-ltb}
 use borrow.Author.Needs.{needs}
-use Rattle.text.specs.Choice.{choose}
+use Rattle.lists.specs.Choice.{choose}
 use Rattle.names.specs.Name.{isDecomposed}
 use Rattle.names.specs.Scan.{widthOf}
 use Rattle.names.proofs.part_width.Statement.{statement}

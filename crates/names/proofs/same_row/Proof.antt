@@ -4,7 +4,7 @@ use mathlib.Core.Path.{sym, _∙_}
 use native.Mathlib.Omega.{arith}
 use denote.Ref.{now}
 use Rattle.gate.specs.GateLaws.{decides-yes, decides-no}
-use Rattle.text.specs.CellsLaws.{part-length, part-at, SameUpTo, same-none, same-more, same-all, same-cell}
+use Rattle.lists.specs.CellsLaws.{part-length, part-at, SameUpTo, same-none, same-more, same-all, same-cell}
 use Rattle.names.specs.Row.{row}
 use borrow.Author.Needs.{needs}
 use Rattle.names.proofs.same_row.Statement.{statement}

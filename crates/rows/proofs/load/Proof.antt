@@ -3,8 +3,8 @@ use Prim.Native.Nat.{_+_, _*_, _-_}
 use mathlib.Core.Path.{_≡_, sym, _∙_}
 use native.Mathlib.Omega.{arith}
 use Rattle.rows.specs.Rows.{rowAt}
-use Rattle.text.specs.CellsLaws.{part-length}
-use Rattle.text.specs.SetsLaws.{sets-over}
+use Rattle.lists.specs.CellsLaws.{part-length}
+use Rattle.lists.specs.StoreLaws.{sets-over}
 use borrow.Author.Needs.{needs}
 use Rattle.rows.proofs.load.Statement.{statement}
 use Rattle.rows.proofs.load.Tie as tie

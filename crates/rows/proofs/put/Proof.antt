@@ -1,7 +1,7 @@
 -- With what is left of it the whole row is stored: `Storing`. Assumes nothing.
 use Prim.Native.Nat.{_-_}
 use lib.ListN.{length}
-use Rattle.text.specs.SetsLaws.{Storing, store-none, store-more, store-end}
+use Rattle.lists.specs.StoreLaws.{Storing, store-none, store-more, store-end}
 use borrow.Author.Needs.{needs}
 use Rattle.rows.proofs.put.Statement.{statement}
 use Rattle.rows.proofs.put.Tie as tie

@@ -2,7 +2,7 @@
 use Prim.Native.Nat.{_-_}
 use native.Mathlib.Omega.{arith}
 use Rattle.gate.specs.GateLaws.{decides-yes, decides-no}
-use Rattle.text.specs.CellsLaws.{SameUpTo, same-none, same-more, same-all, same-cell}
+use Rattle.lists.specs.CellsLaws.{SameUpTo, same-none, same-more, same-all, same-cell}
 use borrow.Author.Needs.{needs}
 use Rattle.rows.proofs.same.Statement.{statement}
 use Rattle.rows.proofs.same.Tie as tie

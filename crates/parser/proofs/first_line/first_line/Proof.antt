@@ -1,7 +1,7 @@
 -- The line's form, then the bounds of its numbers. Assumes nothing.
 use mathlib.Core.Path.{_≡_, sym, _∙_, ap}
 use mathlib.Core.Bool.{Bool, true, false}
-use Rattle.text.specs.Choice.{choose}
+use Rattle.lists.specs.Choice.{choose}
 use Rattle.text.specs.NumberLaws.{between-is}
 use Rattle.text.specs.Pair.{wordAndPair}
 use Rattle.text.specs.declared.Pair.{Pair}

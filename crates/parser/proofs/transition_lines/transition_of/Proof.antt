@@ -5,7 +5,7 @@ use mathlib.Core.Bool.{Bool, true, false}
 use lib.Dec.{leb}
 use native.Mathlib.Omega.{arith}
 use borrow.Author.Tests.{lt-ltb, le-ltb, lt-leb, le-leb}
-use Rattle.text.specs.Choice.{choose}
+use Rattle.lists.specs.Choice.{choose}
 use Rattle.parser.specs.declared.TransitionLine.the-variants.{Is, Bad}
 use Rattle.parser.specs.Parse.{transitionOf}
 use borrow.Author.Needs.{needs}
