@@ -31,7 +31,7 @@ sized {A} {room} {f} {h} x fits roomy are fitted =
     let k = are .k in
     let (a, b, c, d) = fits .range in
     let r = fitted-room A fits room (x .tuples) f h fitted roomy in
-    record { sizes = record { states = omega arith; letters = omega arith; most = r .most }; tuple-cells = r .tuples; next-cells = r .nexts }
+    record { sizes = record { states = omega arith; letters = omega arith; most = r .most }; room = r }
 
 -- NO QUESTION BEHIND THE FIRST HAS NUMBER 1
 

@@ -3,7 +3,7 @@ use Prim.Native.Nat.{ℕ, _+_, _*_, _≤_}
 use mathlib.Core.List.{List}
 use lib.ListN.{length, getD}
 use Rattle.gate.specs.Gate.{Put}
-use Rattle.tracker.specs.Build.{Store, clearedStore}
+use Rattle.tracker.specs.Build.{Store, store, clearedStore, RoomFits}
 use Rattle.gate.specs.declared.Written.{Written}
 use Rattle.listing.specs.List.{Left}
 
@@ -30,11 +30,10 @@ pub record Sizes (n k count : ℕ) : Type 0 where
   pub letters : k ≤ 8
   pub most : count ≤ 1024
 
--- and tables with the rows of the tuples
+-- and tables that are long enough for the tuples
 pub record Sized (n k count : ℕ) (tuples nexts : List ℕ) : Type 0 where
   pub sizes : Sizes n k count
-  pub tuple-cells : 17 * count ≤ length tuples
-  pub next-cells : 8 * count ≤ length nexts
+  pub room : RoomFits count (store tuples nexts)
 
 -- the last question, on a text over tables that were h and are g
 abbrev pub Finishes : List ℕ → Store → Store → List ℕ → List ℕ → Written → Type 0

@@ -1,5 +1,5 @@
 -- The lent tables, and the answers of building, one by one. Assumes nothing.
-use Prim.Native.Nat.{ℕ}
+use Prim.Native.Nat.{ℕ, _≤_}
 use mathlib.Core.Path.{_≡_, refl, sym, subst}
 use mathlib.Core.List.{List}
 use mathlib.Core.Logic.{inl, inr}
@@ -26,6 +26,10 @@ use Rattle.tracker.specs.Build.{Store, store, clearedStore, RoomFits, Le
 -- as long as tables that are long enough
 pub room-alike : {room : ℕ} {v w : Store} → length (w .tuples) ≡ length (v .tuples) → length (w .nexts) ≡ length (v .nexts) → RoomFits room v → RoomFits room w
 room-alike p q r = record { some = r .some; most = r .most; tuples = rw p (r .tuples); nexts = rw q (r .nexts) }
+
+-- long enough for fewer tuples
+pub room-less : {room m : ℕ} {v : Store} → 1 ≤ m → m ≤ room → RoomFits room v → RoomFits m v
+room-less p q r = record { some = p; most = omega (arith, r .most); tuples = omega (arith, r .tuples); nexts = omega (arith, r .nexts) }
 
 -- cleared one by one
 pub store-cleared : (v : Store) {tuples nexts : List ℕ} → tuples ≡ cleared (v .tuples) → nexts ≡ cleared (v .nexts) → store tuples nexts ≡ clearedStore v

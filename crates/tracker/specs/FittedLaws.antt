@@ -18,7 +18,7 @@ use Rattle.tracker.specs.NumberingLaws.{numbering-reachable}
 use Rattle.tracker.specs.Build.{Store, clearedStore, RoomFits, Fitted}
 use Rattle.gate.specs.GateLaws.{zeros}
 use Rattle.tracker.specs.RowsLaws.{Whole, rows-length, row-is, reachable-formed, reachable-whole}
-use Rattle.tracker.specs.BuildLaws.{cleared-alike}
+use Rattle.tracker.specs.BuildLaws.{room-alike, room-less, cleared-alike}
 
 module _ (A : Automaton) (fits : Fits A) (room m : ℕ) (v w : Store) (f : Fitted A room v w m) where
   -- tuple t of the tracker
@@ -88,13 +88,8 @@ module _ (A : Automaton) (fits : Fits A) (room m : ℕ) (v w : Store) (f : Fitte
   pub fitted-room : RoomFits room v → RoomFits m w
   fitted-room r =
       let c = f .count-is in
-      let b = f .room-is in
-      record {
-        some = omega (arith, f .holds .numbering .some);
-        most = omega (arith, r .most);
-        tuples = omega (arith, r .tuples, fitted-length r);
-        nexts = omega (arith, r .nexts, f .holds .same);
-      }
+      let some = f .holds .numbering .some in
+      room-alike (fitted-length r) (f .holds .same) (room-less (omega arith) (f .room-is) r)
 
   pub fitted-cleared : RoomFits room v → clearedStore w ≡ clearedStore v
   fitted-cleared r = cleared-alike w v (fitted-length r) (f .holds .same)

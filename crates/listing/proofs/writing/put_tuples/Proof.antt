@@ -4,6 +4,7 @@ use mathlib.Core.Path.{_≡_}
 use mathlib.Core.List.{List}
 use native.Mathlib.Omega.{arith}
 use lib.ListN.{length}
+use Rattle.tracker.specs.BuildLaws.{room-less}
 use Rattle.listing.specs.Listing.{tupleLine}
 use Rattle.listing.specs.Put.{lineBytes}
 use Rattle.listing.specs.PutLaws.{line-length, Putting, put-none, put-room, put-more, put-all}
@@ -47,11 +48,7 @@ put-tuple-requires c κs =
     let h : c .before .before .loop .t < s .args .count = c .before .loop-test .taken in
     let p = s .pre .0 in
     let z = p .sizes in (
-      record {
-        sizes = record { states = z .states; letters = z .letters; most = omega (arith, z .most) };
-        tuple-cells = omega (arith, p .tuple-cells);
-        next-cells = omega (arith, p .next-cells);
-      },
+      record { sizes = record { states = z .states; letters = z .letters; most = omega (arith, z .most) }; room = room-less (omega arith) (omega arith) (p .room) },
       put-room (lines s) _ (long s) (c .before .before .loop .inv) h,
     )
 
