@@ -11,7 +11,7 @@ use Rattle.gate.specs.declared.Refusal.{Refusal}
 use Rattle.names.specs.Name.{compose}
 use Rattle.automaton.specs.declared.Numbers.{Numbers}
 use Rattle.automaton.specs.Automaton.{Automaton, Fits, automaton}
-use Rattle.automaton.specs.Lent.{Tables, Long, clearedTables, NumbersRefuse}
+use Rattle.automaton.specs.Lent.{Tables, Long, Lengths, clearedTables, NumbersRefuse}
 use Rattle.format.specs.Format.{Sheet, FileIs}
 use Rattle.format.specs.Numbers.{numbers}
 use Rattle.automaton.specs.QuestionLaws.{numbers-number}
@@ -95,29 +95,23 @@ module _ {s u : List ℕ} {v w : Tables} where
 
 -- WRITING FROM NUMBERS
 
--- the questions before the last
-module _ {s : List ℕ} {v : Tables} where
-  pub ask-names : {A : Automaton} {u : List ℕ} {w : Tables} {x : Refusal} → 128 ≤ length (A .table) → Reads s fresh u v w (R.Refused x) → Asks A s v w (K.Refused x)
-  ask-names cells (inl (short, e, f, z)) = inl ((λ l. short (record { cells = omega arith; long = l .long })), e, z)
-  ask-names cells (inr (l, (f, z))) = inr (record { cells = cells; long = l .long }, NamedRefuse.by-names f)
+-- the questions before the last, behind question 1
+module _ (A : Automaton) {s u : List ℕ} {v w : Tables} (long : Lengths (A .table) v) where
+  pub ask-names : {x : Refusal} → Reads s fresh u v w (R.Refused x) → Asks A s v w (K.Refused x)
+  ask-names (inl (short, e, f, z)) = absurd (short (record { cells = omega arith; long = long .long }))
+  ask-names (inr (l, (f, z))) = inr (long, NamedRefuse.by-names f)
 
-  pub ask-letters : {A : Automaton} {a : Numbers} {u : List ℕ} {w : Tables} {x : Refusal} → 128 ≤ length (A .table) → Reads s fresh u v w (R.Is a)
-      → (a .k ≡ A .k → ⊥) → x ≡ refusal 4 0 → Asks A s v w (K.Refused x)
-  ask-letters cells (l, (σ, f, e, g, z)) differ is =
-      inr (record { cells = cells; long = l .long }, NamedRefuse.by-letters σ f (λ same. differ (e .k ∙ sym (letters σ) ∙ same)) is z)
+  pub ask-letters : {a : Numbers} {x : Refusal} → Reads s fresh u v w (R.Is a) → (a .k ≡ A .k → ⊥) → x ≡ refusal 4 0 → Asks A s v w (K.Refused x)
+  ask-letters (l, (σ, f, e, g, z)) differ is = inr (long, NamedRefuse.by-letters σ f (λ same. differ (e .k ∙ sym (letters σ) ∙ same)) is z)
 
-  pub ask-numbers : (A : Automaton) {a : Numbers} {u : List ℕ} {w : Tables} → 128 ≤ length (A .table) → Reads s fresh u v w (R.Is a)
-      → a .k ≡ A .k → (x : Tables) (r : Checked) → Checks A w x r → Asks A s v x r
-  ask-numbers A cells (l, (σ, f, e, g, z)) same x (K.Refused y) (inl (short, i, j)) =
-      absurd (short (record { cells = cells; long = subst Long (sym z) (long-cleared v (l .long)) }))
-  ask-numbers A cells (l, (σ, f, e, g, z)) same x (K.Refused y) (inr (i, refuse)) =
+  pub ask-numbers : {a : Numbers} → Reads s fresh u v w (R.Is a) → a .k ≡ A .k → (x : Tables) (r : Checked) → Checks A w x r → Asks A s v x r
+  ask-numbers (l, (σ, f, e, g, z)) same x (K.Refused y) (inl (short, i, j)) =
+      absurd (short (record { cells = long .cells; long = subst Long (sym z) (long-cleared v (long .long)) }))
+  ask-numbers (l, (σ, f, e, g, z)) same x (K.Refused y) (inr (i, refuse)) =
       let cleared-refuse = refuse-cleared v (subst (λ (z : Tables). NumbersRefuse A z x y) z refuse) in
-      inr (record { cells = cells; long = l .long }, NamedRefuse.by-numbers σ f (letters σ ∙ sym (e .k) ∙ same) cleared-refuse)
-  ask-numbers A cells (l, (σ, f, e, g, z)) same x K.Accepted (i, fits, free, j) = (
-    record { cells = cells; long = l .long },
-    (σ, record { names = f; letters = letters σ ∙ sym (e .k) ∙ same; fits = fits; free = free }),
-    j ∙ ap clearedTables z ∙ tables-twice v,
-  )
+      inr (long, NamedRefuse.by-numbers σ f (letters σ ∙ sym (e .k) ∙ same) cleared-refuse)
+  ask-numbers (l, (σ, f, e, g, z)) same x K.Accepted (i, fits, free, j) =
+      (long, (σ, record { names = f; letters = letters σ ∙ sym (e .k) ∙ same; fits = fits; free = free }), j ∙ ap clearedTables z ∙ tables-twice v)
 
 module _ {A : Automaton} {s : List ℕ} {v w : Tables} where
   pub numbers-refused : {b c : List ℕ} {x : Refusal} {r : Written} → Asks A s v w (K.Refused x) → RefusedWith x b c r → WritesNumbers A s v w b c r

@@ -94,7 +94,7 @@ fn ask(
     ensures { λ r. ⌜ Asks (automaton a (now (table .entry))) (now (names .entry)) (tables (now (word .entry)) (now (one .entry)) (now (other .entry)))
         (tables (now (word .exit)) (now (one .exit)) (now (other .exit))) r ⌝ }
 {
-    if table.len() < 128 {
+    if !walks::long_enough(table, word, one, other) {
         return Checked::Refused(Refusal {
             number: 1,
             line: 0,
