@@ -82,8 +82,9 @@ answered-cleared s t u v w (R.Is a) long (σ, accepted, are, table, clear) = (
 
 -- the tables once they are cleared
 module _ {t t′ : List ℕ} {v v′ : Tables} (et : t′ ≡ cleared t) (ev : v′ ≡ clearedTables v) (long : Lengths t v) where
-  pub ready : (128 ≤ length t′) × (t′ ≡ cleared t′) × Long v′ × (v′ ≡ clearedTables v′)
-  ready = rw (et, ev) (rw (length-cleared t) (long .cells), sym (cleared-twice t), long-cleared v (long .long), sym (tables-twice v))
+  pub ready : Lengths t′ v′ × (t′ ≡ cleared t′) × (v′ ≡ clearedTables v′)
+  ready =
+      rw (et, ev) (record { cells = rw (length-cleared t) (long .cells); long = long-cleared v (long .long) }, sym (cleared-twice t), sym (tables-twice v))
 
   pub reads : (s u : List ℕ) (w : Tables) (r : Read) → read.ReadsLong s t′ u v′ w r → read.Reads s t u v w r
   reads s u w r j = answered-cleared s t u v w r long (rw (et, ev) at j)

@@ -1,9 +1,7 @@
 // Questions 2 to 10 on a sheet file.
 ghost use mathlib.Core.Path.{_≡_};
-ghost use Prim.Native.Nat.{_≤_};
-ghost use lib.ListN.{length};
 ghost use Rattle.gate.specs.Gate.{cleared};
-ghost use Rattle.automaton.specs.Lent.{tables, Long, clearedTables};
+ghost use Rattle.automaton.specs.Lent.{tables, Lengths, clearedTables};
 ghost use Rattle.sheet.specs.Read.{ReadsLong};
 use super::Read;
 use gate::Refusal;
@@ -18,7 +16,7 @@ pub fn read_cleared(
     one: &mut [u16],
     other: &mut [u16],
 ) -> Read
-    requires { ⌜ (128 ≤ length (now table)) × (now table ≡ cleared (now table)) × Long (tables (now word) (now one) (now other))
+    requires { ⌜ Lengths (now table) (tables (now word) (now one) (now other)) × (now table ≡ cleared (now table))
         × (tables (now word) (now one) (now other) ≡ clearedTables (tables (now word) (now one) (now other))) ⌝ }
     ensures { λ r. ⌜ ReadsLong (now (sheet .entry)) (now (table .entry)) (now (table .exit))
         (tables (now (word .entry)) (now (one .entry)) (now (other .entry))) (tables (now (word .exit)) (now (one .exit)) (now (other .exit))) r ⌝ }

@@ -1,5 +1,5 @@
 -- The file's answer, then the walk check's on its automaton: ReadAnswers. Assumes nothing.
-use Prim.Native.Nat.{ℕ}
+use Prim.Native.Nat.{ℕ, _≤_}
 use mathlib.Core.Path.{_≡_, sym, _∙_, ap, subst}
 use native.Mathlib.Omega.{arith}
 use lib.ListN.{length, replicate}
@@ -31,10 +31,13 @@ abbrev told : tie.After-ask → tie.After-known-told2
 told c = c .before .before .before .before .before
 
 zeros : (c : tie.After-read-file) → lent (start c) ≡ clearedTables (lent (start c))
-zeros c = start c .pre .3
+zeros c = start c .pre .2
 
 kept : (c : tie.After-read-file) → length (c .read-file .last .1 .0) ≡ length (start c .args .table .now)
 kept c = c .read-file .kept .1 .0
+
+cells : (c : tie.After-read-file) → 128 ≤ length (c .read-file .last .1 .0)
+cells c = omega (arith, start c .pre .0 .cells, kept c)
 
 -- the answer x on the file
 abbrev Read-as : tie.After-read-file → File → Type 0
@@ -65,17 +68,16 @@ enum-known-a : tie.Need-enum-known-a
 enum-known-a c = search needs
 
 slice-reshare-prefix-ask : tie.Need-slice-reshare-prefix-ask
-slice-reshare-prefix-ask c = search needs
+slice-reshare-prefix-ask c = cells (read c)
 
 slice-aggregate-ask : tie.Need-slice-aggregate-ask
 slice-aggregate-ask c =
-    let same = kept (read (c .before)) in
-    sym (length-take-le 128 (read (c .before) .read-file .last .1 .0) (omega arith))
+    sym (length-take-le 128 (read (c .before) .read-file .last .1 .0) (cells (read (c .before))))
 
 ask-requires : tie.Need-ask-requires
 ask-requires c κs =
     let k = c .before .before .before .before in
-    asked (reads-file k) (zeros (read k)) (start (read k) .pre .2)
+    asked (reads-file k) (zeros (read k)) (start (read k) .pre .0 .long)
 
 same-length : tie.Need-same-length
 same-length c = search needs
