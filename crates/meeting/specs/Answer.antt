@@ -1,16 +1,15 @@
 -- Document 01, question 10, "Is the sheet free of meeting walks? No: 10, with the walks", and how its answer is handed over.
-use Prim.Native.Nat.{ℕ, _≤_, _<_}
+use Prim.Native.Nat.{ℕ, _<_}
 use mathlib.Core.Path.{_≡_}
 use lib.ListN.{length}
 use Rattle.automaton.specs.Automaton.{Automaton, Fits}
 use Rattle.automaton.specs.Meeting.{Free, Witness}
-use Rattle.automaton.specs.Lent.{Tables, Long, clearedTables, SameLengths}
+use Rattle.automaton.specs.Lent.{Tables, Lengths, clearedTables, SameLengths}
 
 -- the questions before are answered yes, and the tables are lent, long enough and all zero
 pub record Asked (A : Automaton) (v : Tables) : Type 0 where
   pub fits : Fits A
-  pub cells : 128 ≤ length (A .table)
-  pub long : Long v
+  pub lengths : Lengths (A .table) v
   pub zeros : v ≡ clearedTables v
 
 -- 0 for yes, and else the length of the witness word, with the witness in the tables; v are the tables before, w after

@@ -37,8 +37,7 @@ module _ {s t u rows : List ℕ} {a : Numbers} (h : FileAccepted s t u rows a) w
     pub asked : Long v → Asked (automaton a (take 128 u)) v
     asked long = record {
       fits = subst Fits (sym sheet-automaton) (sheet-fits s (h .sheet) (h .file));
-      cells = subst (λ (A : Automaton). 128 ≤ length (A .table)) (sym sheet-automaton) (omega (arith, numbers-length (h .sheet)));
-      long = long;
+      lengths = record { cells = subst (λ (A : Automaton). 128 ≤ length (A .table)) (sym sheet-automaton) (omega (arith, numbers-length (h .sheet))); long = long };
       zeros = zeros;
     }
 

@@ -32,7 +32,7 @@ ask-requires : tie.Need-ask-requires
 ask-requires c κs =
     let passed = c .before .before .before in
     let p = start (passed .before) .pre in
-    record { fits = fits passed; cells = p .0 .cells; long = p .0 .long; zeros = p .1 }
+    record { fits = fits passed; lengths = p .0; zeros = p .1 }
 
 same-length : tie.Need-same-length
 same-length c = search needs
