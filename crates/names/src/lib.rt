@@ -1,12 +1,13 @@
 // The names of letters: where one ends, and the bytes that it composes to.
 ghost use mathlib.Core.Path.{_≡_};
-ghost use Prim.Native.Nat.{_+_, _-_, _<_, _≤_, _^_};
+ghost use Prim.Native.Nat.{_+_, _-_, _*_, _<_, _≤_, _^_};
 ghost use lib.ListN.{length};
 ghost use lib.Seq.{sets};
 ghost use Rattle.gate.specs.Gate.{Decides, padded};
 ghost use Rattle.text.specs.Bytes.{stretch};
 ghost use Rattle.names.specs.Name.{oneOf, isUmlaut, isVowel, isDecomposed, umlautOf, IsName, compose};
 ghost use Rattle.names.specs.Scan.{widthOf, partsEnd, nameEndAt, nameFits};
+ghost use Rattle.names.specs.Rows.{FirstLike};
 ghost use Rattle.names.specs.Row.{diaeresisAt, row, Stretches};
 
 // Where a name ends: the position of the LF behind it.
@@ -199,7 +200,7 @@ pub fn compose_into(s: &[u8], start: usize, end: usize, rows: &mut [u8], at: usi
 }
 
 // Whether the rows at a and at b are equal.
-pub fn same_row(rows: &[u8], a: usize, b: usize) -> bool
+fn same_row(rows: &[u8], a: usize, b: usize) -> bool
     requires { ⌜ (a + 24 ≤ length (now rows)) × (b + 24 ≤ length (now rows)) ⌝ }
     ensures { λ r. ⌜ Decides r (row (now (rows .entry)) a ≡ row (now (rows .entry)) b) ⌝ }
 {
@@ -209,4 +210,19 @@ pub fn same_row(rows: &[u8], a: usize, b: usize) -> bool
         }
     }
     true
+}
+
+// The first row that is like row `count`.
+pub fn first_like(rows: &[u8], count: usize) -> usize
+    requires { ⌜ (count ≤ 8) × (24 * count + 24 ≤ length (now rows)) ⌝ }
+    ensures { λ r. ⌜ FirstLike (now (rows .entry)) count r ⌝ }
+{
+    let mut l = 0;
+    while l < count {
+        if same_row(rows, 24 * l, 24 * count) {
+            return l;
+        }
+        l += 1;
+    }
+    count
 }

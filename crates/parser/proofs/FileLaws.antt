@@ -12,7 +12,7 @@ use Rattle.parser.specs.Phase.{Phase, refused, passed, andThen}
 use Rattle.format.specs.Format.{mostSheet}
 use borrow.Author.Tests.{lt-ltb, le-ltb}
 use Rattle.parser.specs.PhaseAnswers.{statesAnswer, FillsTable, NamesRead, NumbersRead, FileRead}
-use Rattle.parser.specs.Rows.{HoldNames}
+use Rattle.names.specs.Rows.{HoldNames}
 use Rattle.automaton.specs.Automaton.{InRange}
 use Rattle.parser.specs.declared.Place.{Place}
 use Rattle.parser.specs.declared.File.{File}

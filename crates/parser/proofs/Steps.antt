@@ -17,9 +17,9 @@ use Rattle.text.specs.Bytes.{stretch}
 use Rattle.names.specs.Name.{compose}
 use Rattle.gate.specs.Gate.{padded}
 use Rattle.names.specs.NameLaws.{composed-name}
-use Rattle.parser.specs.Rows.{HoldNames, FirstLike}
+use Rattle.names.specs.Rows.{HoldNames, FirstLike}
 use Rattle.parser.specs.LetterLaws.{letter-is}
-use Rattle.parser.specs.RowsLaws.{holds-more, row-tells}
+use Rattle.names.specs.RowsLaws.{holds-more, row-tells}
 use Rattle.parser.specs.NameLaws.{name-line-is}
 use Rattle.names.specs.declared.Ending.the-variants as E
 use Rattle.parser.specs.declared.StateLine.{StateLine}

@@ -9,7 +9,7 @@ use Rattle.lists.specs.SearchLaws.{tells-same, first-found, first-one}
 use Rattle.names.specs.Name.{compose}
 use Rattle.format.specs.Format.{Distinct}
 use Rattle.parser.specs.Phase.{letterOf}
-use Rattle.parser.specs.Rows.{FirstName}
+use Rattle.names.specs.Rows.{FirstName}
 
 pub letter-first : (names : List (List ℕ)) (x : List ℕ) → FirstName names x (letterOf names x)
 letter-first names x = first-found [] x (λ y. same y x) (tells-same x) names

@@ -1,6 +1,5 @@
 pub mod Phase
 pub mod Parse
-pub mod Rows
 pub mod PhaseAnswers
 pub mod FieldLaws
 pub mod EndLaws
@@ -13,4 +12,3 @@ pub mod TransitionLaws
 pub mod ParseLaws
 pub mod CompleteLaws
 pub mod UniqueLaws
-pub mod RowsLaws

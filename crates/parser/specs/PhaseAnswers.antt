@@ -24,7 +24,7 @@ use Rattle.parser.specs.declared.End.{End}
 use Rattle.parser.specs.declared.End.the-variants as E
 use Rattle.parser.specs.Parse.{Named, Contents}
 use Rattle.parser.specs.Phase.{Phase, refused, passed}
-use Rattle.parser.specs.Rows.{HoldNames}
+use Rattle.names.specs.Rows.{HoldNames}
 use Rattle.automaton.specs.Lent.{lentTable}
 
 -- a first line

@@ -1,7 +1,7 @@
 // The lines of a sheet file, read from the top: questions 2 to 9; the first and the last line also of a plan.
 pub mod first_line;
 pub mod last_line;
-pub mod name_lines;
+mod name_lines;
 mod state_lines;
 mod transition_lines;
 pub mod whole_file;

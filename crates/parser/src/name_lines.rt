@@ -1,11 +1,10 @@
 // The name lines of a sheet: questions 5 and 6.
 ghost use mathlib.Core.Path.{_≡_};
-ghost use Prim.Native.Nat.{_+_, _*_, _<_, _≤_, _^_};
+ghost use Prim.Native.Nat.{_+_, _<_, _≤_, _^_};
 ghost use mathlib.Core.List.{[]};
 ghost use lib.ListN.{length};
 ghost use Rattle.names.specs.Scan.{nameFits};
 ghost use Rattle.parser.specs.Parse.{nameLineAt, namesAt};
-ghost use Rattle.parser.specs.Rows.{FirstLike};
 ghost use Rattle.parser.specs.PhaseAnswers.{NamesRead};
 use super::Names;
 use super::Place;
@@ -21,21 +20,6 @@ fn name_line(s: &[u8], at: usize, l: usize) -> Ending
         return names::name_end(s, at + 5);
     }
     Ending::Bad
-}
-
-// The first row that is like row `count`.
-pub fn first_like(rows: &[u8], count: usize) -> usize
-    requires { ⌜ (count ≤ 8) × (24 * count + 24 ≤ length (now rows)) ⌝ }
-    ensures { λ r. ⌜ FirstLike (now (rows .entry)) count r ⌝ }
-{
-    let mut l = 0;
-    while l < count {
-        if names::same_row(rows, 24 * l, 24 * count) {
-            return l;
-        }
-        l += 1;
-    }
-    count
 }
 
 // The lines of k names, from the second line on. Each name is composed into its row.
@@ -55,7 +39,7 @@ pub fn read_names(s: &[u8], k: usize, rows: &mut [u8]) -> Names
             });
         };
         names::compose_into(s, at + 5, e, rows, 24 * l);
-        if first_like(rows, l) != l {
+        if names::first_like(rows, l) != l {
             return Names::Refused(Refusal {
                 number: 6,
                 line,

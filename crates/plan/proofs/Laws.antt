@@ -15,7 +15,7 @@ use Rattle.gate.specs.Gate.{refusal}
 use Rattle.gate.specs.declared.Refusal.{Refusal}
 use Rattle.parser.specs.declared.Place.{Place}
 use Rattle.parser.specs.Phase.{Phase, refused, passed, andThen}
-use Rattle.parser.specs.Rows.{HoldNames}
+use Rattle.names.specs.Rows.{HoldNames}
 use Rattle.plan.specs.declared.LetterLine.{LetterLine}
 use Rattle.plan.specs.declared.LetterLine.the-variants as L
 use Rattle.plan.specs.declared.Lengths.{Lengths}

@@ -6,7 +6,7 @@ use lib.ListN.{length, drop}
 use Rattle.gate.specs.Gate.{RefusedBy}
 use Rattle.names.specs.Name.{compose}
 use Rattle.format.specs.Format.{Sheet}
-use Rattle.parser.specs.Rows.{HoldNames}
+use Rattle.names.specs.Rows.{HoldNames}
 use Rattle.plan.specs.declared.Planned.{Planned}
 use Rattle.plan.specs.declared.Planned.the-variants.{Refused, Is}
 use Rattle.plan.specs.Plan.{PlanIs, Faulty}

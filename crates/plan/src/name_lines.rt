@@ -3,7 +3,7 @@ ghost use mathlib.Core.Path.{_≡_};
 ghost use mathlib.Core.List.{List, []};
 ghost use Prim.Native.Nat.{ℕ, _<_, _≤_, _^_};
 ghost use lib.ListN.{length};
-ghost use Rattle.parser.specs.Rows.{HoldNames};
+ghost use Rattle.names.specs.Rows.{HoldNames};
 ghost use Rattle.plan.specs.Plan.{mostPlan};
 ghost use Rattle.plan.specs.Parse.{letterLineAt, lettersAt};
 ghost use Rattle.plan.specs.Answers.{LineFits, LettersRead, PlaceFits};

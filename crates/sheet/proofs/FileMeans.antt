@@ -14,7 +14,7 @@ use Rattle.automaton.specs.Lent.{lentTable}
 use Rattle.parser.specs.Parse.{Contents, parse}
 use Rattle.parser.specs.Phase.{Phase, refused, passed}
 use Rattle.parser.specs.ParseLaws.{Means, AreContents, parse-means}
-use Rattle.parser.specs.Rows.{HoldNames}
+use Rattle.names.specs.Rows.{HoldNames}
 use Rattle.parser.specs.PhaseAnswers.{numbersOf, FileRead}
 use Rattle.sheet.specs.Answers.{LettersOf, RowsRead}
 use Rattle.parser.specs.declared.File.{File}

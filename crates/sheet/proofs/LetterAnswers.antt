@@ -8,7 +8,7 @@ use Rattle.names.specs.Name.{IsName, compose}
 use Rattle.format.specs.Numbers.{numbers}
 use Rattle.sheet.specs.Letters.{NoName, NameIs, StandsFor}
 use Rattle.sheet.specs.LettersLaws.{stands-for, stands-none}
-use Rattle.parser.specs.Rows.{FirstName}
+use Rattle.names.specs.Rows.{FirstName}
 use Rattle.sheet.specs.Answers.{LettersOf}
 use Rattle.sheet.specs.Spelling.{spelling}
 use Rattle.sheet.specs.SpellingLaws.{spelling-is}

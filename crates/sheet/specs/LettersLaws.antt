@@ -6,7 +6,7 @@ use native.Mathlib.Omega.{arith}
 use lib.ListN.{length, length-map}
 use Rattle.names.specs.Name.{IsName, compose}
 use Rattle.format.specs.Format.{Sheet}
-use Rattle.parser.specs.Rows.{FirstName}
+use Rattle.names.specs.Rows.{FirstName}
 use Rattle.parser.specs.LetterLaws.{composed-at}
 use Rattle.sheet.specs.Letters.{StandsFor}
 

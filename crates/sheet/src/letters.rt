@@ -7,11 +7,10 @@ ghost use Rattle.text.specs.Bytes.{stretch};
 ghost use Rattle.names.specs.Name.{IsName, compose};
 ghost use Rattle.names.specs.Row.{Stretches};
 ghost use Rattle.sheet.specs.Answers.{RowsRead};
-ghost use Rattle.parser.specs.Rows.{HoldNames, FirstName};
+ghost use Rattle.names.specs.Rows.{HoldNames, FirstName};
 ghost use Rattle.sheet.specs.Spelling.{lineBelow, spelling};
 use names::Ending;
 use parser::File;
-use parser::name_lines::first_like;
 use parser::whole_file::read_file;
 
 // The questions 2 to 9 on a sheet file, and its composed names in rows.
@@ -61,5 +60,5 @@ pub fn letter_of(rows: &mut [u8], count: usize, s: &[u8], start: usize, end: usi
         → FirstName names (compose (stretch (now (s .entry)) start end)) r × HoldNames names (now (rows .exit))) ⌝ }
 {
     names::compose_into(s, start, end, rows, 24 * count);
-    first_like(rows, count)
+    names::first_like(rows, count)
 }

@@ -13,7 +13,7 @@ use Rattle.lists.specs.Search.{leading}
 use Rattle.lists.specs.SearchLaws.{leading-stop, leading-more, leading-first}
 use Rattle.lists.specs.StoreLaws.{sets-append}
 use Rattle.names.specs.RowLaws.{leading-name}
-use Rattle.parser.specs.Rows.{HoldNames}
+use Rattle.names.specs.Rows.{HoldNames}
 use Rattle.format.specs.Format.{nameLine, nameLines}
 use Rattle.format.specs.FormatLaws.{name-length}
 use Rattle.writer.specs.RowNames.{rowName, rowNames}

@@ -23,7 +23,7 @@ use Rattle.walks.specs.declared.Checked.the-variants as K
 use Rattle.walks.specs.Check.{Checks}
 use Rattle.sheet.specs.declared.Read.the-variants as R
 use Rattle.sheet.specs.Read.{Reads}
-use Rattle.parser.specs.Rows.{HoldNames}
+use Rattle.names.specs.Rows.{HoldNames}
 use Rattle.parser.specs.declared.File.{File}
 use Rattle.parser.specs.declared.File.the-variants as F
 use Rattle.sheet.specs.Answers.{RowsRead}

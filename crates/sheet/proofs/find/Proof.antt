@@ -7,7 +7,7 @@ use borrow.Author.Tests.{not-true, not-false}
 use denote.Ref.{now}
 use lib.ListN.{length}
 use Rattle.names.specs.Name.{IsName, compose}
-use Rattle.parser.specs.Rows.{FirstName}
+use Rattle.names.specs.Rows.{FirstName}
 use Rattle.sheet.specs.Answers.{LettersOf}
 use Rattle.text.specs.BytesLaws.{stretch-end}
 use Rattle.sheet.proofs.LetterAnswers.{no-name, letter-found, letter-nowhere}

@@ -9,7 +9,7 @@ use Rattle.names.specs.Scan.{nameEndAt}
 use Rattle.names.specs.declared.Ending.the-variants as E
 use Rattle.names.specs.ScanLaws.{name-is}
 use Rattle.parser.specs.LetterLaws.{letter-is}
-use Rattle.parser.specs.Rows.{HoldNames}
+use Rattle.names.specs.Rows.{HoldNames}
 use Rattle.plan.specs.Parse.{letterFrom}
 use Rattle.plan.proofs.Laws.{line-bad, line-known, line-unknown}
 use borrow.Author.Needs.{needs}

@@ -8,7 +8,7 @@ use mathlib.Core.List.{List, [], _∷_, _++_}
 use lib.ListN.{length, take, drop, length-set, take-append-drop}
 use Rattle.plan.proofs.Laws.{SoFar, letters-step, letters-done, stored, behind}
 use Rattle.parser.specs.Phase.{refused}
-use Rattle.parser.specs.Rows.{HoldNames}
+use Rattle.names.specs.Rows.{HoldNames}
 use Rattle.plan.specs.declared.LetterLine.{LetterLine}
 use Rattle.plan.specs.Parse.{withLetter, lettersAt}
 use borrow.Author.Needs.{needs}

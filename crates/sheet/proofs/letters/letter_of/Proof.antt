@@ -6,8 +6,8 @@ use denote.Ref.{now}
 use Rattle.text.specs.Bytes.{stretch}
 use Rattle.names.specs.Name.{compose}
 use Rattle.names.specs.NameLaws.{composed-name}
-use Rattle.parser.specs.Rows.{HoldNames, FirstLike}
-use Rattle.parser.specs.RowsLaws.{holds-still, row-tells}
+use Rattle.names.specs.Rows.{HoldNames, FirstLike}
+use Rattle.names.specs.RowsLaws.{holds-still, row-tells}
 use borrow.Author.Needs.{needs}
 use Rattle.sheet.proofs.letters.letter_of.Statement.{statement}
 use Rattle.sheet.proofs.letters.letter_of.Tie as tie

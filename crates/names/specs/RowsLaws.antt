@@ -6,12 +6,12 @@ use native.Mathlib.Omega.{arith}
 use lib.ListN.{length, getD, length-append, List·getD-append}
 use lib.Seq.{sets, getD-append-seam}
 use borrow.Author.Count.{below-more}
 use Rattle.names.specs.Name.{IsName}
 use Rattle.gate.specs.Gate.{padded}
 use Rattle.gate.specs.GateLaws.{padded-length}
 use Rattle.lists.specs.StoreLaws.{part-stored, part-kept}
 use Rattle.names.specs.RowLaws.{padded-same}
-use Rattle.parser.specs.Rows.{RowIs, HoldNames, FirstLike, FirstName}
+use Rattle.names.specs.Rows.{RowIs, HoldNames, FirstLike, FirstName}
 
 -- NAMES BY THEIR ROWS
 
