@@ -51,7 +51,7 @@ pub record Shortest (s word one other : List ℕ) : Type 0 where
 
 -- refusal 10 with a word of so many letters
 abbrev pub met : ℕ → Refusal
-met length = record { number = 10; line = 0; length = length }
+met t = record { number = 10; line = 0; length = t }
 
 -- the outcome of a verdict is the expected one
 abbrev pub VerdictIs : List ℕ → Store → Store → Outcome → Expected → Type 0

@@ -33,8 +33,8 @@ pub data Cause (s : List ℕ) (room : ℕ) (Outcomes : Type 0) (refuse : Refusal
   -- 2 to 9
   sheet-fault : (number line : ℕ) → Faulty s number line → o ≡ refuse (refusal number line) → Cause s room Outcomes refuse Then o
   -- 10
-  meeting-walks : (σ : Sheet) → FileIs s σ → (length : ℕ) (word one other : List ℕ) → Witness (numbers σ) Everywhere length word one other
-      → o ≡ refuse (met length) → Cause s room Outcomes refuse Then o
+  meeting-walks : (σ : Sheet) → FileIs s σ → (t : ℕ) (word one other : List ℕ) → Witness (numbers σ) Everywhere t word one other
+      → o ≡ refuse (met t) → Cause s room Outcomes refuse Then o
   -- 11
   no-room : (σ : Sheet) → Accepted s σ → MoreThan (numbers σ) room → o ≡ refuse (refusal 11 0) → Cause s room Outcomes refuse Then o
   -- none of these
