@@ -1,14 +1,10 @@
 -- Document 01, "A whole listing": the text over the tables' cells.
-use Prim.Native.Nat.{ℕ, zero, suc, _+_, _*_}
+use Prim.Native.Nat.{ℕ, _+_, _*_}
 use mathlib.Core.List.{List, [], _∷_, _++_}
 use lib.ListN.{getD}
 use Rattle.text.specs.Bytes.{lf, endLine}
 use Rattle.text.specs.Column.{column}
-
--- the texts of a sequence from i on, of which there are `left`, one behind the other
-unfoldable pub pieces : (ℕ → List ℕ) → ℕ → ℕ → List ℕ
-pieces g i zero = []
-pieces g i (suc left) = g i ++ pieces g (suc i) left
+use Rattle.text.specs.Pieces.{pieces}
 
 -- the first `count` numbers of a sequence in columns, w wide
 abbrev pub columns : ℕ → (ℕ → ℕ) → ℕ → List ℕ

@@ -1,10 +1,10 @@
 -- The listing determines the tracker: equal listings have equal numbers, cell by cell. Assumes nothing.
-use Prim.Native.Nat.{ℕ, zero, suc, _+_, _*_, _/_, _%_, _^_, _≤_, _<_}
+use Prim.Native.Nat.{ℕ, _+_, _*_, _/_, _%_, _^_, _≤_, _<_}
 use mathlib.Core.Path.{_≡_, refl, sym, ap, _∙_}
 use mathlib.Core.List.{List, [], _∷_, _++_}
 use native.Mathlib.Decide.{decLt}
 use native.Mathlib.Omega.{arith}
-use lib.ListN.{length, getD, List·getD-eq-default}
+use lib.ListN.{getD, List·getD-eq-default}
 use lib.Pow.{pow-mono}
 use Rattle.automaton.specs.Automaton.{Automaton, Fits}
 use Rattle.tuple.specs.TupleLaws.{small}
@@ -14,7 +14,8 @@ use Rattle.text.specs.Bytes.{lf, endLine}
 use Rattle.lists.specs.AppendLaws.{append-same}
 use Rattle.text.specs.Column.{column}
 use Rattle.text.specs.ColumnLaws.{column-length, column-injective}
-use Rattle.listing.specs.Listing.{pieces, columns, trackLine, tupleLine, tupleLines, listing}
+use Rattle.text.specs.PiecesLaws.{pieces-same}
+use Rattle.listing.specs.Listing.{columns, trackLine, tupleLine, tupleLines, listing}
 use Rattle.listing.specs.Put.{cellsFrom, Sizes}
 use Rattle.listing.specs.PutLaws.{columns-length, line-length, lines-length, first-length}
 
@@ -36,19 +37,6 @@ column-same : (w u v : ℕ) (c d : List ℕ) → u < 10 ^ w → v < 10 ^ w → c
 column-same w u v c d p q e =
     let (x, y) = append-same (column w u) (column w v) c d (column-length w u ∙ sym (column-length w v)) e in
     (column-injective w u v p q x, y)
-
--- pieces as long, one by one
-pieces-same : (g h : ℕ → List ℕ) → ((i : ℕ) → length (g i) ≡ length (h i)) → (i left : ℕ) → pieces g i left ≡ pieces h i left
-    → (j : ℕ) → i ≤ j → j < i + left → g j ≡ h j
-unfolding pieces
-pieces-same g h each i zero e j a b = absurd (omega arith)
-pieces-same g h each i (suc left) e j a b =
-    by (append-same (g i) (h i) (pieces g (suc i) left) (pieces h (suc i) left) (each i) e) (decLt i j) (pieces-same g h each (suc i) left)
-  where
-    by : (g i ≡ h i) × (pieces g (suc i) left ≡ pieces h (suc i) left) → Dec (i < j)
-        → (pieces g (suc i) left ≡ pieces h (suc i) left → (j : ℕ) → suc i ≤ j → j < suc i + left → g j ≡ h j) → g j ≡ h j
-    by (x, y) (yes k) ih = ih y j k (omega arith)
-    by (x, y) (no k) ih = let z : j ≡ i = omega arith in ap g z ∙ x ∙ ap h (sym z)
 
 columns-same : (w : ℕ) (f g : ℕ → ℕ) → ((j : ℕ) → f j < 10 ^ w) → ((j : ℕ) → g j < 10 ^ w) → (count : ℕ) → columns w f count ≡ columns w g count
     → (j : ℕ) → j < count → f j ≡ g j

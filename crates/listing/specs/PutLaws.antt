@@ -1,27 +1,20 @@
 -- The text of a listing: its length, and how it is written part by part. Assumes nothing.
-use Prim.Native.Nat.{ℕ, zero, suc, _+_, _-_, _*_, _≤_, _<_}
-use mathlib.Core.Path.{_≡_, refl, sym, ap, _∙_}
+use Prim.Native.Nat.{ℕ, _+_, _*_, _≤_}
+use mathlib.Core.Path.{_≡_, refl, _∙_}
 use mathlib.Core.List.{List, [], _∷_, _++_}
-use native.Mathlib.Numerals.{add-one}
-use native.Mathlib.Nat.{mul-le-mul, suc-mul, sub-zero, sub-eq-zero-of-le}
+use native.Mathlib.Nat.{mul-le-mul}
 use native.Mathlib.Omega.{arith}
 use lib.ListN.{length, getD, length-append}
-use lib.Seq.{sets, length-sets}
+use lib.Seq.{sets}
 use Rattle.text.specs.Bytes.{lf, endLine}
 use Rattle.text.specs.Column.{column}
 use Rattle.text.specs.ColumnLaws.{column-length}
-use Rattle.lists.specs.LeftLaws.{left-more}
 use Rattle.lists.specs.StoreLaws.{sets-part}
-use Rattle.listing.specs.Listing.{pieces, columns, trackLine, tupleLine, tupleLines, listing}
+use Rattle.text.specs.PiecesLaws.{pieces-length}
+use Rattle.listing.specs.Listing.{columns, trackLine, tupleLine, tupleLines, listing}
 use Rattle.listing.specs.Put.{cellsFrom, lineBytes, listingBytes, Sizes}
 
 -- LENGTHS
-
--- pieces of w bytes each
-pieces-length : (g : ℕ → List ℕ) (w : ℕ) → ((i : ℕ) → length (g i) ≡ w) → (i left : ℕ) → length (pieces g i left) ≡ left * w
-unfolding pieces
-pieces-length g w each i zero = omega arith
-pieces-length g w each i (suc left) = length-append (g i) (pieces g (suc i) left) ∙ omega (arith, each i, pieces-length g w each (suc i) left, suc-mul left w)
 
 pub columns-length : (w : ℕ) (f : ℕ → ℕ) (count : ℕ) → length (columns w f count) ≡ count * w
 columns-length w f count = pieces-length (λ i. column w (f i)) w (λ i. column-length w (f i)) 0 count
@@ -94,46 +87,3 @@ listing-put out n k count tuples nexts =
     let ls = tupleLines n k tuples nexts count in
     sets-part (trackLine n k count) (ls ++ endLine) out 0 17 (omega (arith, first-length n k count))
     ∙ sets-part ls endLine (sets out 0 (trackLine n k count)) 17 (17 + count * lineBytes n k) (omega (arith, lines-length n k tuples nexts count))
-
--- THE LOOP that writes pieces of w bytes each
-
--- before piece i, at position p: what is left to write gives the whole, which stands at `at` in a buffer that was o
-pub record Putting (g : ℕ → List ℕ) (o : List ℕ) (at count : ℕ) (out : List ℕ) (p i : ℕ) : Type 0 where
-  pub within : i ≤ count
-  pub kept : length out ≡ length o
-  pub room : p + length (pieces g i (count - i)) ≤ length o
-  pub whole : sets out p (pieces g i (count - i)) ≡ sets o at (pieces g 0 count)
-
-module _ (g : ℕ → List ℕ) (w : ℕ) (each : (i : ℕ) → length (g i) ≡ w) {o : List ℕ} {at count : ℕ} where
-  pub put-none : at + count * w ≤ length o → Putting g o at count o at 0
-  put-none h = record { within = omega arith; kept = refl; room = rw sub-zero (omega (arith, pieces-length g w each 0 count)); whole = rw sub-zero refl }
-
-  module _ {out : List ℕ} {p i : ℕ} (h : Putting g o at count out p i) (l : i < count) where
-    abbrev rest : List ℕ
-    rest = pieces g (i + 1) (count - (i + 1))
-
-    left : pieces g i (count - i) ≡ g i ++ rest
-    unfolding pieces
-    left = rw (left-more l, add-one)
-
-    left-length : length (pieces g i (count - i)) ≡ w + length rest
-    left-length = ap length left ∙ length-append (g i) rest ∙ ap (_+ length rest) (each i)
-
-    pub put-room : p + w ≤ length out
-    put-room = omega (arith, left-length, h .room, h .kept)
-
-    pub put-more : {out' : List ℕ} → out' ≡ sets out p (g i) → Putting g o at count out' (p + w) (i + 1)
-    put-more {out'} e = record {
-      within = omega arith;
-      kept = ap length e ∙ length-sets out p (g i) ∙ h .kept;
-      room = omega (arith, left-length, h .room);
-      whole =
-          ap (λ (x : List ℕ). sets x (p + w) rest) e
-          ∙ sym (ap (sets out p) left ∙ sets-part (g i) rest out p (p + w) (ap (p +_) (each i)))
-          ∙ h .whole;
-    }
-
--- behind the last
-pub put-all : {g : ℕ → List ℕ} {o : List ℕ} {at count : ℕ} {out : List ℕ} {p i : ℕ} → Putting g o at count out p i → count ≤ i → out ≡ sets o at (pieces g 0 count)
-unfolding pieces
-put-all h l = rw (sub-eq-zero-of-le l) at (h .whole)

@@ -7,7 +7,8 @@ use lib.ListN.{length}
 use Rattle.text.specs.Column.{column}
 use Rattle.text.specs.ColumnLaws.{column-length}
 use Rattle.listing.specs.Put.{cellsFrom}
-use Rattle.listing.specs.PutLaws.{Putting, put-none, put-room, put-more, put-all}
+use Rattle.text.specs.PiecesLaws.{Putting, put-none, put-room, put-more, put-all}
+use Rattle.listing.specs.PutLaws.{columns-length}
 use borrow.Author.Needs.{needs}
 use Rattle.listing.proofs.writing.put_cells.Statement.{statement}
 use Rattle.listing.proofs.writing.put_cells.Tie as tie
@@ -28,7 +29,7 @@ wide c i = column-length (c .args .w) (cellsFrom (c .args .table .now) (c .args 
 loop-holds : tie.Need-loop-holds Inv-loop μ-loop
 loop-holds c =
     let s = c .before .before in
-    put-none (cells s) (s .args .w) (wide s) (s .pre .bytes)
+    put-none (rw (columns-length (s .args .w) (cellsFrom (s .args .table .now) (s .args .from)) (s .args .count)) (s .pre .bytes))
 
 add-put-column : tie.Need-add-put-column Inv-loop μ-loop
 add-put-column c = search needs
@@ -45,7 +46,8 @@ cast-put-column c = omega (arith, c .shared-slice-known2 .given (c .before .befo
 put-column-requires : tie.Need-put-column-requires Inv-loop μ-loop
 put-column-requires c κs =
     let s = c .before .before .before .before .before .before in
-    (s .pre .wide, put-room (cells s) (s .args .w) (wide s) (c .before .before .before .loop .inv) (c .before .before .loop-test .taken))
+    let h = c .before .before .before .loop in
+    (s .pre .wide, rw (wide s (h .i)) at (put-room (h .inv) (c .before .before .loop-test .taken)))
 
 add-p : tie.Need-add-p Inv-loop μ-loop
 add-p c = search needs
@@ -60,7 +62,8 @@ loop-again : tie.Need-loop-again Inv-loop μ-loop
 loop-again c =
     let tested = c .before .before .before .before .before in
     let s = tested .before .before .before .before in
-    put-more (cells s) (s .args .w) (wide s) (tested .before .loop .inv) (tested .loop-test .taken) (c .before .before .put-column .ensures)
+    let h = tested .before .loop in
+    put-more (h .inv) (tested .loop-test .taken) (c .before .before .put-column .ensures) (rw (wide s (h .i)))
 
 same-length : tie.Need-same-length Inv-loop μ-loop
 same-length c = search needs

@@ -7,7 +7,8 @@ use lib.ListN.{length}
 use Rattle.tracker.specs.BuildLaws.{room-less}
 use Rattle.listing.specs.Listing.{tupleLine}
 use Rattle.listing.specs.Put.{lineBytes}
-use Rattle.listing.specs.PutLaws.{line-length, Putting, put-none, put-room, put-more, put-all}
+use Rattle.text.specs.PiecesLaws.{Putting, put-none, put-room, put-more, put-all}
+use Rattle.listing.specs.PutLaws.{line-length, lines-length}
 use borrow.Author.Needs.{needs}
 use Rattle.listing.proofs.writing.put_tuples.Statement.{statement}
 use Rattle.listing.proofs.writing.put_tuples.Tie as tie
@@ -40,7 +41,8 @@ add-line-2 c = search needs
 loop-holds : tie.Need-loop-holds Inv-loop μ-loop
 loop-holds c =
     let s = c .before .before .before in
-    put-none (lines s) _ (long s) (s .pre .1)
+    let a = s .args in
+    put-none (rw (lines-length (a .n) (a .k) (a .tuples .now) (a .nexts .now) (a .count)) (s .pre .1))
 
 put-tuple-requires : tie.Need-put-tuple-requires Inv-loop μ-loop
 put-tuple-requires c κs =
@@ -49,7 +51,7 @@ put-tuple-requires c κs =
     let p = s .pre .0 in
     let z = p .sizes in (
       record { sizes = record { states = z .states; letters = z .letters; most = omega (arith, z .most) }; room = room-less (omega arith) (omega arith) (p .room) },
-      put-room (lines s) _ (long s) (c .before .before .loop .inv) h,
+      rw (long s (c .before .before .loop .t)) at (put-room (c .before .before .loop .inv) h),
     )
 
 add-p : tie.Need-add-p Inv-loop μ-loop
@@ -65,7 +67,8 @@ loop-again : tie.Need-loop-again Inv-loop μ-loop
 loop-again c =
     let tested = c .before .before .before .before in
     let s = tested .before .before .before .before .before in
-    put-more (lines s) _ (long s) (tested .before .loop .inv) (tested .loop-test .taken) (c .before .before .put-tuple .ensures)
+    let h = tested .before .loop in
+    put-more (h .inv) (tested .loop-test .taken) (c .before .before .put-tuple .ensures) (rw (long s (h .t)))
 
 same-length : tie.Need-same-length Inv-loop μ-loop
 same-length c = search needs
