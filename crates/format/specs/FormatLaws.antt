@@ -1,5 +1,5 @@
--- The lines of a sheet: how long they are, what stands behind them, and the order of transitions. Assumes nothing.
-use Prim.Native.Nat.{ℕ, suc, _+_, _*_, _<_}
+-- The lines of a sheet: how long they are, what stands behind them, the order of transitions, and the numbers of faults. Assumes nothing.
+use Prim.Native.Nat.{ℕ, suc, _+_, _*_, _≤_, _<_}
 use mathlib.Core.Path.{_≡_, refl, _∙_}
 use mathlib.Core.Logic.{inl, inr, _↔_}
 use mathlib.Core.List.{List, [], _∷_, _++_, append-assoc}
@@ -10,7 +10,7 @@ use Rattle.text.specs.Bytes.{lf, space}
 use Rattle.text.specs.BytesLaws.{stretch-rest}
 use Rattle.text.specs.Column.{column}
 use Rattle.text.specs.PairLaws.{first-length}
-use Rattle.format.specs.Format.{State, Transition, Sheet, sheetWord, headLine, nameLine, stateLine, transitionLine, nameLines, stateLines, transitionLines, lines, place, Before}
+use Rattle.format.specs.Format.{State, Transition, Sheet, sheetWord, headLine, nameLine, stateLine, transitionLine, nameLines, stateLines, transitionLines, lines, place, Before, Faulty, wrong-name, name-twice, wrong-transition, no-end, not-last}
 
 pub head-length : (n k : ℕ) → length (headLine n k) ≡ 12
 unfolding headLine
@@ -74,3 +74,15 @@ module _ (t u : Transition) (l : t .letter < 8) (m : u .letter < 8) (a : t .to <
       back (inl f) = omega arith
       back (inr (f, inl g)) = omega arith
       back (inr (f, inr (g, d))) = omega arith
+
+-- THE NUMBERS of a file's faults: questions 2 to 9
+pub fault-number : {s : List ℕ} {number line : ℕ} → Faulty s number line → (2 ≤ number) × (number ≤ 9)
+fault-number (Faulty.size a) = (omega arith, omega arith)
+fault-number (Faulty.head a b) = (omega arith, omega arith)
+fault-number (Faulty.range a n k rest b c d e) = (omega arith, omega arith)
+fault-number (Faulty.name σ rest a b (wrong-name c)) = (omega arith, omega arith)
+fault-number (Faulty.name σ rest a b (name-twice x after c d e)) = (omega arith, omega arith)
+fault-number (Faulty.state σ rest a b c) = (omega arith, omega arith)
+fault-number (Faulty.end σ rest a b (wrong-transition c d)) = (omega arith, omega arith)
+fault-number (Faulty.end σ rest a b (no-end c d)) = (omega arith, omega arith)
+fault-number (Faulty.end σ rest a b (not-last after c d)) = (omega arith, omega arith)

@@ -1,8 +1,8 @@
 -- Composed names in rows: the row of letter l starts at cell 24 * l.
-use Prim.Native.Nat.{ℕ, _*_, _≤_, _<_}
+use Prim.Native.Nat.{ℕ, _+_, _*_, _≤_, _<_}
 use mathlib.Core.Path.{_≡_}
 use mathlib.Core.List.{List, []}
-use lib.ListN.{length, getD}
+use lib.ListN.{length, getD, take, drop}
 use Rattle.lists.specs.Search.{First}
 use Rattle.names.specs.Name.{IsName}
 use Rattle.gate.specs.Gate.{padded}
@@ -16,6 +16,11 @@ pub record RowIs (rows : List ℕ) (l : ℕ) (x : List ℕ) : Type 0 where
 -- the rows hold composed names, those of the letters from 0 on
 abbrev pub HoldNames : List (List ℕ) → List ℕ → Type 0
 HoldNames names rows = (l : ℕ) → l < length names → RowIs rows l (getD names l [])
+
+-- only row k may differ: the rows ahead of it and what lies behind it are as they were
+pub record OnlyRow (k : ℕ) (old new : List ℕ) : Type 0 where
+  pub ahead : take (24 * k) new ≡ take (24 * k) old
+  pub behind : drop (24 * (k + 1)) new ≡ drop (24 * (k + 1)) old
 
 -- the first row that is like row `count`
 pub record FirstLike (rows : List ℕ) (count l : ℕ) : Type 0 where

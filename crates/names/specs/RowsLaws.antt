@@ -1,17 +1,17 @@
--- What rows tell of the names that they hold. Assumes nothing.
+-- What rows tell of the names that they hold, and what a name stored in a row leaves. Assumes nothing.
 use Prim.Native.Nat.{ℕ, _+_, _*_, _≤_}
-use mathlib.Core.Path.{_≡_, sym, _∙_, ap}
+use mathlib.Core.Path.{_≡_, refl, sym, _∙_, ap}
 use mathlib.Core.List.{List, [], _∷_, _++_}
 use native.Mathlib.Omega.{arith}
-use lib.ListN.{length, getD, length-append, List·getD-append}
-use lib.Seq.{sets, getD-append-seam}
+use lib.ListN.{length, getD, take, drop, length-append, List·getD-append}
+use lib.Seq.{sets, sets-eq, length-take-le, drop-at, getD-append-seam}
 use borrow.Author.Count.{below-more}
 use Rattle.names.specs.Name.{IsName}
 use Rattle.gate.specs.Gate.{padded}
 use Rattle.gate.specs.GateLaws.{padded-length}
 use Rattle.lists.specs.StoreLaws.{part-stored, part-kept}
 use Rattle.names.specs.RowLaws.{padded-same}
-use Rattle.names.specs.Rows.{RowIs, HoldNames, FirstLike, FirstName}
+use Rattle.names.specs.Rows.{RowIs, HoldNames, OnlyRow, FirstLike, FirstName}
 
 -- NAMES BY THEIR ROWS
 
@@ -26,6 +26,33 @@ first-name names rows count x l n h k f = record {
       f .first i b
       (h i (let m = f .most in omega arith) .is ∙ (ap (padded 24) e ∙ sym (k .is)));
 }
+
+-- ONE ROW WRITTEN, whatever the rows hold
+
+module _ (rows : List ℕ) (l : ℕ) (x : List ℕ) (fits : 24 * l + 24 ≤ length rows) (most : length x ≤ 24) where
+  -- what stands behind the row stays
+  pub rest-still : drop (24 * (l + 1)) (sets rows (24 * l) (padded 24 x)) ≡ drop (24 * (l + 1)) rows
+  rest-still =
+      let size = padded-length 24 x most in
+      let front : length (take (24 * l) rows ++ padded 24 x) ≡ 24 * (l + 1) =
+      length-append (take (24 * l) rows) (padded 24 x) ∙ omega (arith, length-take-le (24 * l) rows (omega arith)) in
+      let end : 24 * l + length (padded 24 x) ≡ 24 * (l + 1) = omega arith in
+      rw (sets-eq (padded 24 x) rows (24 * l) (omega arith))
+      (drop-at (take (24 * l) rows ++ padded 24 x) (drop (24 * l + length (padded 24 x)) rows) (24 * (l + 1)) front
+      ∙ ap (λ (i : ℕ). drop i rows) end)
+
+  pub only-stored : (new : List ℕ) → new ≡ sets rows (24 * l) (padded 24 x) → OnlyRow l rows new
+  only-stored new e = record {
+    ahead = ap (take (24 * l)) e ∙ part-kept (24 * l) rows (padded 24 x) (24 * l) 0 (omega arith);
+    behind = ap (drop (24 * (l + 1))) e ∙ rest-still;
+  }
+
+pub only-none : (k : ℕ) (rows : List ℕ) → OnlyRow k rows rows
+only-none k rows = record { ahead = refl; behind = refl }
+
+-- the same row once more
+pub only-again : {k : ℕ} {old mid new : List ℕ} → OnlyRow k old mid → OnlyRow k mid new → OnlyRow k old new
+only-again f g = record { ahead = g .ahead ∙ f .ahead; behind = g .behind ∙ f .behind }
 
 -- ONE ROW MORE
 

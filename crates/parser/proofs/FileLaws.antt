@@ -1,11 +1,12 @@
 -- A phase that refuses refuses the file, and a phase that passes hands on. Assumes nothing.
-use Prim.Native.Nat.{ℕ, _+_, _-_, _≤_, _<_}
-use mathlib.Core.Path.{_≡_, refl, sym, _∙_, ap}
+use Prim.Native.Nat.{ℕ, _+_, _-_, _*_, _≤_, _<_}
+use mathlib.Core.Path.{_≡_, refl, sym, _∙_, ap, subst}
 use mathlib.Core.List.{List, _++_}
 use native.Mathlib.Omega.{arith}
 use lib.ListN.{length, take, drop, replicate, length-replicate, replicate-append-replicate}
 use lib.Seq.{take-at, drop-at}
 use Rattle.gate.specs.Gate.{cleared}
+use Rattle.gate.specs.GateLaws.{cleared-twice}
 use Rattle.gate.specs.declared.Refusal.{Refusal}
 use Rattle.parser.specs.Parse.{Named, Contents, contents, headOf, afterHead, parse}
 use Rattle.parser.specs.Phase.{Phase, refused, passed, andThen}
@@ -54,28 +55,28 @@ states-pass (passed q′) next q e = let g : q′ ≡ q = cc in ap next g
 -- THE TRANSITION LINES, the last phase
 module _ (z : Sizes) (y : Named) (q : Sets) where
   pub refused-by-transitions :
-      (p : Phase (List ℕ)) (t u rest v : List ℕ) (r : Refusal) →
-      FillsTable p rest v (E.Refused r) → u ≡ cleared t → NumbersRead (andThen p (λ table. passed (contents z y q table))) t u (F.Refused r)
-  refused-by-transitions (refused number line) t u rest v r e h = (cc, h)
-  refused-by-transitions (passed table) t u rest v r e h = absurd (let d = e .0 in let z : _≡_ {A = ℕ} 0 1 = cc in omega arith)
+      (p : Phase (List ℕ)) (t u : List ℕ) (r : Refusal) →
+      FillsTable p t u (E.Refused r) → NumbersRead (andThen p (λ table. passed (contents z y q table))) t u (F.Refused r)
+  refused-by-transitions (refused number line) t u r e = ((let d = e .0 in cc), e .1)
+  refused-by-transitions (passed table) t u r e = absurd (let d = e .0 in let z : _≡_ {A = ℕ} 0 1 = cc in omega arith)
 
   pub transitions-pass :
-      (p : Phase (List ℕ)) (t u rest : List ℕ) →
-      FillsTable p rest u E.Reached → rest ≡ replicate (length t - 128) 0 →
+      (p : Phase (List ℕ)) (t u : List ℕ) →
+      FillsTable p t u E.Reached → drop 128 t ≡ replicate (length t - 128) 0 →
       NumbersRead (andThen p (λ table. passed (contents z y q table))) t u
       (F.Is (record { n = z .n; k = z .k; initial = q .initial; recurring = q .recurring }))
-  transitions-pass (refused number line) t u rest e h = absurd (let z : _≡_ {A = ℕ} 0 1 = cc in omega arith)
-  transitions-pass (passed table) t u rest e h = (refl, e .1 ∙ ap (λ (x : List ℕ). table ++ x) h)
+  transitions-pass (refused number line) t u e h = absurd (let d = e .0 in let z : _≡_ {A = ℕ} 0 1 = cc in omega arith)
+  transitions-pass (passed table) t u e h = (refl, e .1 ∙ ap (λ (x : List ℕ). table ++ x) h)
 
 -- THE NAME LINES
 pub refused-by-names :
-    (k : ℕ) (p : Phase Named) (next : Named → Phase Contents) (t u rows : List ℕ) (r : Refusal) →
-    NamesRead k p rows (N.Refused r) → u ≡ cleared t → FileRead (andThen p next) t u rows (F.Refused r)
-refused-by-names k (refused number line) next t u rows r e h = (cc, h)
-refused-by-names k (passed y) next t u rows r e h = absurd (let d = e .0 in let z : _≡_ {A = ℕ} 0 1 = cc in omega arith)
+    (k : ℕ) (p : Phase Named) (next : Named → Phase Contents) (t u old rows : List ℕ) (r : Refusal) →
+    NamesRead k p (cleared old) rows (N.Refused r) → u ≡ cleared t → FileRead (andThen p next) t u old rows (F.Refused r)
+refused-by-names k (refused number line) next t u old rows r e h = ((let d = e .0 in cc), h, e .1 ∙ cleared-twice old)
+refused-by-names k (passed y) next t u old rows r e h = absurd (let d = e .0 in let z : _≡_ {A = ℕ} 0 1 = cc in omega arith)
 
 -- what is known once they are read
-pub record Passes (k : ℕ) (p : Phase Named) (rows : List ℕ) (place : Place) : Type 0 where
+pub record Passes (k : ℕ) (p : Phase Named) (old rows : List ℕ) (place : Place) : Type 0 where
   pub named : Named
   pub is : p ≡ passed named
   pub at : named .at ≡ place .at
@@ -84,10 +85,11 @@ pub record Passes (k : ℕ) (p : Phase Named) (rows : List ℕ) (place : Place) 
   pub small-at : place .at ≤ 252
   pub all : length (named .names) ≡ k
   pub holds : HoldNames (named .names) rows
+  pub behind : drop (24 * k) rows ≡ drop (24 * k) old
 
-pub names-pass : (k : ℕ) (p : Phase Named) (rows : List ℕ) (place : Place) → NamesRead k p rows (N.Are place) → Passes k p rows place
-names-pass k (refused number line) rows place e = absurd (let z : _≡_ {A = ℕ} 0 1 = cc in omega arith)
-names-pass k (passed y) rows place e =
+pub names-pass : (k : ℕ) (p : Phase Named) (old rows : List ℕ) (place : Place) → NamesRead k p old rows (N.Are place) → Passes k p old rows place
+names-pass k (refused number line) old rows place e = absurd (let d = e .0 in let z : _≡_ {A = ℕ} 0 1 = cc in omega arith)
+names-pass k (passed y) old rows place e =
     let d : N.Are place ≡ N.Are (record { at = y .at; line = y .line }) = e .0 in
     let g : place ≡ record { at = y .at; line = y .line } = cc in
     record {
@@ -99,23 +101,31 @@ names-pass k (passed y) rows place e =
       small-at = rw g (e .2);
       all = e .3;
       holds = e .4;
+      behind = e .5;
     }
 
--- the names of the file are those of the name lines
-module _ (z : Sizes) (y : Named) (rows : List ℕ) (range : InRange (z .n) (z .k)) (all : length (y .names) ≡ z .k) (h : HoldNames (y .names) rows) where
-  pub with-names :
+-- THE NUMBERS, behind the name lines of y: the rows, which were `old`, are all zero or hold these names
+module _ (z : Sizes) (y : Named) (old rows : List ℕ) where
+  abbrev pub RowsLeft : File → Type 0
+  RowsLeft (F.Refused r) = rows ≡ cleared old
+  RowsLeft (F.Is a) =
+      InRange (z .n) (z .k) × (length (y .names) ≡ z .k) × HoldNames (y .names) rows × (drop (24 * z .k) rows ≡ drop (24 * z .k) (cleared old))
+
+  pub with-rows :
       (p : Phase Sets) (next : Sets → Phase (List ℕ)) (t u : List ℕ) (r : File) →
-      NumbersRead (andThen p (λ q. andThen (next q) (λ table. passed (contents z y q table)))) t u r →
-      FileRead (andThen p (λ q. andThen (next q) (λ table. passed (contents z y q table)))) t u rows r
-  with-names (refused number line) next t u r e = e
-  with-names (passed q) next t u r e = cases (next q) e
+      NumbersRead (andThen p (λ q. andThen (next q) (λ table. passed (contents z y q table)))) t u r → RowsLeft r →
+      FileRead (andThen p (λ q. andThen (next q) (λ table. passed (contents z y q table)))) t u old rows r
+  with-rows (refused number line) next t u r e left = (e .0, e .1, subst RowsLeft (e .0) left)
+  with-rows (passed q) next t u r e left = cases (next q) e
     where
       cases :
           (p : Phase (List ℕ)) →
           NumbersRead (andThen p (λ table. passed (contents z y q table))) t u r →
-          FileRead (andThen p (λ table. passed (contents z y q table))) t u rows r
-      cases (refused number line) e = e
-      cases (passed table) e = (e .0, e .1, range, all, h)
+          FileRead (andThen p (λ table. passed (contents z y q table))) t u old rows r
+      cases (refused number line) e = (e .0, e .1, subst RowsLeft (e .0) left)
+      cases (passed table) e =
+          let (range, all, holds, behind) = subst RowsLeft (e .0) left in
+          (e .0, e .1, range, all, holds, behind)
 
 -- THE SIZE
 module _ (s : List ℕ) where

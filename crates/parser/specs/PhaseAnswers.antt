@@ -1,8 +1,8 @@
 -- The answers of the code, as enums, to what the phases of Parse give, and the facts that come with them.
-use Prim.Native.Nat.{ℕ, _≤_, _<_}
+use Prim.Native.Nat.{ℕ, _*_, _≤_, _<_}
 use mathlib.Core.Path.{_≡_}
 use mathlib.Core.List.{List, _++_}
-use lib.ListN.{length}
+use lib.ListN.{length, drop}
 use Rattle.gate.specs.Gate.{refusal, cleared}
 use Rattle.automaton.specs.declared.Numbers.{Numbers}
 use Rattle.automaton.specs.Automaton.{Automaton, InRange}
@@ -41,11 +41,12 @@ abbrev pub FirstFits : Bounds → First → Type 0
 FirstFits β (R.Refused r) = Unit
 FirstFits β (R.Are a b) = WithinBounds β a b
 
--- the answer of k name lines; where they are read, the rows hold the names
-abbrev pub NamesRead : ℕ → Phase Named → List ℕ → Names → Type 0
-NamesRead k (refused number line) rows r = r ≡ N.Refused (refusal number line)
-NamesRead k (passed y) rows r =
-    (r ≡ N.Are (record { at = y .at; line = y .line })) × (y .line ≤ 10) × (y .at ≤ 252) × (length (y .names) ≡ k) × HoldNames (y .names) rows
+-- the answer of k name lines, and the rows, which were `old` and are `rows` then: all zero, or the names, and behind them what was there
+abbrev pub NamesRead : ℕ → Phase Named → List ℕ → List ℕ → Names → Type 0
+NamesRead k (refused number line) old rows r = (r ≡ N.Refused (refusal number line)) × (rows ≡ cleared old)
+NamesRead k (passed y) old rows r =
+    (r ≡ N.Are (record { at = y .at; line = y .line })) × (y .line ≤ 10) × (y .at ≤ 252) × (length (y .names) ≡ k)
+    × HoldNames (y .names) rows × (drop (24 * k) rows ≡ drop (24 * k) old)
 
 -- the flags of a state line that is read are 0 or 1
 abbrev pub FlagsFit : StateLine → Type 0
@@ -72,10 +73,10 @@ abbrev pub endAnswer : Phase (List ℕ) → End
 endAnswer (refused number line) = E.Refused (refusal number line)
 endAnswer (passed done) = E.Reached
 
--- the answer of the transition lines, and where they are read the table that they leave: their sets, and the rest as it was
+-- the answer of the transition lines, and the table, which was t and is u then: all zero, or their sets, and behind them what was there
 abbrev pub FillsTable : Phase (List ℕ) → List ℕ → List ℕ → End → Type 0
-FillsTable (refused number line) rest table r = r ≡ E.Refused (refusal number line)
-FillsTable (passed t) rest table r = (r ≡ E.Reached) × (table ≡ t ++ rest)
+FillsTable (refused number line) t u r = (r ≡ E.Refused (refusal number line)) × (u ≡ cleared t)
+FillsTable (passed sets) t u r = (r ≡ E.Reached) × (u ≡ sets ++ drop 128 t)
 
 -- an automaton's numbers but for its table
 abbrev pub numbersOf : Automaton → Numbers
@@ -86,9 +87,10 @@ abbrev pub NumbersRead : Phase Contents → List ℕ → List ℕ → File → T
 NumbersRead (refused number line) t u r = (r ≡ F.Refused (refusal number line)) × (u ≡ cleared t)
 NumbersRead (passed c) t u r = (r ≡ F.Is (numbersOf (c .numbers))) × (u ≡ lentTable (c .numbers .table) t)
 
--- with that, the rows: where the file is read, they hold its names
-abbrev pub FileRead : Phase Contents → List ℕ → List ℕ → List ℕ → File → Type 0
-FileRead (refused number line) t u rows r = (r ≡ F.Refused (refusal number line)) × (u ≡ cleared t)
-FileRead (passed c) t u rows r =
+-- with that, the rows, which were `old` and are `rows` then: all zero, or the file's names, and behind them zeros
+abbrev pub FileRead : Phase Contents → List ℕ → List ℕ → List ℕ → List ℕ → File → Type 0
+FileRead (refused number line) t u old rows r = (r ≡ F.Refused (refusal number line)) × (u ≡ cleared t) × (rows ≡ cleared old)
+FileRead (passed c) t u old rows r =
     (r ≡ F.Is (numbersOf (c .numbers))) × (u ≡ lentTable (c .numbers .table) t)
-    × InRange (c .numbers .n) (c .numbers .k) × (length (c .names) ≡ c .numbers .k) × HoldNames (c .names) rows
+    × InRange (c .numbers .n) (c .numbers .k) × (length (c .names) ≡ c .numbers .k)
+    × HoldNames (c .names) rows × (drop (24 * c .numbers .k) rows ≡ drop (24 * c .numbers .k) (cleared old))

@@ -22,16 +22,17 @@ fn name_line(s: &[u8], at: usize, l: usize) -> Ending
     Ending::Bad
 }
 
-// The lines of k names, from the second line on. Each name is composed into its row.
+// The lines of k names, from the second line on. Each name is composed into its row. A refusal leaves the rows all zero.
 pub fn read_names(s: &[u8], k: usize, rows: &mut [u8]) -> Names
     requires { ⌜ (k ≤ 8) × (192 ≤ length (now rows)) ⌝ }
-    ensures { λ r. ⌜ NamesRead k (namesAt (now (s .entry)) 2 12 [] k) (now (rows .exit)) r ⌝ }
+    ensures { λ r. ⌜ NamesRead k (namesAt (now (s .entry)) 2 12 [] k) (now (rows .entry)) (now (rows .exit)) r ⌝ }
 {
     let mut line = 2;
     let mut at = 12;
     let mut l = 0;
     while l < k {
         let Ending::At(e) = name_line(s, at, l) else {
+            gate::clear_bytes(rows);
             return Names::Refused(Refusal {
                 number: 5,
                 line,
@@ -40,6 +41,7 @@ pub fn read_names(s: &[u8], k: usize, rows: &mut [u8]) -> Names
         };
         names::compose_into(s, at + 5, e, rows, 24 * l);
         if names::first_like(rows, l) != l {
+            gate::clear_bytes(rows);
             return Names::Refused(Refusal {
                 number: 6,
                 line,

@@ -1,7 +1,7 @@
 // The transition lines of a sheet and its end: questions 8 and 9.
 ghost use mathlib.Core.Path.{_≡_};
 ghost use Prim.Native.Nat.{_+_, _<_, _≤_, _^_};
-ghost use lib.ListN.{length, take, drop};
+ghost use lib.ListN.{length, take};
 ghost use Rattle.format.specs.Format.{mostSheet};
 ghost use Rattle.parser.specs.Parse.{transitionOf, transitionLineAt, transitionsAt};
 ghost use Rattle.parser.specs.PhaseAnswers.{TransitionFits, FillsTable};
@@ -54,6 +54,7 @@ fn transition_line(s: &[u8], at: usize, n: usize, k: usize, least: usize) -> Tra
 }
 
 // The transition lines, the first of which is line `first` and stands at `start`, and the end. Each transition goes into its set.
+// A refusal leaves the table all zero.
 pub fn read_transitions(
     s: &[u8],
     n: usize,
@@ -64,13 +65,14 @@ pub fn read_transitions(
 ) -> End
     requires { ⌜ (length (now s) ≤ mostSheet) × (first ≤ 26) × (start ≤ 500) × (n ≤ 16) × (k ≤ 8) × (128 ≤ length (now table)) ⌝ }
     ensures { λ r. ⌜ FillsTable (transitionsAt (now (s .entry)) n k first start 0 (take 128 (now (table .entry))) (length (now (s .entry)) + 1))
-        (drop 128 (now (table .entry))) (now (table .exit)) r ⌝ }
+        (now (table .entry)) (now (table .exit)) r ⌝ }
 {
     let mut line = first;
     let mut at = start;
     let mut least = 0;
     while text::reader::opening(s, at) == b'T' {
         let TransitionLine::Is(from, letter, to) = transition_line(s, at, n, k, least) else {
+            gate::clear(table);
             return End::Refused(Refusal {
                 number: 8,
                 line,
@@ -83,5 +85,11 @@ pub fn read_transitions(
         line += 1;
         at += 11;
     }
-    end_line(s, 9, line, at)
+    match end_line(s, 9, line, at) {
+        End::Refused(r) => {
+            gate::clear(table);
+            End::Refused(r)
+        }
+        End::Reached => End::Reached,
+    }
 }

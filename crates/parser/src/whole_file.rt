@@ -34,10 +34,7 @@ fn read_numbers(s: &[u8], z: Sizes, place: Place, table: &mut [u16]) -> File
     match read_states(s, place.line, place.at, n) {
         States::Refused(r) => File::Refused(r),
         States::Are(q) => match read_transitions(s, n, k, q.line, q.at, table) {
-            End::Refused(r) => {
-                gate::clear(table);
-                File::Refused(r)
-            }
+            End::Refused(r) => File::Refused(r),
             End::Reached => File::Is(Numbers {
                 n,
                 k,
@@ -48,11 +45,13 @@ fn read_numbers(s: &[u8], z: Sizes, place: Place, table: &mut [u16]) -> File
     }
 }
 
-// A sheet file: its numbers, its successor sets in a table that is all zero before, and its composed names in rows.
+// A sheet file: its numbers, its successor sets in a table that is all zero before, and its composed names in rows, with zeros behind
+// them. A refusal leaves both all zero.
 pub fn read_file(s: &[u8], table: &mut [u16], rows: &mut [u8]) -> File
     requires { ⌜ (128 ≤ length (now table)) × (now table ≡ cleared (now table)) × (192 ≤ length (now rows)) ⌝ }
-    ensures { λ r. ⌜ FileRead (parse (now (s .entry))) (now (table .entry)) (now (table .exit)) (now (rows .exit)) r ⌝ }
+    ensures { λ r. ⌜ FileRead (parse (now (s .entry))) (now (table .entry)) (now (table .exit)) (now (rows .entry)) (now (rows .exit)) r ⌝ }
 {
+    gate::clear_bytes(rows);
     if 24576 < s.len() {
         return File::Refused(Refusal {
             number: 2,
@@ -70,7 +69,13 @@ pub fn read_file(s: &[u8], table: &mut [u16], rows: &mut [u8]) -> File
         First::Refused(r) => File::Refused(r),
         First::Are(n, k) => match read_names(s, k, rows) {
             Names::Refused(r) => File::Refused(r),
-            Names::Are(place) => read_numbers(s, Sizes { n, k }, place, table),
+            Names::Are(place) => match read_numbers(s, Sizes { n, k }, place, table) {
+                File::Refused(r) => {
+                    gate::clear_bytes(rows);
+                    File::Refused(r)
+                }
+                File::Is(a) => File::Is(a),
+            },
         },
     }
 }

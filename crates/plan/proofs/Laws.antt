@@ -1,6 +1,6 @@
 -- One step of each definition that the code goes along. Assumes nothing.
 use Prim.Native.Nat.{ℕ, _+_, _-_, _≤_, _<_}
-use mathlib.Core.Path.{_≡_, sym, _∙_, ap}
+use mathlib.Core.Path.{_≡_, sym, _∙_, ap, subst}
 use mathlib.Core.List.{List, [], _∷_, _++_}
 use lib.ListN.{length, take, drop, set}
 use lib.Seq.{take-suc-set, drop-set-lt, drop-drop}
@@ -10,31 +10,31 @@ use native.Mathlib.Nat.{sub-eq-zero-of-le}
 use native.Mathlib.Numerals.{add-one}
 use Rattle.lists.specs.LeftLaws.{left-more}
 use Rattle.names.specs.Scan.{nameEndAt}
-use Rattle.names.specs.declared.Ending.the-variants as E
-use Rattle.gate.specs.Gate.{refusal}
+use Rattle.names.specs.declared.Ending.the-variants as Ending
+use Rattle.gate.specs.Gate.{refusal, cleared}
 use Rattle.gate.specs.declared.Refusal.{Refusal}
 use Rattle.parser.specs.declared.Place.{Place}
-use Rattle.parser.specs.Phase.{Phase, refused, passed, andThen}
+use Rattle.parser.specs.declared.End.{End}
+use Rattle.parser.specs.declared.End.the-variants as E
+use Rattle.parser.specs.Phase.{Phase, refused, passed, andThen, endAt}
 use Rattle.names.specs.Rows.{HoldNames}
 use Rattle.plan.specs.declared.LetterLine.{LetterLine}
 use Rattle.plan.specs.declared.LetterLine.the-variants as L
 use Rattle.plan.specs.declared.Lengths.{Lengths}
 use Rattle.plan.specs.declared.Letters.the-variants as A
-use Rattle.plan.specs.declared.Planned.{Planned}
 use Rattle.plan.specs.declared.Planned.the-variants as P
-use Rattle.plan.specs.Plan.{LengthsRight}
 use Rattle.plan.specs.Parse.{Lettered, lettered, letterFrom, letterLineAt, withLetter, lettersAt, endOf, Contents, contents}
-use Rattle.plan.specs.Answers.{LengthsFit, LettersRead, planned, PlanRead}
+use Rattle.plan.specs.Answers.{LettersRead, planned, PlanRead}
 use Rattle.parser.specs.PhaseAnswers.{endAnswer}
 use Rattle.parser.specs.EndLaws.{end-same}
 
 -- ONE LINE
 module _ (names : List (List ℕ)) (p : List ℕ) (at : ℕ) where
-  pub line-bad : nameEndAt p at ≡ E.Bad → letterLineAt names p at ≡ L.Bad
+  pub line-bad : nameEndAt p at ≡ Ending.Bad → letterLineAt names p at ≡ L.Bad
   unfolding letterLineAt
   line-bad e = simp e
 
-  module _ (e l : ℕ) (end : nameEndAt p at ≡ E.At e) (letter : letterFrom names p at e ≡ l) where
+  module _ (e l : ℕ) (end : nameEndAt p at ≡ Ending.At e) (letter : letterFrom names p at e ≡ l) where
     pub line-known : l < length names → letterLineAt names p at ≡ L.Is l e
     unfolding letterLineAt
     line-known h = simp (end, letter, lt-ltb l (length names) h)
@@ -69,32 +69,35 @@ module _ (letters : List ℕ) (i l : ℕ) (h : i < length letters) where
   pub behind : (first : List ℕ) → drop i letters ≡ drop i first → drop (i + 1) (set letters i l) ≡ drop (i + 1) first
   behind first e = drop-set-lt (i + 1) letters i l (omega arith) ∙ (sym (drop-drop 1 i letters) ∙ (ap (drop 1) e ∙ drop-drop 1 i first))
 
--- the lengths of a plan that is read are those of its first line
-pub ends-fit : (z : Lengths) → LengthsRight (z .lead) (z .cycle) → (w : Phase (List ℕ)) → LengthsFit (planned z (endAnswer w))
-ends-fit z h (refused number line) = tt
-ends-fit z h (passed letters) = h
+-- THE WHOLE FILE: what the answer of a phase says of the rest. The buffer was t, and the name lines left u in it.
 
--- THE WHOLE FILE: what the answer of a phase says of the rest
-module _ (names : List (List ℕ)) (p t u : List ℕ) where
-  module _ (z : Lengths) where
-    abbrev afterLetters : Phase Lettered → Phase Contents
-    afterLetters w = andThen w (λ y. andThen (endOf p y) (λ letters. passed (contents z letters)))
+-- what the last line leaves in the buffer: zeros, or what was there
+abbrev pub EndLeaves : List ℕ → List ℕ → List ℕ → End → Type 0
+EndLeaves t u v (E.Refused r) = v ≡ cleared t
+EndLeaves t u v E.Reached = v ≡ u
 
-    pub letters-refused : (w : Phase Lettered) (r : Refusal) → LettersRead w (z .lead + z .cycle) t u (A.Refused r) → PlanRead (afterLetters w) t u (P.Refused r)
-    letters-refused (refused number line) r e = let f : r ≡ refusal number line = cc in ap P.Refused f
-    letters-refused (passed y) r e = absurd (let g = e .0 in let o : _≡_ {A = ℕ} 0 1 = cc in omega arith)
+module _ (p t u : List ℕ) (z : Lengths) where
+  abbrev afterLetters : Phase Lettered → Phase Contents
+  afterLetters w = andThen w (λ y. andThen (endOf p y) (λ letters. passed (contents z letters)))
 
-    end-read : (y : Lettered) (r : Planned) → u ≡ y .letters ++ drop (z .lead + z .cycle) t → r ≡ planned z (endAnswer (endOf p (lettered [] (y .at) (y .line))))
-        → PlanRead (andThen (endOf p y) (λ letters. passed (contents z letters))) t u r
+  pub letters-refused : (w : Phase Lettered) (r : Refusal) → LettersRead w (z .lead + z .cycle) t u (A.Refused r) → PlanRead (afterLetters w) t u (P.Refused r)
+  letters-refused (refused number line) r (e, clear) = let f : r ≡ refusal number line = cc in (ap P.Refused f, clear)
+  letters-refused (passed y) r e = absurd (let g = e .0 in let o : _≡_ {A = ℕ} 0 1 = cc in omega arith)
+
+  module _ (v : List ℕ) where
+    end-read : (y : Lettered) (r : End) → u ≡ y .letters ++ drop (z .lead + z .cycle) t → r ≡ endAnswer (endAt 12 p (y .line) (y .at) []) → EndLeaves t u v r
+        → PlanRead (andThen (endOf p y) (λ letters. passed (contents z letters))) t v (planned z r)
     unfolding endOf
-    end-read y r buffer e =
+    end-read y r buffer e left =
         end-same 12 p (y .line) (y .at) [] (y .letters)
-        (λ v w. r ≡ planned z (endAnswer v) → PlanRead (andThen w (λ letters. passed (contents z letters))) t u r) (λ n l e. e) (λ e. (e, buffer)) e
+        (λ x w. r ≡ endAnswer x → PlanRead (andThen w (λ letters. passed (contents z letters))) t v (planned z r))
+        (λ n l e. (ap (planned z) e, subst (EndLeaves t u v) e left))
+        (λ e. (ap (planned z) e, subst (EndLeaves t u v) e left ∙ buffer)) e
 
-    pub letters-read : (w : Phase Lettered) (place : Place) (r : Planned) → LettersRead w (z .lead + z .cycle) t u (A.Are place)
-        → r ≡ planned z (endAnswer (endOf p (lettered [] (place .at) (place .line)))) → PlanRead (afterLetters w) t u r
-    letters-read (refused number line) place r h e = absurd (let o : _≡_ {A = ℕ} 0 1 = cc in omega arith)
-    letters-read (passed y) place r h e =
+    pub letters-read : (w : Phase Lettered) (place : Place) (r : End) → LettersRead w (z .lead + z .cycle) t u (A.Are place)
+        → r ≡ endAnswer (endAt 12 p (place .line) (place .at) []) → EndLeaves t u v r → PlanRead (afterLetters w) t v (planned z r)
+    letters-read (refused number line) place r h e left = absurd (let g = h .0 in let o : _≡_ {A = ℕ} 0 1 = cc in omega arith)
+    letters-read (passed y) place r h e left =
         let g = h .0 in
         let f : place ≡ record { at = y .at; line = y .line } = cc in
-        end-read y r (h .1) (e ∙ ap (λ (q : Place). planned z (endAnswer (endOf p (lettered [] (q .at) (q .line))))) f)
+        end-read y r (h .1) (e ∙ ap (λ (q : Place). endAnswer (endAt 12 p (q .line) (q .at) [])) f) left

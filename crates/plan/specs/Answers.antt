@@ -3,7 +3,7 @@ use Prim.Native.Nat.{ℕ, _+_, _≤_, _<_}
 use mathlib.Core.Path.{_≡_}
 use mathlib.Core.List.{List, _++_}
 use lib.ListN.{drop}
-use Rattle.gate.specs.Gate.{refusal}
+use Rattle.gate.specs.Gate.{refusal, cleared}
 use Rattle.parser.specs.Phase.{Phase, refused, passed}
 use Rattle.parser.specs.declared.End.{End}
 use Rattle.parser.specs.declared.End.the-variants as E
@@ -33,9 +33,9 @@ abbrev pub PlaceFits : Letters → Type 0
 PlaceFits (A.Refused r) = Unit
 PlaceFits (A.Are z) = (z .at ≤ 12288) × (z .line ≤ 402)
 
--- the answer of `count` name lines, and the buffer, which was t and is u then: the letters, and behind them what was there
+-- the answer of `count` name lines, and the buffer, which was t and is u then: all zero, or the letters, and behind them what was there
 abbrev pub LettersRead : Phase Lettered → ℕ → List ℕ → List ℕ → Letters → Type 0
-LettersRead (refused number line) count t u r = r ≡ A.Refused (refusal number line)
+LettersRead (refused number line) count t u r = (r ≡ A.Refused (refusal number line)) × (u ≡ cleared t)
 LettersRead (passed y) count t u r = (r ≡ A.Are (record { at = y .at; line = y .line })) × (u ≡ y .letters ++ drop count t)
 
 -- the answer of a plan of lengths z, by that of its last line
@@ -43,7 +43,7 @@ abbrev pub planned : Lengths → End → Planned
 planned z (E.Refused r) = P.Refused r
 planned z E.Reached = P.Is z
 
--- the answer of a plan, and the buffer
+-- the answer of a plan, and the buffer: all zero, or the letters, and behind them what was there
 abbrev pub PlanRead : Phase Contents → List ℕ → List ℕ → Planned → Type 0
-PlanRead (refused number line) t u r = r ≡ P.Refused (refusal number line)
+PlanRead (refused number line) t u r = (r ≡ P.Refused (refusal number line)) × (u ≡ cleared t)
 PlanRead (passed x) t u r = (r ≡ P.Is (lengths (x .lead) (x .cycle))) × (u ≡ x .letters ++ drop (x .lead + x .cycle) t)

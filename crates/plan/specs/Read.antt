@@ -3,7 +3,7 @@ use Prim.Native.Nat.{ℕ, _+_}
 use mathlib.Core.Path.{_≡_}
 use mathlib.Core.List.{List, _++_, map}
 use lib.ListN.{length, drop}
-use Rattle.gate.specs.Gate.{RefusedBy}
+use Rattle.gate.specs.Gate.{RefusedBy, cleared}
 use Rattle.names.specs.Name.{compose}
 use Rattle.format.specs.Format.{Sheet}
 use Rattle.names.specs.Rows.{HoldNames}
@@ -17,9 +17,10 @@ pub record NamesIn (σ : Sheet) (k : ℕ) (rows : List ℕ) : Type 0 where
   pub all-names : length (σ .names) ≡ k
   pub holds : HoldNames (map compose (σ .names)) rows
 
--- QUESTIONS 12 TO 14 on a plan file over the sheet σ. The buffer was t and is u then: the lead-in's letters, the cycle's, and what was behind.
+-- QUESTIONS 12 TO 14 on a plan file over the sheet σ. The buffer was t and is u then: all zero, or the lead-in's letters, the cycle's, and
+-- behind them what was there.
 abbrev pub Reads : Sheet → List ℕ → List ℕ → List ℕ → Planned → Type 0
-Reads σ p t u (Refused r) = RefusedBy (Faulty σ p) r
+Reads σ p t u (Refused r) = RefusedBy (Faulty σ p) r × (u ≡ cleared t)
 Reads σ p t u (Is z) =
     (lead : List ℕ) × (cycle : List ℕ) × PlanIs σ p lead cycle
     × (z .lead ≡ length lead) × (z .cycle ≡ length cycle) × (u ≡ lead ++ (cycle ++ drop (z .lead + z .cycle) t))

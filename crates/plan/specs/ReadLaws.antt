@@ -16,8 +16,8 @@ use Rattle.plan.specs.Read.{Reads}
 use Rattle.plan.specs.ParseLaws.{leadOf, cycleOf, Means, plan-means}
 
 means-read : (σ : Sheet) (p t u : List ℕ) (w : Phase Contents) → Means σ p w → (r : Planned) → PlanRead w t u r → Reads σ p t u r
-means-read σ p t u (refused number line) f (Refused r) e = (number, line, f, cc)
-means-read σ p t u (refused number line) f (Is z) e = absurd (let o : _≡_ {A = ℕ} 0 1 = cc in omega arith)
+means-read σ p t u (refused number line) f (Refused r) (e, clear) = ((number, line, f, cc), clear)
+means-read σ p t u (refused number line) f (Is z) (e, clear) = absurd (let o : _≡_ {A = ℕ} 0 1 = cc in omega arith)
 means-read σ p t u (passed x) f (Refused r) e = absurd (let g = e .0 in let o : _≡_ {A = ℕ} 0 1 = cc in omega arith)
 means-read σ p t u (passed x) (n, plan) (Is z) (e, b) =
     let f : z ≡ lengths (x .lead) (x .cycle) = cc in

@@ -3,7 +3,7 @@ ghost use mathlib.Core.Path.{_≡_};
 ghost use mathlib.Core.List.{List, []};
 ghost use Prim.Native.Nat.{ℕ, _<_, _≤_, _^_};
 ghost use lib.ListN.{length};
-ghost use Rattle.names.specs.Rows.{HoldNames};
+ghost use Rattle.names.specs.Rows.{HoldNames, OnlyRow};
 ghost use Rattle.plan.specs.Plan.{mostPlan};
 ghost use Rattle.plan.specs.Parse.{letterLineAt, lettersAt};
 ghost use Rattle.plan.specs.Answers.{LineFits, LettersRead, PlaceFits};
@@ -14,11 +14,13 @@ use names::Ending;
 use parser::Place;
 use sheet::letters::letter_of;
 
-// The line at `at`. The rows hold the composed names of k letters; the line's own name goes into the row behind them.
+// The line at `at`. Where the first k rows hold the composed names of k letters, they hold them still; the line's own name goes into row k,
+// and no other byte of the rows changes, whatever they hold.
 fn letter_line(p: &[u8], at: usize, rows: &mut [u8], k: usize) -> LetterLine
     requires { ⌜ (at < 2 ^ 30) × (k ≤ 8) × (216 ≤ length (now rows)) ⌝ }
     ensures { λ r. ⌜ LineFits (length (now (p .entry))) k r × ((names : List (List ℕ)) → length names ≡ k → HoldNames names (now (rows .entry))
-        → (r ≡ letterLineAt names (now (p .entry)) at) × HoldNames names (now (rows .exit))) ⌝ }
+        → (r ≡ letterLineAt names (now (p .entry)) at) × HoldNames names (now (rows .exit)))
+        × OnlyRow k (now (rows .entry)) (now (rows .exit)) ⌝ }
 {
     let Ending::At(e) = names::name_end(p, at) else {
         return LetterLine::Bad;
@@ -30,7 +32,8 @@ fn letter_line(p: &[u8], at: usize, rows: &mut [u8], k: usize) -> LetterLine
     LetterLine::Unknown
 }
 
-// The lines of `count` names: the letters that they stand for go into the buffer.
+// The lines of `count` names: the letters that they stand for go into the buffer, which a refusal leaves all zero. Names that the first k
+// rows hold they hold still; only row k is written, whatever the rows hold.
 pub fn read_letters(
     p: &[u8],
     rows: &mut [u8],
@@ -40,7 +43,8 @@ pub fn read_letters(
 ) -> Letters
     requires { ⌜ (length (now p) ≤ mostPlan) × (k ≤ 8) × (216 ≤ length (now rows)) × (count ≤ length (now letters)) × (count ≤ 400) ⌝ }
     ensures { λ r. ⌜ PlaceFits r × ((names : List (List ℕ)) → length names ≡ k → HoldNames names (now (rows .entry))
-        → LettersRead (lettersAt names (now (p .entry)) 2 11 [] count) count (now (letters .entry)) (now (letters .exit)) r) ⌝ }
+        → HoldNames names (now (rows .exit)) × LettersRead (lettersAt names (now (p .entry)) 2 11 [] count) count (now (letters .entry)) (now (letters .exit)) r)
+        × OnlyRow k (now (rows .entry)) (now (rows .exit)) ⌝ }
 {
     let mut line = 2;
     let mut at = 11;
@@ -54,6 +58,7 @@ pub fn read_letters(
                 i += 1;
             }
             LetterLine::Unknown => {
+                gate::clear_bytes(letters);
                 return Letters::Refused(Refusal {
                     number: 14,
                     line,
@@ -61,6 +66,7 @@ pub fn read_letters(
                 });
             }
             LetterLine::Bad => {
+                gate::clear_bytes(letters);
                 return Letters::Refused(Refusal {
                     number: 12,
                     line,

@@ -1,9 +1,9 @@
 -- What the answer of a whole file says of the file: the theorem of ParseLaws, put to use. Assumes nothing.
-use Prim.Native.Nat.{ℕ}
+use Prim.Native.Nat.{ℕ, _*_}
 use mathlib.Core.Path.{_≡_, sym, _∙_, ap, subst}
 use mathlib.Core.List.{List}
 use native.Mathlib.Omega.{arith}
-use lib.ListN.{length}
+use lib.ListN.{length, drop}
 use Rattle.gate.specs.Gate.{RefusedBy, cleared}
 use Rattle.gate.specs.declared.Refusal.{Refusal}
 use Rattle.automaton.specs.Automaton.{InRange, AreNumbers}
@@ -21,7 +21,7 @@ use Rattle.parser.specs.declared.File.{File}
 use Rattle.parser.specs.declared.File.the-variants as F
 
 -- a file that is read
-pub record FileAccepted (s t u rows : List ℕ) (a : Numbers) : Type 0 where
+pub record FileAccepted (s t u old rows : List ℕ) (a : Numbers) : Type 0 where
   pub sheet : Sheet
   pub file : FileIs s sheet
   pub contents : Contents
@@ -31,19 +31,20 @@ pub record FileAccepted (s t u rows : List ℕ) (a : Numbers) : Type 0 where
   pub range : InRange (a .n) (a .k)
   pub all : length (contents .names) ≡ a .k
   pub holds : HoldNames (contents .names) rows
+  pub behind : drop (24 * a .k) rows ≡ drop (24 * a .k) (cleared old)
 
-module _ (s t u rows : List ℕ) where
-  pub file-refused : (r : Refusal) → FileRead (parse s) t u rows (F.Refused r) → RefusedBy (Faulty s) r × (u ≡ cleared t)
+module _ (s t u old rows : List ℕ) where
+  pub file-refused : (r : Refusal) → FileRead (parse s) t u old rows (F.Refused r) → RefusedBy (Faulty s) r × (u ≡ cleared t) × (rows ≡ cleared old)
   file-refused r = cases (parse s) (parse-means s)
     where
-      cases : (p : Phase Contents) → Means s p → FileRead p t u rows (F.Refused r) → RefusedBy (Faulty s) r × (u ≡ cleared t)
-      cases (refused number line) m e = ((number, line, m, (let d = e .0 in cc)), e .1)
+      cases : (p : Phase Contents) → Means s p → FileRead p t u old rows (F.Refused r) → RefusedBy (Faulty s) r × (u ≡ cleared t) × (rows ≡ cleared old)
+      cases (refused number line) m e = ((number, line, m, (let d = e .0 in cc)), e .1, e .2)
       cases (passed c) m e = absurd (let d = e .0 in let z : _≡_ {A = ℕ} 0 1 = cc in omega arith)
 
-  pub file-read : (a : Numbers) → FileRead (parse s) t u rows (F.Is a) → FileAccepted s t u rows a
+  pub file-read : (a : Numbers) → FileRead (parse s) t u old rows (F.Is a) → FileAccepted s t u old rows a
   file-read a = cases (parse s) (parse-means s)
     where
-      cases : (p : Phase Contents) → Means s p → FileRead p t u rows (F.Is a) → FileAccepted s t u rows a
+      cases : (p : Phase Contents) → Means s p → FileRead p t u old rows (F.Is a) → FileAccepted s t u old rows a
       cases (refused number line) m e = absurd (let d = e .0 in let z : _≡_ {A = ℕ} 0 1 = cc in omega arith)
       cases (passed c) m e =
           let d : F.Is a ≡ F.Is (numbersOf (c .numbers)) = e .0 in
@@ -58,10 +59,11 @@ module _ (s t u rows : List ℕ) where
             range = rw h (e .2);
             all = rw h (e .3);
             holds = e .4;
+            behind = rw h (e .5);
           }
 
 -- its numbers and its letters
-module _ {s t u rows : List ℕ} {a : Numbers} (h : FileAccepted s t u rows a) where
+module _ {s t u old rows : List ℕ} {a : Numbers} (h : FileAccepted s t u old rows a) where
   pub are-numbers : AreNumbers (numbers (h .sheet)) a
   are-numbers =
       let e : a ≡ numbersOf (numbers (h .sheet)) = h .is ∙ ap numbersOf (h .are .numbers) in
@@ -78,6 +80,6 @@ module _ {s t u rows : List ℕ} {a : Numbers} (h : FileAccepted s t u rows a) w
   }
 
 -- the answer on the letters
-pub letters-read : (s t u rows : List ℕ) (r : File) → FileRead (parse s) t u rows r → RowsRead s rows r
-letters-read s t u rows (F.Refused r) e = file-refused s t u rows r e .0
-letters-read s t u rows (F.Is a) e = letters-of (file-read s t u rows a e)
+pub letters-read : (s t u old rows : List ℕ) (r : File) → FileRead (parse s) t u old rows r → RowsRead s old rows r
+letters-read s t u old rows (F.Refused r) e = let (refuses, table, zero) = file-refused s t u old rows r e in (refuses, zero)
+letters-read s t u old rows (F.Is a) e = let f = file-read s t u old rows a e in (letters-of f, f .behind)

@@ -1,12 +1,15 @@
 -- The answers on names, from what reading the letters gives. Assumes nothing.
 use Prim.Native.Nat.{ℕ, _≤_, _<_}
-use mathlib.Core.Path.{_≡_}
+use mathlib.Core.Path.{_≡_, subst}
 use mathlib.Core.List.{List, map}
 use native.Mathlib.Omega.{arith}
 use Rattle.automaton.specs.declared.Numbers.{Numbers}
 use Rattle.names.specs.Name.{IsName, compose}
+use Rattle.format.specs.Format.{Sheet, FileIs}
 use Rattle.format.specs.Numbers.{numbers}
-use Rattle.sheet.specs.Letters.{NoName, NameIs, StandsFor}
+use Rattle.parser.specs.UniqueLaws.{file-unique}
+use Rattle.sheet.specs.declared.Found.{Found}
+use Rattle.sheet.specs.Letters.{NoName, NameIs, StandsFor, LetterOf}
 use Rattle.sheet.specs.LettersLaws.{stands-for, stands-none}
 use Rattle.names.specs.Rows.{FirstName}
 use Rattle.sheet.specs.Answers.{LettersOf}
@@ -27,10 +30,10 @@ module _ {s rows : List ℕ} {a : Numbers} (h : LettersOf s rows a) where
   pub no-letter : (letter : ℕ) → a .k ≤ letter → NoName s letter 14 0
   no-letter letter b = NoName.unknown (h .sheet) (h .file) (let k = letters-are in omega arith)
 
-  -- the letter of a name
+  -- the letter of a name. The sheet whose names the rows hold is the only one of the file
   module _ (name : List ℕ) where
-    pub no-name : (IsName name → ⊥) → (l : ℕ) → StandsFor (h .sheet) name l → ⊥
-    no-name f l g = f (g .is-name)
+    pub every-sheet : (r : Found) → LetterOf (h .sheet) name r → (σ : Sheet) → FileIs s σ → LetterOf σ name r
+    every-sheet r letter σ file = subst (λ (υ : Sheet). LetterOf υ name r) (file-unique s (h .sheet) σ (h .file) file) letter
 
     module _ (r : ℕ) (f : FirstName (map compose (h .sheet .names)) (compose name) r) where
       pub letter-found : IsName name → r < a .k → StandsFor (h .sheet) name r

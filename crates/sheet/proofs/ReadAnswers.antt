@@ -26,7 +26,7 @@ use Rattle.sheet.specs.declared.Read.the-variants as R
 use Rattle.sheet.proofs.FileMeans.{FileAccepted, file-refused, are-numbers}
 
 -- THE AUTOMATON of a file that is read
-module _ {s t u rows : List ℕ} {a : Numbers} (h : FileAccepted s t u rows a) where
+module _ {s t u old rows : List ℕ} {a : Numbers} (h : FileAccepted s t u old rows a) where
   table-is : u ≡ lentTable (numbers (h .sheet) .table) t
   table-is = h .table ∙ ap (λ A. lentTable (A .table) t) (h .are .numbers)
 
@@ -55,9 +55,9 @@ module _ {s t u rows : List ℕ} {a : Numbers} (h : FileAccepted s t u rows a) w
       )
 
 pub fault-refuses :
-    (s t u rows : List ℕ) (r : Refusal) {v : Tables} → FileRead (parse s) t u rows (F.Refused r) → v ≡ clearedTables v → read.ReadsLong s t u v v (R.Refused r)
-fault-refuses s t u rows r e zeros =
-    let ((number, line, faulty, is), clear) = file-refused s t u rows r e in
+    (s t u old rows : List ℕ) (r : Refusal) {v : Tables} → FileRead (parse s) t u old rows (F.Refused r) → v ≡ clearedTables v → read.ReadsLong s t u v v (R.Refused r)
+fault-refuses s t u old rows r e zeros =
+    let ((number, line, faulty, is), clear, zero) = file-refused s t u old rows r e in
     (read.Refuses.faulty number line faulty is zeros, clear)
 
 -- TABLES THAT ARE CLEARED FIRST

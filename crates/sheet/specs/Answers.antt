@@ -1,9 +1,9 @@
 -- What reading the names of a sheet file answers: its numbers, and its composed names in rows.
-use Prim.Native.Nat.{ℕ}
+use Prim.Native.Nat.{ℕ, _*_}
 use mathlib.Core.Path.{_≡_}
 use mathlib.Core.List.{List, map}
-use lib.ListN.{length}
-use Rattle.gate.specs.Gate.{RefusedBy}
+use lib.ListN.{length, drop}
+use Rattle.gate.specs.Gate.{RefusedBy, cleared}
 use Rattle.automaton.specs.declared.Numbers.{Numbers}
 use Rattle.automaton.specs.Automaton.{InRange, AreNumbers}
 use Rattle.parser.specs.declared.File.{File}
@@ -22,7 +22,7 @@ pub record LettersOf (s rows : List ℕ) (a : Numbers) : Type 0 where
   pub all : length (map compose (sheet .names)) ≡ a .k
   pub holds : HoldNames (map compose (sheet .names)) rows
 
--- the answer of questions 2 to 9 with the names in rows
-abbrev pub RowsRead : List ℕ → List ℕ → File → Type 0
-RowsRead s rows (F.Refused r) = RefusedBy (Faulty s) r
-RowsRead s rows (F.Is a) = LettersOf s rows a
+-- the answer of questions 2 to 9 with the names in rows, which were `old` and are `rows` then: all zero, or the names, and behind them zeros
+abbrev pub RowsRead : List ℕ → List ℕ → List ℕ → File → Type 0
+RowsRead s old rows (F.Refused r) = RefusedBy (Faulty s) r × (rows ≡ cleared old)
+RowsRead s old rows (F.Is a) = LettersOf s rows a × (drop (24 * a .k) rows ≡ drop (24 * a .k) (cleared old))

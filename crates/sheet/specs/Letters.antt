@@ -1,15 +1,17 @@
--- The names of letters: the name of a letter, its companion number, and the letter of a name. Questions 2 to 9 and 14.
+-- The names of letters: the name of a letter and its companion number, which ask questions 2 to 9 and 14, and the letter of a name, which asks
+-- 1 to 10 and 14.
 use Prim.Native.Nat.{ℕ, _≤_, _<_}
 use mathlib.Core.Path.{_≡_}
 use mathlib.Core.List.{List, []}
-use mathlib.Core.Logic.{_⊎_}
 use lib.ListN.{getD}
-use Rattle.gate.specs.Gate.{refusal, RefusedBy}
+use Rattle.gate.specs.Gate.{refusal}
 use Rattle.gate.specs.declared.Refusal.{Refusal}
 use Rattle.names.specs.Name.{IsName, compose}
+use Rattle.automaton.specs.Lent.{Tables, Long, clearedTables}
 use Rattle.sheet.specs.declared.Found.{Found}
 use Rattle.sheet.specs.declared.Found.the-variants.{Refused, Letter}
 use Rattle.format.specs.Format.{Sheet, FileIs, Faulty}
+use Rattle.sheet.specs.Read.{Accepted, Refuses}
 
 -- "The stretch is empty where questions 2 to 9 refuse the sheet or it has no such letter (14, line 0)"
 pub data NoName (s : List ℕ) (letter : ℕ) : ℕ → ℕ → Type 0 where
@@ -32,9 +34,16 @@ pub record StandsFor (σ : Sheet) (name : List ℕ) (l : ℕ) : Type 0 where
   pub is-name : IsName name
   pub same : compose (getD (σ .names) l []) ≡ compose name
 
--- the search for a name: "Is each name known? No: 14." A stretch that is no name is no letter's
-abbrev pub Finds : List ℕ → List ℕ → Found → Type 0
-Finds s name (Refused r) =
-    RefusedBy (Faulty s) r
-    ⊎ ((σ : Sheet) × FileIs s σ × ((letter : ℕ) → StandsFor σ name letter → ⊥) × (r ≡ refusal 14 0))
-Finds s name (Letter l) = (σ : Sheet) × FileIs s σ × StandsFor σ name l
+-- "Is each name known? No: 14.", on a sheet that is accepted. A stretch that is no name is no letter's.
+abbrev pub LetterOf : Sheet → List ℕ → Found → Type 0
+LetterOf σ name (Refused r) = ((letter : ℕ) → StandsFor σ name letter → ⊥) × (r ≡ refusal 14 0)
+LetterOf σ name (Letter l) = StandsFor σ name l
+
+-- THE SEARCH FOR A NAME in a sheet file s. The witness was v and is w.
+pub data Finds (s name : List ℕ) (v w : Tables) (r : Found) : Type 0 where
+  -- 1, asked first, "touches nothing"
+  short : (Long v → ⊥) → r ≡ Refused (refusal 1 0) → w ≡ v → Finds s name v w r
+  -- 2 to 10
+  refused : Long v → (x : Refusal) → Refuses s v w x → r ≡ Refused x → Finds s name v w r
+  -- 14, or the letter
+  asked : Long v → (σ : Sheet) → Accepted s σ → w ≡ clearedTables v → LetterOf σ name r → Finds s name v w r

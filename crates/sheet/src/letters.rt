@@ -3,6 +3,8 @@ ghost use mathlib.Core.Path.{_≡_};
 ghost use Prim.Native.Nat.{ℕ, _+_, _-_, _*_, _<_, _≤_};
 ghost use mathlib.Core.List.{List};
 ghost use lib.ListN.{length};
+ghost use lib.Seq.{sets};
+ghost use Rattle.gate.specs.Gate.{padded};
 ghost use Rattle.text.specs.Bytes.{stretch};
 ghost use Rattle.names.specs.Name.{IsName, compose};
 ghost use Rattle.names.specs.Row.{Stretches};
@@ -13,10 +15,10 @@ use names::Ending;
 use parser::File;
 use parser::whole_file::read_file;
 
-// The questions 2 to 9 on a sheet file, and its composed names in rows.
+// The questions 2 to 9 on a sheet file, and its composed names in rows, with zeros behind. A refusal leaves the rows all zero.
 pub fn read_rows(s: &[u8], rows: &mut [u8]) -> File
     requires { ⌜ 192 ≤ length (now rows) ⌝ }
-    ensures { λ r. ⌜ RowsRead (now (s .entry)) (now (rows .exit)) r ⌝ }
+    ensures { λ r. ⌜ RowsRead (now (s .entry)) (now (rows .entry)) (now (rows .exit)) r ⌝ }
 {
     let mut table = [0u16; 128];
     read_file(s, &mut table, rows)
@@ -53,10 +55,11 @@ pub fn spelled(s: &[u8], letter: usize) -> &[u8]
 }
 
 // The letter whose name, in one of `count` rows, is that of a stretch after composing; `count` where there is none.
-// The row behind is overwritten.
+// The row behind holds that stretch then.
 pub fn letter_of(rows: &mut [u8], count: usize, s: &[u8], start: usize, end: usize) -> usize
     requires { ⌜ (count ≤ 8) × (24 * count + 24 ≤ length (now rows)) × Stretches (now s) start end × (end - start ≤ 24) ⌝ }
-    ensures { λ r. ⌜ ((names : List (List ℕ)) → length names ≡ count → HoldNames names (now (rows .entry)) → IsName (stretch (now (s .entry)) start end)
+    ensures { λ r. ⌜ (now (rows .exit) ≡ sets (now (rows .entry)) (24 * count) (padded 24 (compose (stretch (now (s .entry)) start end))))
+        × ((names : List (List ℕ)) → length names ≡ count → HoldNames names (now (rows .entry)) → IsName (stretch (now (s .entry)) start end)
         → FirstName names (compose (stretch (now (s .entry)) start end)) r × HoldNames names (now (rows .exit))) ⌝ }
 {
     names::compose_into(s, start, end, rows, 24 * count);

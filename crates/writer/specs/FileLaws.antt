@@ -83,7 +83,7 @@ module _ (A : Automaton) (fits : Fits A) (names : List (List ℕ)) (right : Name
   }
 
   -- 12 for the first line, 8 names of 30, 16 states and 2048 transitions of 11, 4 for END
-  longest : length (written A names) ≤ 22960
+  pub longest : length (written A names) ≤ 22960
   longest =
       let composed = names-composed names [] right in
       let k : length (map compose names) ≡ A .k = length-map names compose ∙ all in

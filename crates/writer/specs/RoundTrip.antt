@@ -17,7 +17,7 @@ use Rattle.parser.specs.UniqueLaws.{file-unique}
 use Rattle.writer.specs.Same.{SameSheet, trimmed, writing}
 use Rattle.writer.specs.NumbersLaws.{numbers-written}
 use Rattle.writer.specs.TrimmedLaws.{free-trimmed, written-trimmed, trimmed-numbers}
-use Rattle.writer.specs.FileLaws.{written-file}
+use Rattle.writer.specs.FileLaws.{longest, written-file}
 
 -- What is written depends on the numbers and the composed names alone
 
@@ -77,7 +77,11 @@ module _ (s : List ℕ) (σ : Sheet) (file : FileIs s σ) where
   unfolding numbers
   all = file .all-names
 
-  -- what is written is accepted if the file was
+  -- what is written is at most this long
+  pub writing-most : length (writing σ) ≤ 22960
+  writing-most = longest (numbers σ) fits (σ .names) (file .right .names) all
+
+  -- and is accepted if the file was
   pub accepted-back : Free (numbers σ) Everywhere → Accepted (writing σ) (writtenSheet (numbers σ) (σ .names))
   accepted-back free = numbers-accepted (numbers σ) fits long (σ .names) (file .right .names) all free
 

@@ -46,15 +46,15 @@ named-number (NamedRefuse.by-numbers σ a e f) h = numbers-number f h
 -- THE LAST QUESTION
 
 -- the rows hold the names of the sheet, whichever way it is known
-letters-hold : (s rows : List ℕ) (letters : File) → RowsRead s rows letters → (σ : Sheet) → FileIs s σ → HoldNames (map compose (σ .names)) rows
-letters-hold s rows (F.Refused x) (number, line, fault, e) σ file = absurd (file-or-fault s σ number line file fault)
-letters-hold s rows (F.Is a) letters σ file = subst (λ (υ : Sheet). HoldNames (map compose (υ .names)) rows) (file-unique s (letters .sheet) σ (letters .file) file) (letters .holds)
+letters-hold : (s old rows : List ℕ) (letters : File) → RowsRead s old rows letters → (σ : Sheet) → FileIs s σ → HoldNames (map compose (σ .names)) rows
+letters-hold s old rows (F.Refused x) ((number, line, fault, e), zero) σ file = absurd (file-or-fault s σ number line file fault)
+letters-hold s old rows (F.Is a) (letters, behind) σ file = subst (λ (υ : Sheet). HoldNames (map compose (υ .names)) rows) (file-unique s (letters .sheet) σ (letters .file) file) (letters .holds)
 
-pub put-named : (A : Automaton) (s rows b c : List ℕ) (letters : File) (r : Written) → RowsRead s rows letters → Put (rowsText A rows) b c r → PutNamed A s b c r
-put-named A s rows b c letters r read put σ file same = subst (λ (text : List ℕ). Put text b c r) (ap (textOf A) names ∙ text-written A (σ .names)) put
+pub put-named : (A : Automaton) (s old rows b c : List ℕ) (letters : File) (r : Written) → RowsRead s old rows letters → Put (rowsText A rows) b c r → PutNamed A s b c r
+put-named A s old rows b c letters r read put σ file same = subst (λ (text : List ℕ). Put text b c r) (ap (textOf A) names ∙ text-written A (σ .names)) put
   where
     names : rowNames rows 0 (A .k) ≡ map compose (σ .names)
-    names = rows-hold (map compose (σ .names)) rows (A .k) (length-map (σ .names) compose ∙ file .all-names ∙ same) (letters-hold s rows letters read σ file)
+    names = rows-hold (map compose (σ .names)) rows (A .k) (length-map (σ .names) compose ∙ file .all-names ∙ same) (letters-hold s old rows letters read σ file)
 
 -- A sheet's own numbers
 

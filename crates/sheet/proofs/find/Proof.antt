@@ -1,107 +1,72 @@
--- The file is refused, or read and the name looked up in the rows of its letters. Assumes nothing.
-use mathlib.Core.Path.{_≡_, refl}
-use mathlib.Core.List.{map}
-use mathlib.Core.Logic._⊎_.{inl, inr}
-use native.Mathlib.Omega.{arith}
-use borrow.Author.Tests.{not-true, not-false}
-use denote.Ref.{now}
-use lib.ListN.{length}
-use Rattle.names.specs.Name.{IsName, compose}
-use Rattle.names.specs.Rows.{FirstName}
-use Rattle.sheet.specs.Answers.{LettersOf}
-use Rattle.text.specs.BytesLaws.{stretch-end}
-use Rattle.sheet.proofs.LetterAnswers.{no-name, letter-found, letter-nowhere}
+-- What reading answers is handed on, and then the letter of the name. Assumes nothing.
+use mathlib.Core.Path.{subst}
+use Rattle.sheet.specs.Read.{Reads}
+use Rattle.sheet.specs.FindLaws.{find-refused, find-asks}
 use borrow.Author.Needs.{needs}
 use Rattle.sheet.proofs.find.Statement.{statement}
 use Rattle.sheet.proofs.find.Tie as tie
 
--- the letters are read
-letters : (c : tie.After-known-told2) → LettersOf (now (c .before .before .before .before .before .before .before .before .args .sheet)) (c .before .before .before .before .read-rows .last .1 .0) (c .before .a .given .0 .0)
-letters c = rw (c .before .a .given .1) at (c .before .before .before .before .read-rows .ensures)
+-- the file is read
+abbrev reading : tie.After-slice-known6 → tie.After-read-sheet
+reading c = c .before .before .before .before .before .before .before
 
--- what was given is a name
-is-one : (c : tie.Else1) → IsName (now (c .before .before .before .before .before .before .before .before .before .before .args .name))
-is-one c = c .before .is-name .ensures .0 (not-false _ (c .if1 .left))
+slice-aggregate-read-sheet : tie.Need-slice-aggregate-read-sheet
+slice-aggregate-read-sheet c = search needs
 
--- the rows were searched for it
-first :
-    (c : tie.After-letter-of) →
-    FirstName (map compose (letters (c .before .before .before .before) .sheet .names))
-    (compose (now (c .before .before .before .before .before .before .before .before .before .before .before .before .args .name))) (c .letter-of .result)
-first c =
-    let h = letters (c .before .before .before .before) in
-    let whole = stretch-end (now (c .before .before .before .before .before .before .before .before .before .before .before .before .args .name)) 0 in
-    rw whole at (c .letter-of .ensures (map compose (h .sheet .names)) (h .all) (h .holds) (rw whole (is-one (c .before .before))) .0)
-
-slice-aggregate-read-rows : tie.Need-slice-aggregate-read-rows
-slice-aggregate-read-rows c = search needs
-
-read-rows-requires : tie.Need-read-rows-requires
-read-rows-requires c κs = search needs
+read-sheet-requires : tie.Need-read-sheet-requires
+read-sheet-requires c κs = search needs
 
 enum-known-r : tie.Need-enum-known-r
 enum-known-r c = search needs
 
-enum-known-a : tie.Need-enum-known-a
-enum-known-a c = search needs
+enum-told : tie.Need-enum-told
+enum-told c = search needs
 
-is-name-requires : tie.Need-is-name-requires
-is-name-requires c κs = search needs
+letter-named-requires : tie.Need-letter-named-requires
+letter-named-requires c κs = search needs
+
+same-length : tie.Need-same-length
+same-length c = search needs
+
+same-length-2 : tie.Need-same-length-2
+same-length-2 c = search needs
+
+same-length-3 : tie.Need-same-length-3
+same-length-3 c = search needs
 
 returns : tie.Need-returns
 returns c =
-    let h = letters (c .before .before) in
-    inr (
-      h .sheet,
-      h .file,
-      no-name h (now (c .before .before .before .before .before .before .before .before .before .before .args .name))
-          (c .before .is-name .ensures .1 (not-true _ (c .if1 .taken))),
-      refl,
-    )
+    let told = c .before in
+    find-refused (subst (Reads _ _ _ _ _) (told .r .given .1) (reading (told .before .before) .read-sheet .ensures))
 
-slice-aggregate-letter-of : tie.Need-slice-aggregate-letter-of
-slice-aggregate-letter-of c = search needs
+same-length-4 : tie.Need-same-length-4
+same-length-4 c = search needs
 
-letter-of-requires : tie.Need-letter-of-requires
-letter-of-requires c κs =
-    let h = letters (c .before .before .before) in
-    let m = is-one (c .before) .most in
-    let z : length (c .before .before .before .before .before .before .before .read-rows .last .1 .0) ≡ 216 = c .before .before .before .before .before .before .before .read-rows .kept .1 .0 in
-    let k = h .range .3 in
-    (omega arith, omega arith, record { order = omega arith; fits = omega arith }, omega arith)
+same-length-5 : tie.Need-same-length-5
+same-length-5 c = search needs
+
+same-length-6 : tie.Need-same-length-6
+same-length-6 c = search needs
 
 returns-2 : tie.Need-returns-2
-returns-2 c = inl (rw (c .before .r .given .1) at (c .before .before .before .before .read-rows .ensures))
-
-returns-3 : tie.Need-returns-3
-returns-3 c =
-    let h = letters (c .before .before .before .before .before .before) in
-    let name = now (c .before .before .before .before .before .before .before .before .before .before .before .before .before .before .args .name) in
-    (h .sheet, h .file, letter-found h name (c .before .before .letter-of .result) (first (c .before .before)) (is-one (c .before .before .before .before)) (c .if2 .taken))
-
-returns-4 : tie.Need-returns-4
-returns-4 c =
-    let h = letters (c .before .before .before .before .before .before) in
-    let name = now (c .before .before .before .before .before .before .before .before .before .before .before .before .before .before .args .name) in
-    inr (
-      h .sheet,
-      h .file,
-      letter-nowhere h name (c .before .before .letter-of .result) (first (c .before .before)) (c .if2 .left),
-      refl,
-    )
+returns-2 c =
+    let told = c .before in
+    find-asks (subst (Reads _ _ _ _ _) (told .enum-told .given .1) (reading (told .before .before) .read-sheet .ensures)) (c .letter-named .ensures)
 
 pub find-spec : {M : Type 1} → statement M
 find-spec =
     tie.close
     (tie.spec
-    slice-aggregate-read-rows
-    read-rows-requires
+    slice-aggregate-read-sheet
+    read-sheet-requires
     enum-known-r
-    enum-known-a
-    is-name-requires
+    enum-told
+    letter-named-requires
+    same-length
+    same-length-2
+    same-length-3
     returns
-    slice-aggregate-letter-of
-    letter-of-requires
-    returns-2
-    returns-3
-    returns-4)
+    same-length-4
+    same-length-5
+    same-length-6
+    returns-2)

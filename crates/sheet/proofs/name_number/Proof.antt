@@ -11,7 +11,7 @@ use Rattle.sheet.proofs.name_number.Tie as tie
 
 -- the letters are read
 letters : (c : tie.After-known-told2) → LettersOf (now (c .before .before .before .before .before .before .before .args .sheet)) (c .before .before .before .before .read-rows .last .1 .0) (c .before .a .given .0 .0)
-letters c = rw (c .before .a .given .1) at (c .before .before .before .before .read-rows .ensures)
+letters c = rw (c .before .a .given .1) at (c .before .before .before .before .read-rows .ensures) .0
 
 slice-aggregate-read-rows : tie.Need-slice-aggregate-read-rows
 slice-aggregate-read-rows c = search needs
@@ -27,7 +27,7 @@ enum-known-a c = search needs
 
 returns : tie.Need-returns
 returns c =
-    let e = rw (c .before .r .given .1) at (c .before .before .before .before .read-rows .ensures) in
+    let (e, zero) = rw (c .before .r .given .1) at (c .before .before .before .before .read-rows .ensures) in
     NumberIs.refused (e .0) (e .1) (NoName.faulty (e .2)) (e .3)
 
 returns-2 : tie.Need-returns-2

@@ -2,6 +2,7 @@
 use mathlib.Core.Path.{refl}
 use native.Mathlib.Omega.{arith}
 use denote.Ref.{now}
+use lib.ListN.{replicate}
 use Rattle.gate.specs.Gate.{refusal}
 use Rattle.gate.specs.GateLaws.{text-lent}
 use Rattle.automaton.specs.Automaton.{automaton}
@@ -35,7 +36,7 @@ returns c =
     let clear = c .before .before .clear-bytes in
     let letters = c .before .before .before .before .before .before .before .before .read-rows in
     let a = c .before .before .before .before .before .before .before .before .before .before .before .before .before .args in
-    put-named (automaton (a .a) (now (a .table))) (now (a .names)) (letters .last .1 .0) (now (a .out)) (clear .last .0) (letters .result)
+    put-named (automaton (a .a) (now (a .table))) (now (a .names)) (replicate 192 0) (letters .last .1 .0) (now (a .out)) (clear .last .0) (letters .result)
     (Refused (refusal 1 0)) (letters .ensures) (omega arith, refl, clear .ensures)
 
 slice-aggregate-put-text : tie.Need-slice-aggregate-put-text
@@ -68,7 +69,7 @@ returns-2 c =
     let text = rowsText (automaton (a .a) (now (a .table))) (letters .last .1 .0) in
     let lent = text-lent text (now (a .out)) (c .before .before .before .before .before .before .put-text .ensures) (count .ensures) (omega arith)
     (c .before .before .clear-bytes2 .ensures) in
-    put-named (automaton (a .a) (now (a .table))) (now (a .names)) (letters .last .1 .0) (now (a .out)) _ (letters .result)
+    put-named (automaton (a .a) (now (a .table))) (now (a .names)) (replicate 192 0) (letters .last .1 .0) (now (a .out)) _ (letters .result)
     (Bytes (count .result)) (letters .ensures) (count .ensures, omega arith, lent)
 
 pub finish-spec : {M : Type 1} → statement M

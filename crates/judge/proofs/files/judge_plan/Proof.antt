@@ -31,7 +31,7 @@ lettered c = c .before .before .before
 
 -- the sheet whose letters are read
 letters-of : (c : tie.After-known-told2) → LettersOf (now (given c .args .s)) (rows-read c .read-rows .last .1 .0) (c .before .a .given .0 .0)
-letters-of c = rw (c .before .a .given .1) at (c .before .before .before .before .read-rows .ensures)
+letters-of c = rw (c .before .a .given .1) at (c .before .before .before .before .read-rows .ensures) .0
 
 -- it is every sheet of the file
 every-sheet : (c : tie.After-known-told2) (r : Outcome) →
@@ -50,7 +50,7 @@ plan-of : (c : tie.After-read-plan) (r : Planned) → c .read-plan .result ≡ r
 plan-of c r told =
     let s = lettered c in
     let l = letters-of s in
-    subst (Reads (l .sheet) (now (given s .args .p)) (replicate 400 0) (c .read-plan .last .1 .1 .1 .0)) told (c .read-plan .ensures .1 (l .sheet) (names-in _ _ _ l))
+    subst (Reads (l .sheet) (now (given s .args .p)) (replicate 400 0) (c .read-plan .last .1 .1 .1 .0)) told (c .read-plan .ensures .1 (l .sheet) (names-in _ _ _ l) .1)
 
 slice-aggregate-read-rows : tie.Need-slice-aggregate-read-rows
 slice-aggregate-read-rows c = search needs
@@ -96,14 +96,14 @@ returns : tie.Need-returns
 returns c =
     λ σ f.
     (let read = c .before .before .before .before in
-    let (number, line, faulty, e) = rw (c .before .r .given .1) at (read .read-rows .ensures) in
+    let ((number, line, faulty, e), zero) = rw (c .before .r .given .1) at (read .read-rows .ensures) in
     absurd (file-or-fault (now (start read .args .s)) σ number line f faulty))
 
 returns-2 : tie.Need-returns-2
 returns-2 c =
     let told = c .before in
     let read = told .before .before .before .before in
-    every-sheet (lettered read) (Outcome.Refused (told .r2 .given .0 .0)) (plan-of read _ (told .r2 .given .1))
+    every-sheet (lettered read) (Outcome.Refused (told .r2 .given .0 .0)) (plan-of read _ (told .r2 .given .1) .0)
 
 returns-3 : tie.Need-returns-3
 returns-3 c =

@@ -1,12 +1,13 @@
 -- The loop's invariant: what is left of the definition, from the place and the names reached, is the whole of it; the rows hold these names.
 -- Assumes nothing.
-use Prim.Native.Nat.{_+_, _-_, _*_, _≤_, _<_}
-use mathlib.Core.Path.{_≡_, refl, sym, _∙_}
+use Prim.Native.Nat.{ℕ, _+_, _-_, _*_, _≤_, _<_}
+use mathlib.Core.Path.{_≡_, refl, sym, _∙_, subst}
 use mathlib.Core.List.{[]}
 use native.Mathlib.Omega.{arith}
 use native.Mathlib.Nat.{sub-zero}
 use denote.Ref.{now}
-use lib.ListN.{length}
+use lib.ListN.{length, drop}
+use Rattle.gate.specs.GateLaws.{same-cleared}
 use Rattle.names.specs.declared.Ending.the-variants as E
 use Rattle.parser.specs.Parse.{nameLineAt}
 use Rattle.parser.proofs.Steps.{NamesSoFar, names-bad, names-done, NameStored, name-stored}
@@ -16,7 +17,7 @@ use Rattle.parser.proofs.name_lines.read_names.Tie as tie
 
 abbrev Inv-loop : tie.InvT-loop
 Inv-loop s k rows₀ line₀ at₀ l₀ rows line at l =
-    (l ≤ k) × (line ≡ 2 + l) × (at ≤ 12 + 30 * l) × (length rows ≡ length rows₀) × NamesSoFar s k rows line at l
+    (l ≤ k) × (line ≡ 2 + l) × (at ≤ 12 + 30 * l) × (length rows ≡ length rows₀) × NamesSoFar s k rows₀ rows line at l
 
 abbrev μ-loop : tie.MeasureT-loop
 μ-loop s k rows₀ line₀ at₀ l₀ rows line at l = k - l
@@ -41,7 +42,7 @@ read :
     (c : tie.After-first-like Inv-loop μ-loop) →
     let l = c .before .before .before .before .before .before .before .before .before .before .before .loop in
     let a = c .before .before .before .before .before .before .before .before .before .before .before .before .before .before .args in
-    NameStored (now (a .s)) (a .k) (c .before .before .before .before .compose-into .last .1 .1 .1 .0) (l .line) (l .l) (c .before .before .before .before .before .before .before .e .given .0 .0) (c .first-like .result)
+    NameStored (now (a .s)) (a .k) (now (a .rows)) (c .before .before .before .before .compose-into .last .1 .1 .1 .0) (l .line) (l .l) (c .before .before .before .before .before .before .before .e .given .0 .0) (c .first-like .result)
 read c =
     name-stored (c .before .before .before .before .before .before .before .before .before .before .before .loop .inv .4) (omega arith) (ends (c .before .before .before .before .before .before)) (omega arith)
     (c .before .before .before .before .compose-into .ensures) (c .first-like .ensures)
@@ -52,7 +53,7 @@ loop-holds c = (
   omega arith,
   omega arith,
   refl,
-  record { names = []; count = refl; goes = rw sub-zero; holds = λ l h. absurd (omega arith) },
+  record { names = []; count = refl; goes = rw sub-zero; holds = λ l h. absurd (omega arith); behind = refl },
 )
 
 name-line-requires : tie.Need-name-line-requires Inv-loop μ-loop
@@ -64,13 +65,19 @@ enum-known-e c = search needs
 enum-told : tie.Need-enum-told Inv-loop μ-loop
 enum-told c = search needs
 
+clear-bytes-requires : tie.Need-clear-bytes-requires Inv-loop μ-loop
+clear-bytes-requires c κs = search needs
+
 same-length : tie.Need-same-length Inv-loop μ-loop
-same-length c = c .before .before .before .before .loop .inv .3
+same-length c = c .before .before .clear-bytes .kept .0 ∙ c .before .before .before .before .before .before .before .before .loop .inv .3
 
 returns : tie.Need-returns Inv-loop μ-loop
 returns c =
-    let l = c .before .before .before .before .loop in
-    rw (names-bad (l .inv .4) (omega arith) (sym (c .before .before .name-line .ensures .0) ∙ c .enum-told .given .1)) refl
+    let l = c .before .before .before .before .before .before .before .before .loop in
+    let line = c .before .before .before .before in
+    let rows = now (line .before .before .before .before .before .before .before .args .rows) in
+    rw (names-bad (l .inv .4) (omega arith) (sym (line .before .before .name-line .ensures .0) ∙ line .enum-told .given .1))
+    (refl, c .before .before .clear-bytes .ensures ∙ same-cleared rows (l .rows) (l .inv .3))
 
 add-compose-into : tie.Need-add-compose-into Inv-loop μ-loop
 add-compose-into c = omega arith
@@ -88,11 +95,20 @@ first-like-requires c κs =
     let k = c .before .before .before .compose-into .kept .1 .1 .1 .0 in
     (omega arith, omega arith)
 
+clear-bytes-requires-2 : tie.Need-clear-bytes-requires-2 Inv-loop μ-loop
+clear-bytes-requires-2 c κs = search needs
+
 same-length-2 : tie.Need-same-length-2 Inv-loop μ-loop
-same-length-2 c = c .before .before .before .before .before .compose-into .kept .1 .1 .1 .0 ∙ c .before .before .before .before .before .before .before .before .before .before .before .before .loop .inv .3
+same-length-2 c = c .before .before .clear-bytes2 .kept .0 ∙ c .before .before .before .before .before .before .before .before .before .compose-into .kept .1 .1 .1 .0 ∙ c .before .before .before .before .before .before .before .before .before .before .before .before .before .before .before .before .loop .inv .3
 
 returns-2 : tie.Need-returns-2 Inv-loop μ-loop
-returns-2 c = rw (read (c .before) .twice (c .if1 .taken)) refl
+returns-2 c =
+    let asked = c .before .before .before .before in
+    let composed = asked .before .before .before .before .before .compose-into in
+    let l = asked .before .before .before .before .before .before .before .before .before .before .before .before .loop in
+    let rows = now (asked .before .before .before .before .before .before .before .before .before .before .before .before .before .before .before .args .rows) in
+    rw (read (asked .before) .twice (asked .if1 .taken))
+    (refl, c .before .before .clear-bytes2 .ensures ∙ same-cleared rows (composed .last .1 .1 .1 .0) (composed .kept .1 .1 .1 .0 ∙ l .inv .3))
 
 add-line : tie.Need-add-line Inv-loop μ-loop
 add-line c = omega arith
@@ -123,8 +139,11 @@ same-length-3 c = c .before .loop .inv .3
 returns-3 : tie.Need-returns-3 Inv-loop μ-loop
 returns-3 c =
     let l = c .before .loop in
+    let a = c .before .before .before .before .args in
     let z = l .inv .4 in
-    rw (names-done z (omega arith)) (refl, omega arith, omega arith, omega (arith, z .count), z .holds)
+    let all : l .l ≡ a .k = omega arith in
+    rw (names-done z (omega arith))
+    (refl, omega arith, omega arith, omega (arith, z .count), z .holds, subst (λ (i : ℕ). drop (24 * i) (l .rows) ≡ drop (24 * i) (now (a .rows))) all (z .behind))
 
 pub read-names-spec : {M : Type 1} → statement M
 read-names-spec =
@@ -136,12 +155,14 @@ read-names-spec =
     name-line-requires
     enum-known-e
     enum-told
+    clear-bytes-requires
     same-length
     returns
     add-compose-into
     mul-compose-into
     compose-into-requires
     first-like-requires
+    clear-bytes-requires-2
     same-length-2
     returns-2
     add-line

@@ -1,16 +1,21 @@
 -- The loop's invariant: what is left of the definition, from the place and the table reached, is the whole of it. Assumes nothing.
-use Prim.Native.Nat.{_+_, _-_, _*_, _≤_, _<_}
+use Prim.Native.Nat.{ℕ, _+_, _-_, _*_, _≤_, _<_}
 use mathlib.Core.Path.{_≡_, refl, sym, _∙_}
 use native.Mathlib.Omega.{arith}
+use mathlib.Core.List.{List}
 use denote.Ref.{now}
 use lib.ListN.{length, getD, take, drop, length-set, take-append-drop}
 use lib.Seq.{drop-set-lt, take-set-lt, getD-take}
+use Rattle.gate.specs.GateLaws.{same-cleared}
 use Rattle.format.specs.Format.{place}
 use Rattle.format.specs.Numbers.{inserted}
 use Rattle.parser.specs.declared.TransitionLine.{TransitionLine}
 use Rattle.parser.specs.Parse.{withTransition, transitionsAt}
 use Rattle.parser.specs.Phase.{refused}
-use Rattle.parser.proofs.Steps.{transitions-turn, transitions-done, end-fills}
+use Rattle.parser.specs.PhaseAnswers.{FillsTable}
+use Rattle.parser.specs.declared.End.{End}
+use Rattle.parser.specs.declared.End.the-variants as End
+use Rattle.parser.proofs.Steps.{transitions-turn, transitions-done, TableLeft, end-fills}
 use Rattle.text.specs.WordLaws.{within}
 use borrow.Author.Needs.{needs}
 use Rattle.parser.proofs.transition_lines.read_transitions.Statement.{statement}
@@ -55,6 +60,24 @@ small :
     (c .before .from .given .0 .0 < 16) × (c .before .from .given .0 .1 .0 < 8) × (c .before .from .given .0 .1 .1 .0 < 16)
 small c = rw (c .before .from .given .1) at (c .before .before .before .transition-line .ensures .1)
 
+-- behind the transition lines: the end's answer r, with what it leaves in the table
+ended : (c : tie.After-end-line Inv-loop μ-loop) (r : End) → c .end-line .result ≡ r →
+    let l = c .before .before .before .loop in
+    let a = c .before .before .before .before .before .before .args in
+    (u : List ℕ) → TableLeft (take 128 (l .table)) (a .table .now) u r →
+    FillsTable (transitionsAt (a .s .now) (a .n) (a .k) (a .first) (a .start) 0 (take 128 (a .table .now)) (length (a .s .now) + 1)) (a .table .now) u r
+ended c r told u left =
+    let l = c .before .before .before .loop in
+    let a = c .before .before .before .before .before .before .args in
+    let s = now (a .s) in
+    let f = length s + a .first - l .line in
+    let e =
+    sym
+    (transitions-done s (a .n) (a .k) (l .line) (l .at) (l .least) (take 128 (l .table)) f (length s + 1 + a .first - l .line) (omega arith)
+    (λ e. c .before .if1 .left (c .before .before .opening .ensures ∙ e))) ∙
+    l .inv .5 in
+    rw (← e) (end-fills s (l .line) (l .at) (take 128 (l .table)) (now (a .table)) u r (sym told ∙ c .end-line .ensures) left)
+
 loop-holds : tie.Need-loop-holds Inv-loop μ-loop
 loop-holds c =
     let a = c .before .before .args in
@@ -73,11 +96,18 @@ enum-known-from c = search needs
 enum-told : tie.Need-enum-told Inv-loop μ-loop
 enum-told c = search needs
 
+clear-requires : tie.Need-clear-requires Inv-loop μ-loop
+clear-requires c κs = search needs
+
 same-length : tie.Need-same-length Inv-loop μ-loop
-same-length c = c .before .before .before .before .before .loop .inv .3
+same-length c = c .before .before .clear .kept .0 ∙ c .before .before .before .before .before .before .before .before .before .loop .inv .3
 
 returns : tie.Need-returns Inv-loop μ-loop
-returns c = rw (← turn (c .before .before) _ (c .enum-told .given .1)) refl
+returns c =
+    let line = c .before .before .before .before in
+    let l = line .before .before .before .before .before .loop in
+    let table = now (line .before .before .before .before .before .before .before .before .args .table) in
+    rw (← turn (line .before .before) _ (line .enum-told .given .1)) (refl, c .before .before .clear .ensures ∙ same-cleared table (l .table) (l .inv .3))
 
 mul-cell : tie.Need-mul-cell Inv-loop μ-loop
 mul-cell c = omega (arith, small c)
@@ -137,23 +167,35 @@ loop-again c =
 end-line-requires : tie.Need-end-line-requires Inv-loop μ-loop
 end-line-requires c κs = search needs
 
+enum-known-r : tie.Need-enum-known-r Inv-loop μ-loop
+enum-known-r c = search needs
+
+clear-requires-2 : tie.Need-clear-requires-2 Inv-loop μ-loop
+clear-requires-2 c κs = search needs
+
+enum-told-2 : tie.Need-enum-told-2 Inv-loop μ-loop
+enum-told-2 c = search needs
+
 same-length-2 : tie.Need-same-length-2 Inv-loop μ-loop
-same-length-2 c = c .before .before .before .loop .inv .3
+same-length-2 c = c .before .before .clear2 .kept .0 ∙ c .before .before .before .before .before .before .before .before .before .before .loop .inv .3
 
 returns-2 : tie.Need-returns-2 Inv-loop μ-loop
 returns-2 c =
-    let l = c .before .before .before .loop in
-    let a = c .before .before .before .before .before .before .args in
-    let s = now (a .s) in
-    let f = length s + a .first - l .line in
-    let e =
-    sym
-    (transitions-done s (a .n) (a .k) (l .line) (l .at) (l .least) (take 128 (l .table)) f (length s + 1 + a .first - l .line) (omega arith)
-    (λ e. c .before .if1 .left (c .before .before .opening .ensures ∙ e))) ∙
-    l .inv .5 in
-    rw (← e)
-    (end-fills s (l .line) (l .at) (take 128 (l .table)) (drop 128 (now (a .table))) (l .table) (c .end-line .result) (c .end-line .ensures)
-    (rw (← l .inv .4) (sym (take-append-drop 128 (l .table)))))
+    let told = c .before .before .before .before .before in
+    let end = told .before .before in
+    let l = end .before .before .before .loop in
+    let table = now (end .before .before .before .before .before .before .args .table) in
+    ended end (End.Refused (told .r .given .0 .0)) (told .r .given .1) (c .before .before .clear2 .last .0)
+    (c .before .before .clear2 .ensures ∙ same-cleared table (l .table) (l .inv .3))
+
+same-length-3 : tie.Need-same-length-3 Inv-loop μ-loop
+same-length-3 c = c .before .before .before .before .before .loop .inv .3
+
+returns-3 : tie.Need-returns-3 Inv-loop μ-loop
+returns-3 c =
+    let end = c .before .before in
+    let l = end .before .before .before .loop in
+    ended end End.Reached (c .enum-told2 .given .1) (l .table) (rw (← l .inv .4) (sym (take-append-drop 128 (l .table))))
 
 pub read-transitions-spec : {M : Type 1} → statement M
 read-transitions-spec =
@@ -166,6 +208,7 @@ read-transitions-spec =
     transition-line-requires
     enum-known-from
     enum-told
+    clear-requires
     same-length
     returns
     mul-cell
@@ -183,5 +226,10 @@ read-transitions-spec =
     loop-less
     loop-again
     end-line-requires
+    enum-known-r
+    clear-requires-2
+    enum-told-2
     same-length-2
-    returns-2)
+    returns-2
+    same-length-3
+    returns-3)

@@ -1,25 +1,29 @@
--- Each answer is that of the phase which gives it: FileLaws. Assumes nothing.
+-- The rows are cleared; then each answer is that of the phase which gives it: FileLaws. Assumes nothing.
 use Prim.Native.Nat.{ℕ, _+_}
 use mathlib.Core.Path.{_≡_, refl, sym, _∙_, ap, subst}
 use mathlib.Core.List.{List, []}
 use native.Mathlib.Omega.{arith}
 use lib.ListN.{length, replicate}
+use Rattle.gate.specs.Gate.{cleared}
+use Rattle.gate.specs.GateLaws.{same-cleared}
 use Rattle.text.specs.Pair.{wordAndPair}
 use Rattle.automaton.specs.Automaton.{InRange}
 use Rattle.format.specs.Format.{sheetWord}
-use Rattle.parser.specs.Parse.{sizes, sheetBounds, headOf, namesAt, statesAt, transitionsAt, afterNames}
+use Rattle.parser.specs.Parse.{sizes, sheetBounds, headOf, namesAt, statesAt, transitionsAt, afterNames, parse}
 use Rattle.parser.specs.Phase.{Phase, passed}
-use Rattle.parser.specs.PhaseAnswers.{FirstFits, NamesRead}
+use Rattle.parser.specs.PhaseAnswers.{FirstFits, NamesRead, NumbersRead, FileRead}
 use Rattle.parser.specs.FirstLaws.{first-passed, first-refused}
+use Rattle.parser.specs.declared.Names.{Names}
 use Rattle.parser.specs.declared.Sets.{Sets}
+use Rattle.parser.specs.declared.File.{File}
 use Rattle.parser.specs.declared.File.the-variants as F
-use Rattle.parser.proofs.FileLaws.{too-large, not-large, refused-by-names, Passes, names-pass, with-names}
+use Rattle.parser.proofs.FileLaws.{too-large, not-large, refused-by-names, Passes, names-pass, RowsLeft, with-rows}
 use borrow.Author.Needs.{needs}
 use Rattle.parser.proofs.whole_file.read_file.Statement.{statement}
 use Rattle.parser.proofs.whole_file.read_file.Tie as tie
 
 abbrev start : tie.After-first-line → tie.Start
-start c = c .before .before .before .before .before .before
+start c = c .before .before .before .before .before .before .before .before .before .before
 
 -- behind the first line: n and k are read, and in range
 abbrev headed : tie.After-read-names → tie.After-known-told2
@@ -43,21 +47,67 @@ read c =
     first-passed sheetBounds sizes 3 4 (wordAndPair (start (lined c) .args .s .now) sheetWord) (n c) (k c)
     (sym (c .before .n .given .1) ∙ lined c .first-line .ensures .0)
 
--- behind the name lines: the names are read
+-- behind the name lines: their answer, in rows that were cleared first
+abbrev clear : tie.After-first-line → tie.After-clear-bytes
+clear c = c .before .before .before .before .before
+
+named-as : (c : tie.After-read-names) (w : Names) → c .read-names .result ≡ w →
+    let h = headed c in
+    let a = start (lined h) .args in
+    NamesRead (k h) (namesAt (a .s .now) 2 12 [] (k h)) (cleared (a .rows .now)) (c .read-names .last .1 .1 .0) w
+named-as c w e =
+    let h = headed c in
+    let p = namesAt (start (lined h) .args .s .now) 2 12 [] (k h) in
+    let rows = c .read-names .last .1 .1 .0 in
+    subst (λ (zeros : List ℕ). NamesRead (k h) p zeros rows w) (clear (lined h) .clear-bytes .ensures)
+    (subst (NamesRead (k h) p (clear (lined h) .clear-bytes .last .0) rows) e (c .read-names .ensures))
+
 abbrev named : tie.After-known-told4 → tie.After-read-names
 named c = c .before .before .before .before .before
 
 passes : (c : tie.After-known-told4) →
     let h = headed (named c) in
-    Passes (k h) (namesAt (start (lined h) .args .s .now) 2 12 [] (k h)) (named c .read-names .last .1 .1 .0) (c .before .place .given .0 .0)
+    let a = start (lined h) .args in
+    Passes (k h) (namesAt (a .s .now) 2 12 [] (k h)) (cleared (a .rows .now)) (named c .read-names .last .1 .1 .0) (c .before .place .given .0 .0)
 passes c =
     let h = headed (named c) in
-    let p = namesAt (start (lined h) .args .s .now) 2 12 [] (k h) in
-    let rows = named c .read-names .last .1 .1 .0 in
-    names-pass (k h) p rows (c .before .place .given .0 .0) (subst (NamesRead (k h) p rows) (c .before .place .given .1) (named c .read-names .ensures))
+    let a = start (lined h) .args in
+    names-pass (k h) (namesAt (a .s .now) 2 12 [] (k h)) (cleared (a .rows .now)) (named c .read-names .last .1 .1 .0) (c .before .place .given .0 .0)
+    (named-as (named c) _ (c .before .place .given .1))
+
+-- behind the numbers: their answer r, with what the rows hold then
+numbered : (c : tie.After-read-numbers) (r : File) → c .read-numbers .result ≡ r →
+    let known = c .before .before in
+    let h = headed (named known) in
+    let a = start (lined h) .args in
+    (rows : List ℕ) → RowsLeft (sizes (n h) (k h)) (passes known .named) (a .rows .now) rows r →
+    FileRead (parse (a .s .now)) (a .table .now) (c .read-numbers .last .1 .1 .1 .0) (a .rows .now) rows r
+numbered c r told rows left =
+    let known = c .before .before in
+    let h = headed (named known) in
+    let l = lined h in
+    let a = start l .args in
+    let s = a .s .now in
+    let p = passes known in
+    let y = p .named in
+    let z = sizes (n h) (k h) in
+    let next : Sets → Phase (List ℕ) = λ q. transitionsAt s (n h) (k h) (q .line) (q .at) 0 (replicate 128 0) (length s + 1) in
+    let u = c .read-numbers .last .1 .1 .1 .0 in
+    rw (not-large s (l .before .before .if1 .left), read h, p .is)
+    (with-rows z y (a .rows .now) rows (statesAt s (y .line) (y .at) 0 0 0 (n h)) next (a .table .now) u r
+    (subst (NumbersRead (afterNames s z y) (a .table .now) u) told (c .read-numbers .ensures y (p .at) (p .line))) left)
+
+clear-bytes-requires : tie.Need-clear-bytes-requires
+clear-bytes-requires c κs = search needs
+
+same-length : tie.Need-same-length
+same-length c = search needs
 
 returns : tie.Need-returns
-returns c = rw (too-large (c .before .before .before .before .args .s .now) (c .if1 .taken)) (refl, c .before .before .before .before .pre .1)
+returns c =
+    let clear = c .before .before .before in
+    let first = clear .before .before .before .before .before in
+    rw (too-large (first .args .s .now) (c .if1 .taken)) (refl, first .pre .1, clear .clear-bytes .ensures)
 
 slice-aggregate-first-line : tie.Need-slice-aggregate-first-line
 slice-aggregate-first-line c = search needs
@@ -87,16 +137,28 @@ read-numbers-requires c κs =
     let p = passes (c .before) in
     (lined h .before .before .if1 .left, in-range h, p .small-line, p .small-at, first .pre .0, first .pre .1)
 
+enum-known-r-3 : tie.Need-enum-known-r-3
+enum-known-r-3 c = search needs
+
+clear-bytes-requires-2 : tie.Need-clear-bytes-requires-2
+clear-bytes-requires-2 c κs = search needs
+
+enum-known-a : tie.Need-enum-known-a
+enum-known-a c = search needs
+
+same-length-2 : tie.Need-same-length-2
+same-length-2 c = search needs
+
 returns-2 : tie.Need-returns-2
 unfolding headOf
 returns-2 c =
     let l = c .before .before .before in
     let a = start l .args in
     let (number, line, e, f) = first-refused sheetBounds sizes 3 4 (wordAndPair (a .s .now) sheetWord) (c .before .r .given .0 .0) (sym (c .before .r .given .1) ∙ l .first-line .ensures .0) in
-    rw (not-large (a .s .now) (l .before .before .if1 .left), f) (ap F.Refused e, start l .pre .1)
+    rw (not-large (a .s .now) (l .before .before .if1 .left), f) (ap F.Refused e, start l .pre .1, clear l .clear-bytes .ensures)
 
-same-length : tie.Need-same-length
-same-length c = search needs
+same-length-3 : tie.Need-same-length-3
+same-length-3 c = search needs
 
 returns-3 : tie.Need-returns-3
 returns-3 c =
@@ -105,38 +167,46 @@ returns-3 c =
     let l = lined h in
     let a = start l .args in
     let s = a .s .now in
-    let p = namesAt s 2 12 [] (k h) in
-    let rows = g .read-names .last .1 .1 .0 in
     rw (not-large s (l .before .before .if1 .left), read h)
-    (refused-by-names (k h) p (afterNames s (sizes (n h) (k h))) (a .table .now) (a .table .now) rows (c .before .r2 .given .0 .0)
-    (subst (NamesRead (k h) p rows) (c .before .r2 .given .1) (g .read-names .ensures)) (start l .pre .1))
+    (refused-by-names (k h) (namesAt s 2 12 [] (k h)) (afterNames s (sizes (n h) (k h))) (a .table .now) (a .table .now) (a .rows .now) (g .read-names .last .1 .1 .0)
+    (c .before .r2 .given .0 .0) (named-as g _ (c .before .r2 .given .1)) (start l .pre .1))
 
-same-length-2 : tie.Need-same-length-2
-same-length-2 c = search needs
+same-length-4 : tie.Need-same-length-4
+same-length-4 c = search needs
 
-same-length-3 : tie.Need-same-length-3
-same-length-3 c = search needs
+same-length-5 : tie.Need-same-length-5
+same-length-5 c = search needs
 
 returns-4 : tie.Need-returns-4
 returns-4 c =
-    let known = c .before .before .before .before in
-    let numbers = c .before .before .read-numbers in
-    let g = named known in
-    let h = headed g in
-    let l = lined h in
-    let a = start l .args in
-    let s = a .s .now in
+    let told = c .before .before .before .before .before in
+    let numbers = told .before .before .before .before in
+    let g = named (numbers .before .before) in
+    let l = lined (headed g) in
+    numbered numbers (F.Refused (told .r3 .given .0 .0)) (told .r3 .given .1) (c .before .before .clear-bytes2 .last .0)
+    (c .before .before .clear-bytes2 .ensures ∙ same-cleared (start l .args .rows .now) (g .read-names .last .1 .1 .0) (g .read-names .kept .1 .1 .0 ∙ clear l .clear-bytes .kept .0))
+
+same-length-6 : tie.Need-same-length-6
+same-length-6 c = search needs
+
+same-length-7 : tie.Need-same-length-7
+same-length-7 c = search needs
+
+returns-5 : tie.Need-returns-5
+returns-5 c =
+    let told = c .before in
+    let numbers = told .before .before .before .before in
+    let known = numbers .before .before in
     let p = passes known in
-    let y = p .named in
-    let next : Sets → Phase (List ℕ) = λ q. transitionsAt s (n h) (k h) (q .line) (q .at) 0 (replicate 128 0) (length s + 1) in
-    rw (not-large s (l .before .before .if1 .left), read h, p .is)
-    (with-names (sizes (n h) (k h)) y (g .read-names .last .1 .1 .0) (in-range h) (p .all) (p .holds) (statesAt s (y .line) (y .at) 0 0 0 (n h)) next (a .table .now)
-    (numbers .last .1 .1 .1 .0) (numbers .result) (numbers .ensures y (p .at) (p .line)))
+    numbered numbers (F.Is (told .a .given .0 .0)) (told .a .given .1) (named known .read-names .last .1 .1 .0)
+    (in-range (headed (named known)), p .all, p .holds, p .behind)
 
 pub read-file-spec : {M : Type 1} → statement M
 read-file-spec =
     tie.close
     (tie.spec
+    clear-bytes-requires
+    same-length
     returns
     slice-aggregate-first-line
     first-line-requires
@@ -146,9 +216,16 @@ read-file-spec =
     enum-known-r-2
     enum-known-place
     read-numbers-requires
-    returns-2
-    same-length
-    returns-3
+    enum-known-r-3
+    clear-bytes-requires-2
+    enum-known-a
     same-length-2
+    returns-2
     same-length-3
-    returns-4)
+    returns-3
+    same-length-4
+    same-length-5
+    returns-4
+    same-length-6
+    same-length-7
+    returns-5)

@@ -1,10 +1,10 @@
 -- Each answer is that of the phase which gives it: FileLaws. Assumes nothing.
 use Prim.Native.Nat.{ℕ, _+_, _≤_}
-use mathlib.Core.Path.{_≡_, sym, _∙_, ap}
+use mathlib.Core.Path.{_≡_, sym, _∙_}
 use mathlib.Core.List.{List}
 use native.Mathlib.Omega.{arith}
 use denote.Ref.{now}
-use lib.ListN.{length, drop, replicate}
+use lib.ListN.{length, replicate}
 use Rattle.parser.specs.Parse.{Contents, statesAt, transitionsAt, afterStates}
 use Rattle.parser.specs.Phase.{Phase, andThen}
 use Rattle.parser.specs.PhaseAnswers.{FillsTable}
@@ -49,7 +49,7 @@ abbrev left : tie.After-read-transitions → List ℕ
 left c = c .read-transitions .last .1 .1 .1 .1 .1 .0
 
 filled : (c : tie.After-read-transitions) (r : End) → c .read-transitions .result ≡ r →
-    FillsTable (transitions (told c)) (drop 128 (now (start (stated (told c)) .args .table))) (left c) r
+    FillsTable (transitions (told c)) (now (start (stated (told c)) .args .table)) (left c) r
 filled c r e =
     let g = start (stated (told c)) in
     rw (sets-zero (now (g .args .table)) (g .pre .5) (g .pre .4), e) at (c .read-transitions .ensures)
@@ -69,9 +69,6 @@ read-transitions-requires c κs = omega (arith, after (c .before))
 enum-known-r-2 : tie.Need-enum-known-r-2
 enum-known-r-2 c = search needs
 
-clear-requires : tie.Need-clear-requires
-clear-requires c κs = search needs
-
 enum-told : tie.Need-enum-told
 enum-told c = search needs
 
@@ -89,14 +86,11 @@ same-length c = search needs
 
 returns-2 : tie.Need-returns-2
 returns-2 c y here there =
-    let d = c .before .before .before .before .before .before .before .before .before in
-    let r = c .before .before .before .before .before .r2 .given in
+    let d = c .before .before .before .before .before in
+    let r = c .before .r2 .given in
     let a = start (stated (told d)) .args in
-    let t = now (a .table) in
-    let same : length (left d) ≡ length t = d .read-transitions .kept .1 .1 .1 .1 .1 .0 in
     rw (there, here, states-passed (told d) _)
-    (refused-by-transitions (a .z) y (q (told d)) (transitions (told d)) t (c .before .before .clear .last .0) (drop 128 t) (left d) (r .0 .0) (filled d _ (r .1))
-    (c .before .before .clear .ensures ∙ ap (λ (n : ℕ). replicate {A = ℕ} n 0) same))
+    (refused-by-transitions (a .z) y (q (told d)) (transitions (told d)) (now (a .table)) (left d) (r .0 .0) (filled d _ (r .1)))
 
 same-length-2 : tie.Need-same-length-2
 same-length-2 c = search needs
@@ -107,7 +101,7 @@ returns-3 c y here there =
     let g = start (stated (told d)) in
     let t = now (g .args .table) in
     rw (there, here, states-passed (told d) _)
-    (transitions-pass (g .args .z) y (q (told d)) (transitions (told d)) t (left d) (drop 128 t) (filled d _ (c .enum-told .given .1)) (rest-zero t (g .pre .5) (g .pre .4)))
+    (transitions-pass (g .args .z) y (q (told d)) (transitions (told d)) t (left d) (filled d _ (c .enum-told .given .1)) (rest-zero t (g .pre .5) (g .pre .4)))
 
 pub read-numbers-spec : {M : Type 1} → statement M
 read-numbers-spec =
@@ -118,7 +112,6 @@ read-numbers-spec =
     enum-known-q
     read-transitions-requires
     enum-known-r-2
-    clear-requires
     enum-told
     returns
     same-length

@@ -5,11 +5,15 @@ use mathlib.Core.List.{List}
 use native.Mathlib.Omega.{arith}
 use denote.Ref.{now}
 use lib.ListN.{length}
+use Rattle.text.specs.Bytes.{stretch}
+use Rattle.names.specs.Name.{compose}
 use Rattle.names.specs.Scan.{nameEndAt}
 use Rattle.names.specs.declared.Ending.the-variants as E
 use Rattle.names.specs.ScanLaws.{name-is}
+use Rattle.names.specs.NameLaws.{composed-name}
 use Rattle.parser.specs.LetterLaws.{letter-is}
-use Rattle.names.specs.Rows.{HoldNames}
+use Rattle.names.specs.Rows.{HoldNames, OnlyRow}
+use Rattle.names.specs.RowsLaws.{only-none, only-stored}
 use Rattle.plan.specs.Parse.{letterFrom}
 use Rattle.plan.proofs.Laws.{line-bad, line-known, line-unknown}
 use borrow.Author.Needs.{needs}
@@ -29,6 +33,16 @@ within : (c : tie.After-e) →
     (a .at < e) × (e ≤ a .at + 24) × (e < length (now (a .p)))
 within c = rw (c .e .given .1) at (c .before .before .name-end .ensures .1)
 
+-- that name goes into the row behind the k rows
+stored : (c : tie.After-letter-of) →
+    let a = entry (c .before .before .before) .args in
+    OnlyRow (a .k) (now (a .rows)) (c .letter-of .last .0)
+stored c =
+    let e = c .before .before .before in
+    let a = entry e .args in
+    let name = stretch (now (a .p)) (a .at) (e .e .given .0 .0) in
+    only-stored _ _ (compose name) (let p = entry e .pre in omega arith) (composed-name name (name-is _ _ _ (ends e) .name) .most) _ (c .letter-of .ensures .0)
+
 -- the letter of that name
 letter : (c : tie.After-letter-of) →
     let e = c .before .before .before in
@@ -36,7 +50,7 @@ letter : (c : tie.After-letter-of) →
     (names : List (List ℕ)) → length names ≡ a .k → HoldNames names (now (a .rows)) →
     (letterFrom names (now (a .p)) (a .at) (e .e .given .0 .0) ≡ c .letter-of .result) × HoldNames names (c .letter-of .last .0)
 letter c names n h =
-    let f = c .letter-of .ensures names n h (name-is _ _ _ (ends (c .before .before .before)) .name) in
+    let f = c .letter-of .ensures .1 names n h (name-is _ _ _ (ends (c .before .before .before)) .name) in
     (letter-is names _ _ (f .0), f .1)
 
 name-end-requires : tie.Need-name-end-requires
@@ -49,7 +63,7 @@ enum-told : tie.Need-enum-told
 enum-told c = search needs
 
 returns : tie.Need-returns
-returns c = (tt, λ names n h. (sym (line-bad names _ _ (sym (c .before .before .name-end .ensures .0) ∙ c .enum-told .given .1)), h))
+returns c = (tt, λ names n h. (sym (line-bad names _ _ (sym (c .before .before .name-end .ensures .0) ∙ c .enum-told .given .1)), h), only-none _ _)
 
 letter-of-requires : tie.Need-letter-of-requires
 letter-of-requires c κs = let w = within (c .before .before) in (omega arith, omega arith, record { order = omega arith; fits = omega arith }, omega arith)
@@ -61,7 +75,7 @@ returns-2 : tie.Need-returns-2
 returns-2 c =
     let t = c .before .before .before in
     let e = t .before .before .before in
-    ((c .if1 .taken, within e .2), λ names n h. (let (l, held) = letter t names n h in (sym (line-known names _ _ _ _ (ends e) l (omega arith)), held)))
+    ((c .if1 .taken, within e .2), λ names n h. (let (l, held) = letter t names n h in (sym (line-known names _ _ _ _ (ends e) l (omega arith)), held)), stored t)
 
 same-length-2 : tie.Need-same-length-2
 same-length-2 c = search needs
@@ -69,7 +83,7 @@ same-length-2 c = search needs
 returns-3 : tie.Need-returns-3
 returns-3 c =
     let t = c .before .before .before in
-    (tt, λ names n h. (let (l, held) = letter t names n h in (sym (line-unknown names _ _ _ _ (ends (t .before .before .before)) l (omega arith)), held)))
+    (tt, λ names n h. (let (l, held) = letter t names n h in (sym (line-unknown names _ _ _ _ (ends (t .before .before .before)) l (omega arith)), held)), stored t)
 
 pub letter-line-spec : {M : Type 1} → statement M
 letter-line-spec =

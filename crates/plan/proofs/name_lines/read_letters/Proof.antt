@@ -1,4 +1,4 @@
--- The loop's invariant: what is left to read after the letters in the buffer is left of the whole. Assumes nothing.
+-- The loop's invariant: what is left to read after the letters in the buffer is left of the whole, and only row k is written. Assumes nothing.
 use Prim.Native.Nat.{ℕ, _+_, _-_, _≤_, _<_}
 use mathlib.Core.Path.{_≡_, refl, sym, _∙_, ap}
 use native.Mathlib.Omega.{arith}
@@ -7,8 +7,10 @@ use denote.Ref.{now}
 use mathlib.Core.List.{List, [], _∷_, _++_}
 use lib.ListN.{length, take, drop, length-set, take-append-drop}
 use Rattle.plan.proofs.Laws.{SoFar, letters-step, letters-done, stored, behind}
+use Rattle.gate.specs.GateLaws.{same-cleared}
 use Rattle.parser.specs.Phase.{refused}
-use Rattle.names.specs.Rows.{HoldNames}
+use Rattle.names.specs.Rows.{HoldNames, OnlyRow}
+use Rattle.names.specs.RowsLaws.{only-none, only-again}
 use Rattle.plan.specs.declared.LetterLine.{LetterLine}
 use Rattle.plan.specs.Parse.{withLetter, lettersAt}
 use borrow.Author.Needs.{needs}
@@ -18,7 +20,7 @@ use Rattle.plan.proofs.name_lines.read_letters.Tie as tie
 abbrev Inv-loop : tie.InvT-loop
 Inv-loop p rows₀ k count letters₀ line₀ at₀ i₀ rows letters line at i =
     (i ≤ count) × (line ≡ 2 + i) × (at ≤ 12288) × (length rows ≡ length rows₀) × (length letters ≡ length letters₀) × (drop i letters ≡ drop i letters₀)
-    × SoFar p rows₀ k count rows letters line at i
+    × SoFar p rows₀ k count rows letters line at i × OnlyRow k rows₀ rows
 
 abbrev μ-loop : tie.MeasureT-loop
 μ-loop p rows₀ k count letters₀ line₀ at₀ i₀ rows letters line at i = count - i
@@ -38,6 +40,12 @@ turn c w e names n h =
     let f = c .letter-line .ensures .1 names n (z .0) in
     (f .1, sym (letters-step names (a .p .now) (v .line) (v .at) (v .i) (a .count) (take (v .i) (v .letters)) (omega arith) (sym (f .0) ∙ e)) ∙ z .1)
 
+-- a line more writes the same row
+only-row : (c : tie.After-letter-line Inv-loop μ-loop) →
+    let a = c .before .before .before .before .before .before .before .args in
+    OnlyRow (a .k) (a .rows .now) (c .letter-line .last .1 .1 .0)
+only-row c = only-again (c .before .before .before .loop .inv .7) (c .letter-line .ensures .2)
+
 -- the letter of a line is one of the sheet's, and its LF stands within the file
 fits :
     (c : tie.After-known-told Inv-loop μ-loop) →
@@ -45,7 +53,7 @@ fits :
 fits c = rw (c .before .l .given .1) at (c .before .before .before .before .before .letter-line .ensures .0)
 
 loop-holds : tie.Need-loop-holds Inv-loop μ-loop
-loop-holds c = (omega arith, omega arith, omega arith, refl, refl, refl, λ names n h. (h, rw sub-zero))
+loop-holds c = (omega arith, omega arith, omega arith, refl, refl, refl, λ names n h. (h, rw sub-zero), only-none _ _)
 
 letter-line-requires : tie.Need-letter-line-requires Inv-loop μ-loop
 letter-line-requires c κs = search needs
@@ -86,31 +94,50 @@ loop-again c =
       length-set (v .letters) (v .i) l ∙ v .inv .4,
       behind (v .letters) (v .i) l room (now (a .letters)) (v .inv .5),
       λ names n h. (let (held, left) = turn (c .before .before .before .before .before) _ (c .before .l .given .1) names n h in (held, rw stored left)),
+      only-row (c .before .before .before .before .before),
     )
 
 enum-told : tie.Need-enum-told Inv-loop μ-loop
 enum-told c = search needs
 
+clear-bytes-requires : tie.Need-clear-bytes-requires Inv-loop μ-loop
+clear-bytes-requires c κs = search needs
+
 same-length : tie.Need-same-length Inv-loop μ-loop
-same-length c = c .before .before .before .before .letter-line .kept .1 .1 .0 ∙ c .before .before .before .before .before .before .before .loop .inv .3
+same-length c = c .before .before .before .before .before .before .before .before .letter-line .kept .1 .1 .0 ∙ c .before .before .before .before .before .before .before .before .before .before .before .loop .inv .3
 
 same-length-2 : tie.Need-same-length-2 Inv-loop μ-loop
-same-length-2 c = c .before .before .before .before .before .before .before .loop .inv .4
+same-length-2 c = c .before .before .clear-bytes .kept .0 ∙ c .before .before .before .before .before .before .before .before .before .before .before .loop .inv .4
 
 returns : tie.Need-returns Inv-loop μ-loop
-returns c = (tt, λ names n h. rw (← turn (c .before .before .before .before) _ (c .enum-told .given .1) names n h .1) refl)
+returns c =
+    let told = c .before .before .before .before in
+    let line = told .before .before .before .before in
+    let v = line .before .before .before .loop in
+    let first = now (line .before .before .before .before .before .before .before .args .letters) in
+    let zero = c .before .before .clear-bytes .ensures ∙ same-cleared first (v .letters) (v .inv .4) in
+    (tt, λ names n h. (let (held, left) = turn line _ (told .enum-told .given .1) names n h in (held, rw (← left) (refl, zero))), only-row line)
 
 enum-told-2 : tie.Need-enum-told-2 Inv-loop μ-loop
 enum-told-2 c = search needs
 
+clear-bytes-requires-2 : tie.Need-clear-bytes-requires-2 Inv-loop μ-loop
+clear-bytes-requires-2 c κs = search needs
+
 same-length-3 : tie.Need-same-length-3 Inv-loop μ-loop
-same-length-3 c = c .before .before .before .before .letter-line .kept .1 .1 .0 ∙ c .before .before .before .before .before .before .before .loop .inv .3
+same-length-3 c = c .before .before .before .before .before .before .before .before .letter-line .kept .1 .1 .0 ∙ c .before .before .before .before .before .before .before .before .before .before .before .loop .inv .3
 
 same-length-4 : tie.Need-same-length-4 Inv-loop μ-loop
-same-length-4 c = c .before .before .before .before .before .before .before .loop .inv .4
+same-length-4 c = c .before .before .clear-bytes2 .kept .0 ∙ c .before .before .before .before .before .before .before .before .before .before .before .loop .inv .4
 
 returns-2 : tie.Need-returns-2 Inv-loop μ-loop
-returns-2 c = (tt, λ names n h. rw (← turn (c .before .before .before .before) _ (c .enum-told2 .given .1) names n h .1) refl)
+returns-2 c =
+    let told = c .before .before .before .before in
+    let line = told .before .before .before .before in
+    let v = line .before .before .before .loop in
+    let first = now (line .before .before .before .before .before .before .before .args .letters) in
+    let zero = c .before .before .clear-bytes2 .ensures ∙ same-cleared first (v .letters) (v .inv .4) in
+    (tt, λ names n h. (let (held, left) = turn line _ (told .enum-told2 .given .1) names n h in (held, rw (← left) (refl, zero))), only-row line)
 
 same-length-5 : tie.Need-same-length-5 Inv-loop μ-loop
 same-length-5 c = c .before .loop .inv .3
@@ -127,7 +154,8 @@ returns-3 c =
       λ names n h.
           (let z = v .inv .6 names n h in
           let e = sym (letters-done names (now (a .p)) (v .line) (v .at) (v .i) (a .count) (take (v .i) (v .letters)) (omega arith)) ∙ z .1 in
-          rw (← e) (refl, sym (take-append-drop (v .i) (v .letters)) ∙ ap (λ (l : List ℕ). take (v .i) (v .letters) ++ l) (v .inv .5 ∙ ap (λ (n : ℕ). drop n (now (a .letters))) i))),
+          (z .0, rw (← e) (refl, sym (take-append-drop (v .i) (v .letters)) ∙ ap (λ (l : List ℕ). take (v .i) (v .letters) ++ l) (v .inv .5 ∙ ap (λ (n : ℕ). drop n (now (a .letters))) i)))),
+      v .inv .7,
     )
 
 pub read-letters-spec : {M : Type 1} → statement M
@@ -147,10 +175,12 @@ read-letters-spec =
     loop-less
     loop-again
     enum-told
+    clear-bytes-requires
     same-length
     same-length-2
     returns
     enum-told-2
+    clear-bytes-requires-2
     same-length-3
     same-length-4
     returns-2

@@ -1,23 +1,28 @@
 -- The phases one after the other, and what their answers mean of a plan. Assumes nothing.
 use Prim.Native.Nat.{ℕ, _+_}
-use mathlib.Core.Path.{_≡_, sym, _∙_, ap, subst}
-use mathlib.Core.List.{[], map}
+use mathlib.Core.Path.{_≡_, refl, sym, _∙_, ap, subst}
+use mathlib.Core.List.{List, [], map}
 use lib.ListN.{length-map}
 use native.Mathlib.Omega.{arith}
+use Rattle.gate.specs.GateLaws.{same-cleared}
 use Rattle.text.specs.Pair.{wordAndPair}
 use Rattle.names.specs.Name.{compose}
+use Rattle.names.specs.RowsLaws.{only-none}
 use Rattle.format.specs.Format.{Sheet}
+use Rattle.parser.specs.declared.Place.{Place}
+use Rattle.parser.specs.declared.End.{End}
+use Rattle.parser.specs.declared.End.the-variants as E
 use Rattle.parser.specs.Phase.{passed}
 use Rattle.parser.specs.PhaseAnswers.{FirstFits}
 use Rattle.parser.specs.FirstLaws.{first-passed, first-refused}
 use Rattle.plan.specs.declared.Letters.{Letters}
 use Rattle.plan.specs.declared.Planned.the-variants as P
 use Rattle.plan.specs.Plan.{planWord, LengthsRight}
-use Rattle.plan.specs.Parse.{lengths, planBounds, headOf, lettered, lettersAt, endOf, planOf}
-use Rattle.plan.specs.Answers.{PlaceFits, LettersRead}
-use Rattle.plan.specs.Read.{NamesIn}
+use Rattle.plan.specs.Parse.{lengths, planBounds, headOf, lettersAt, planOf}
+use Rattle.plan.specs.Answers.{PlaceFits, LettersRead, planned}
+use Rattle.plan.specs.Read.{NamesIn, Reads}
 use Rattle.plan.specs.ReadLaws.{reads}
-use Rattle.plan.proofs.Laws.{letters-refused, letters-read, ends-fit}
+use Rattle.plan.proofs.Laws.{EndLeaves, letters-refused, letters-read}
 use borrow.Author.Needs.{needs}
 use Rattle.plan.proofs.whole_file.read_plan.Statement.{statement}
 use Rattle.plan.proofs.whole_file.read_plan.Tie as tie
@@ -54,13 +59,46 @@ lettered-as : (c : tie.After-read-letters) (w : Letters) → c .read-letters .re
     let h = headed c in
     let a = start (lined h) .args in
     (σ : Sheet) → NamesIn σ (a .k) (a .rows .now) →
-    LettersRead (lettersAt (map compose (σ .names)) (a .p .now) 2 11 [] (lead h + cycle h)) (lead h + cycle h) (a .letters .now) (c .read-letters .last .1 .1 .1 .1 .0) w
+    NamesIn σ (a .k) (c .read-letters .last .1 .0)
+    × LettersRead (lettersAt (map compose (σ .names)) (a .p .now) 2 11 [] (lead h + cycle h)) (lead h + cycle h) (a .letters .now) (c .read-letters .last .1 .1 .1 .1 .0) w
 lettered-as c w e σ g =
     let h = headed c in
     let a = start (lined h) .args in
     let names = map compose (σ .names) in
-    subst (LettersRead (lettersAt names (a .p .now) 2 11 [] (lead h + cycle h)) (lead h + cycle h) (a .letters .now) (c .read-letters .last .1 .1 .1 .1 .0)) e
-    (c .read-letters .ensures .1 names (length-map (σ .names) compose ∙ g .all-names) (g .holds))
+    let (held, answer) = c .read-letters .ensures .1 names (length-map (σ .names) compose ∙ g .all-names) (g .holds) in (
+      record { letters = g .letters; all-names = g .all-names; holds = held },
+      subst (LettersRead (lettersAt names (a .p .now) 2 11 [] (lead h + cycle h)) (lead h + cycle h) (a .letters .now) (c .read-letters .last .1 .1 .1 .1 .0)) e answer,
+    )
+
+-- behind the last line: its answer, and what the buffer holds then
+abbrev place : tie.After-end-line → Place
+place c = c .before .before .place .given .0 .0
+
+abbrev letters : tie.After-end-line → tie.After-read-letters
+letters c = c .before .before .before .before .before .before .before .before
+
+ended : (c : tie.After-end-line) (r : End) → c .end-line .result ≡ r →
+    let d = letters c in
+    let h = headed d in
+    let a = start (lined h) .args in
+    (v : List ℕ) → EndLeaves (a .letters .now) (d .read-letters .last .1 .1 .1 .1 .0) v r →
+    (σ : Sheet) → NamesIn σ (a .k) (a .rows .now) →
+    NamesIn σ (a .k) (d .read-letters .last .1 .0) × Reads σ (a .p .now) (a .letters .now) v (planned (lengths (lead h) (cycle h)) r)
+unfolding planOf
+ended c r e v left σ g =
+    let d = letters c in
+    let h = headed d in
+    let first = start (lined h) in
+    let z = lengths (lead h) (cycle h) in
+    let p = first .args .p .now in
+    let t = first .args .letters .now in
+    let u = d .read-letters .last .1 .1 .1 .1 .0 in
+    let names = map compose (σ .names) in
+    let (held, answer) = lettered-as d _ (c .before .before .place .given .1) σ g in (
+      held,
+      reads σ (g .all-names ∙ sym (g .letters)) p t v (first .pre .0) (planned z r)
+          (rw (read h) (letters-read p t u z v (lettersAt names p 2 11 [] (lead h + cycle h)) (place c) r answer (sym e ∙ c .end-line .ensures) left)),
+    )
 
 slice-aggregate-first-line : tie.Need-slice-aggregate-first-line
 slice-aggregate-first-line c = search needs
@@ -70,6 +108,9 @@ first-line-requires c κs = search needs
 
 enum-known-r : tie.Need-enum-known-r
 enum-known-r c = search needs
+
+clear-bytes-requires : tie.Need-clear-bytes-requires
+clear-bytes-requires c κs = search needs
 
 enum-known-lead : tie.Need-enum-known-lead
 enum-known-lead c = search needs
@@ -93,65 +134,86 @@ end-line-requires c κs =
     let w = subst PlaceFits (c .before .place .given .1) (c .before .before .before .before .before .before .before .read-letters .ensures .0) in
     (omega (arith, w .0), omega (arith, w .1))
 
-returns : tie.Need-returns
-unfolding planOf headOf
-returns c =
-    let l = c .before .before .before in
-    let a = start l .args in
-    let t = a .letters .now in
-    let r = c .before .r .given .0 .0 in
-    let (number, line, e, f) = first-refused planBounds lengths 12 13 (wordAndPair (a .p .now) planWord) r (sym (c .before .r .given .1) ∙ l .first-line .ensures .0) in
-    (tt, λ σ g. reads σ (g .all-names ∙ sym (g .letters)) (a .p .now) t t (start l .pre .0) (P.Refused r) (rw f (ap P.Refused e)))
+enum-known-r-3 : tie.Need-enum-known-r-3
+enum-known-r-3 c = search needs
+
+clear-bytes-requires-2 : tie.Need-clear-bytes-requires-2
+clear-bytes-requires-2 c κs = search needs
+
+enum-told : tie.Need-enum-told
+enum-told c = search needs
 
 same-length : tie.Need-same-length
 same-length c = search needs
 
-same-length-2 : tie.Need-same-length-2
-same-length-2 c = search needs
-
-returns-2 : tie.Need-returns-2
-unfolding planOf
-returns-2 c =
-    let d = c .before .before .before .before .before .before .before in
-    let h = headed d in
-    let first = start (lined h) in
-    let p = first .args .p .now in
-    let t = first .args .letters .now in
-    let u = d .read-letters .last .1 .1 .1 .1 .0 in
-    let r = c .before .r2 .given .0 .0 in (
+returns : tie.Need-returns
+unfolding planOf headOf
+returns c =
+    let told = c .before .before .before .before .before in
+    let l = told .before .before in
+    let a = start l .args in
+    let r = told .r .given .0 .0 in
+    let clear = c .before .before .clear-bytes in
+    let (number, line, e, f) = first-refused planBounds lengths 12 13 (wordAndPair (a .p .now) planWord) r (sym (told .r .given .1) ∙ l .first-line .ensures .0) in (
       tt,
       λ σ g.
-          (let names = map compose (σ .names) in
-          reads σ (g .all-names ∙ sym (g .letters)) p t u (first .pre .0) (P.Refused r)
-          (rw (read h)
-          (letters-refused names p t u (lengths (lead h) (cycle h)) (lettersAt names p 2 11 [] (lead h + cycle h)) r (lettered-as d _ (c .before .r2 .given .1) σ g)))),
+          (g, reads σ (g .all-names ∙ sym (g .letters)) (a .p .now) (a .letters .now) (clear .last .0) (start l .pre .0) (P.Refused r) (rw f (ap P.Refused e, clear .ensures))),
+      only-none _ _,
     )
+
+same-length-2 : tie.Need-same-length-2
+same-length-2 c = search needs
 
 same-length-3 : tie.Need-same-length-3
 same-length-3 c = search needs
 
-same-length-4 : tie.Need-same-length-4
-same-length-4 c = search needs
-
-returns-3 : tie.Need-returns-3
+returns-2 : tie.Need-returns-2
 unfolding planOf
-returns-3 c =
-    let d = c .before .before .before .before .before .before .before .before in
+returns-2 c =
+    let told = c .before in
+    let d = told .before .before .before .before .before .before in
     let h = headed d in
     let first = start (lined h) in
-    let z = lengths (lead h) (cycle h) in
     let p = first .args .p .now in
     let t = first .args .letters .now in
     let u = d .read-letters .last .1 .1 .1 .1 .0 in
-    let q = c .before .before .place .given .0 .0 in
-    let r = c .end-line .result in (
-      rw (c .end-line .ensures) (ends-fit z (in-range h) (endOf p (lettered [] (q .at) (q .line)))),
+    let r = told .r2 .given .0 .0 in (
+      tt,
       λ σ g.
           (let names = map compose (σ .names) in
-          reads σ (g .all-names ∙ sym (g .letters)) p t u (first .pre .0) r
-          (rw (read h)
-          (letters-read names p t u z (lettersAt names p 2 11 [] (lead h + cycle h)) q r (lettered-as d _ (c .before .before .place .given .1) σ g) (c .end-line .ensures)))),
+          let (held, answer) = lettered-as d _ (told .r2 .given .1) σ g in (
+            held,
+            reads σ (g .all-names ∙ sym (g .letters)) p t u (first .pre .0) (P.Refused r)
+                (rw (read h) (letters-refused p t u (lengths (lead h) (cycle h)) (lettersAt names p 2 11 [] (lead h + cycle h)) r answer)),
+          )),
+      d .read-letters .ensures .2,
     )
+
+same-length-4 : tie.Need-same-length-4
+same-length-4 c = search needs
+
+same-length-5 : tie.Need-same-length-5
+same-length-5 c = search needs
+
+returns-3 : tie.Need-returns-3
+returns-3 c =
+    let told = c .before .before .before .before .before in
+    let end = told .before .before in
+    let read = letters end .read-letters in
+    let clear = c .before .before .clear-bytes2 in
+    let zero = clear .ensures ∙ same-cleared (start (lined (headed (letters end))) .args .letters .now) (read .last .1 .1 .1 .1 .0) (read .kept .1 .1 .1 .1 .0) in
+    (tt, ended end (E.Refused (told .r3 .given .0 .0)) (told .r3 .given .1) (clear .last .0) zero, read .ensures .2)
+
+same-length-6 : tie.Need-same-length-6
+same-length-6 c = search needs
+
+same-length-7 : tie.Need-same-length-7
+same-length-7 c = search needs
+
+returns-4 : tie.Need-returns-4
+returns-4 c =
+    let end = c .before .before in
+    (in-range (headed (letters end)), ended end E.Reached (c .enum-told .given .1) (letters end .read-letters .last .1 .1 .1 .1 .0) refl, letters end .read-letters .ensures .2)
 
 pub read-plan-spec : {M : Type 1} → statement M
 read-plan-spec =
@@ -160,16 +222,24 @@ read-plan-spec =
     slice-aggregate-first-line
     first-line-requires
     enum-known-r
+    clear-bytes-requires
     enum-known-lead
     add-read-letters
     read-letters-requires
     enum-known-r-2
     enum-known-place
     end-line-requires
-    returns
+    enum-known-r-3
+    clear-bytes-requires-2
+    enum-told
     same-length
+    returns
     same-length-2
-    returns-2
     same-length-3
+    returns-2
     same-length-4
-    returns-3)
+    same-length-5
+    returns-3
+    same-length-6
+    same-length-7
+    returns-4)

@@ -25,17 +25,20 @@ same-length : tie.Need-same-length
 same-length c = search needs
 
 returns : tie.Need-returns
-returns c names n h is =
+returns c =
     let a = c .before .before .before .before .before .before .before .before .args in
     let s = now (a .s) in
     let rows = now (a .rows) in
     let x = compose (stretch s (a .start) (a .end)) in
     let e = c .before .before .before .before .compose-into .ensures in
     let fits = c .before .before .before .before .before .before .before .before .pre .1 in
-    let name = composed-name (stretch s (a .start) (a .end)) is in
     let r = c .first-like .result in (
-      row-tells names rows (a .count) x n fits h name r (subst (λ (v : List ℕ). FirstLike v (a .count) r) e (c .first-like .ensures)),
-      subst (λ (v : List ℕ). HoldNames names v) (sym e) (holds-still names rows (a .count) x n fits h name),
+      e,
+      λ names n h is.
+          (let name = composed-name (stretch s (a .start) (a .end)) is in (
+            row-tells names rows (a .count) x n fits h name r (subst (λ (v : List ℕ). FirstLike v (a .count) r) e (c .first-like .ensures)),
+            subst (λ (v : List ℕ). HoldNames names v) (sym e) (holds-still names rows (a .count) x n fits h name),
+          )),
     )
 
 pub letter-of-spec : {M : Type 1} → statement M

@@ -18,7 +18,8 @@ same-length c = search needs
 returns : tie.Need-returns
 returns c =
     let z = c .before .before .before .read-file in
-    letters-read (now (c .before .before .before .before .before .before .before .before .args .s)) (replicate 128 0) (z .last .1 .0) (z .last .1 .1 .0) (z .result) (z .ensures)
+    let a = c .before .before .before .before .before .before .before .before .args in
+    letters-read (now (a .s)) (replicate 128 0) (z .last .1 .0) (now (a .rows)) (z .last .1 .1 .0) (z .result) (z .ensures)
 
 pub read-rows-spec : {M : Type 1} → statement M
 read-rows-spec =

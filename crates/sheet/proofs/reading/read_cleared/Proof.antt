@@ -41,18 +41,18 @@ cells c = omega (arith, start c .pre .0 .cells, kept c)
 
 -- the answer x on the file
 abbrev Read-as : tie.After-read-file → File → Type 0
-Read-as c x = FileRead (parse (start c .args .sheet .now)) (start c .args .table .now) (c .read-file .last .1 .0) (c .read-file .last .1 .1 .0) x
+Read-as c x = FileRead (parse (start c .args .sheet .now)) (start c .args .table .now) (c .read-file .last .1 .0) (replicate 192 0) (c .read-file .last .1 .1 .0) x
 
 -- the file is read
 reads-file :
     (c : tie.After-known-told2) →
     let s = start (read c) in
     let z = read c .read-file in
-    FileAccepted (s .args .sheet .now) (s .args .table .now) (z .last .1 .0) (z .last .1 .1 .0) (c .before .a .given .0 .0)
+    FileAccepted (s .args .sheet .now) (s .args .table .now) (z .last .1 .0) (replicate 192 0) (z .last .1 .1 .0) (c .before .a .given .0 .0)
 reads-file c =
     let s = start (read c) in
     let z = read c .read-file in
-    file-read (s .args .sheet .now) (s .args .table .now) (z .last .1 .0) (z .last .1 .1 .0) (c .before .a .given .0 .0)
+    file-read (s .args .sheet .now) (s .args .table .now) (z .last .1 .0) (replicate 192 0) (z .last .1 .1 .0) (c .before .a .given .0 .0)
     (subst (Read-as (read c)) (c .before .a .given .1) (z .ensures))
 
 slice-aggregate-read-file : tie.Need-slice-aggregate-read-file
@@ -106,7 +106,7 @@ returns-2 : tie.Need-returns-2
 returns-2 c =
     let s = start (read-refused c) in
     let z = read-refused c .read-file in
-    fault-refuses (s .args .sheet .now) (s .args .table .now) (z .last .1 .0) (z .last .1 .1 .0) (c .before .r .given .0 .0)
+    fault-refuses (s .args .sheet .now) (s .args .table .now) (z .last .1 .0) (replicate 192 0) (z .last .1 .1 .0) (c .before .r .given .0 .0)
     (subst (Read-as (read-refused c)) (c .before .r .given .1) (z .ensures)) (zeros (read-refused c))
 
 same-length-6 : tie.Need-same-length-6
