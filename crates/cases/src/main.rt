@@ -11,18 +11,25 @@ fn say(text: &[u8]) {
     io::write_all(STDOUT_FILENO, text);
 }
 
+// The first n bytes of a text.
+fn show(out: &[u8], n: usize) {
+    if n <= out.len() {
+        say(&out[..n]);
+    }
+}
+
 // A number, right-justified in w columns.
 fn say_column(w: usize, v: usize) {
     let mut out = [0u8; 6];
     if w <= 6 {
         text::put_column(&mut out, 0, w, v);
-        console::show(&out, w);
+        show(&out, w);
     }
 }
 
 // A line of 12 bytes without its LF.
 fn say_line(line: [u8; 12]) {
-    console::show(&line, 11);
+    show(&line, 11);
 }
 
 fn say_verdict(v: Verdict) {

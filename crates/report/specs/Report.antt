@@ -1,7 +1,8 @@
--- Document 01, "A whole listing": the lines that the two programs print.
+-- Document 01, "A whole listing": the lines that the programs print.
 use Prim.Native.Nat.{ℕ}
 use mathlib.Core.Bool.{Bool, true, false}
 use mathlib.Core.List.{List, [], _∷_, _++_}
+use Rattle.gate.specs.declared.Refusal.{Refusal}
 use Rattle.text.specs.Bytes.{lf}
 use Rattle.text.specs.Column.{column}
 
@@ -12,6 +13,10 @@ reportLine word a b = word ++ (column 3 a ++ (column 5 b ++ (lf ∷ [])))
 -- "For a refusal either program prints `REF`, number (3), line (5)."
 abbrev pub refusalLine : ℕ → ℕ → List ℕ
 refusalLine number line = reportLine (82 ∷ 69 ∷ 70 ∷ []) number line
+
+-- the line of a refusal
+abbrev pub lineOf : Refusal → List ℕ
+lineOf r = refusalLine (r .number) (r .line)
 
 -- "`YES` or ` NO`, least colour (3), passes (5)"
 abbrev answerWord : Bool → List ℕ

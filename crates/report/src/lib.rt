@@ -2,8 +2,8 @@
 ghost use mathlib.Core.Path.{_≡_};
 ghost use Prim.Native.Nat.{_<_, _≤_};
 ghost use lib.ListN.{length};
-ghost use Rattle.gate.specs.Gate.{Decides};
-ghost use Rattle.report.specs.Report.{reportLine, refusalLine, verdictLine};
+ghost use Rattle.gate.specs.Gate.{Decides, cleared, lentText};
+ghost use Rattle.report.specs.Report.{reportLine, lineOf, verdictLine};
 ghost use Rattle.report.specs.Split.{EndLine, SheetEnds};
 use gate::Refusal;
 
@@ -22,7 +22,7 @@ fn line(word: &[u8], a: usize, b: usize) -> [u8; 12]
 
 // The line of a refusal.
 pub fn refusal_line(r: Refusal) -> [u8; 12]
-    ensures { λ l. ⌜ l ≡ refusalLine (r .number) (r .line) ⌝ }
+    ensures { λ l. ⌜ l ≡ lineOf r ⌝ }
 {
     line(b"REF", r.number as usize, r.line)
 }
@@ -35,6 +35,27 @@ pub fn verdict_line(yes: bool, least: usize, passes: usize) -> [u8; 12]
         return line(b"YES", least, passes);
     }
     line(b" NO", least, passes)
+}
+
+// A line at the front of a buffer, with zeros behind it. The answer is how many bytes it has.
+pub fn put_line(line: &[u8], out: &mut [u8]) -> usize
+    requires { ⌜ length (now line) ≤ length (now out) ⌝ }
+    ensures { λ r. ⌜ (r ≡ length (now (line .entry))) × (now (out .exit) ≡ lentText (now (line .entry)) (now (out .entry))) ⌝ }
+{
+    let n = line.len();
+    text::put_bytes(out, 0, line);
+    gate::clear_bytes(&mut out[n..]);
+    n
+}
+
+// The line of a refusal at the front of a buffer that is all zero.
+pub fn put_refusal(r: Refusal, out: &mut [u8]) -> usize
+    requires { ⌜ (12 ≤ length (now out)) × (now out ≡ cleared (now out)) ⌝ }
+    ensures { λ n. ⌜ (n ≡ length (lineOf r)) × (now (out .exit) ≡ lentText (lineOf r) (now (out .entry))) ⌝ }
+{
+    let line = refusal_line(r);
+    text::put_bytes(out, 0, &line);
+    12
 }
 
 // Whether the line that starts at a, if one does, is just END.

@@ -1,8 +1,8 @@
--- The pieces, written one behind the other, are the line: `pieces`. Assumes nothing.
+-- The pieces, written one behind the other, are the line: `line-put`. Assumes nothing.
 use mathlib.Core.Path.{refl}
 use denote.Ref.{now}
 use lib.ListN.{replicate}
-use Rattle.report.specs.ReportLaws.{pieces}
+use Rattle.report.specs.ReportLaws.{line-put}
 use borrow.Author.Needs.{needs}
 use Rattle.report.proofs.line.Statement.{statement}
 use Rattle.report.proofs.line.Tie as tie
@@ -31,7 +31,7 @@ array-write-out c = search needs
 returns : tie.Need-returns
 returns c =
     let s = c .before .before .before .before .before .before .before .before .before .before in
-    cc (pieces (replicate 12 0) (now (s .args .word)) (s .args .a) (s .args .b) refl (s .pre))
+    cc (line-put (replicate 12 0) (now (s .args .word)) (s .args .a) (s .args .b) refl (s .pre))
 
 pub line-spec : {M : Type 1} → statement M
 line-spec =

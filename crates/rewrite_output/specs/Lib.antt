@@ -1,0 +1,4 @@
+pub mod Rewrite
+pub mod Put
+pub mod PutLaws
+pub mod RewriteLaws

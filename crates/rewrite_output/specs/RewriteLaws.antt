@@ -1,0 +1,125 @@
+-- What `rewrite` prints: one line for an input that is too long, each number of a witness whole, and the ends of the call. Assumes nothing.
+use Prim.Native.Nat.{ℕ, _+_, _^_, _≤_, _<_}
+use mathlib.Core.Path.{_≡_, refl, ap, ap₂, subst, _∙_}
+use mathlib.Core.Logic.{_⊎_, inl, inr, _↔_}
+use mathlib.Core.List.{List, _∷_}
+use native.Mathlib.Nat.{zero-add}
+use native.Mathlib.Omega.{arith}
+use lib.ListN.{length, getD, take}
+use Rattle.gate.specs.Gate.{refusal, cleared}
+use Rattle.gate.specs.GateLaws.{length-cleared}
+use Rattle.gate.specs.declared.Refusal.{Refusal}
+use Rattle.gate.specs.declared.Written.the-variants.{Refused, Bytes}
+use Rattle.lists.specs.ChoiceLaws.{lt-or-ge}
+use Rattle.text.specs.Bytes.{space}
+use Rattle.text.specs.Column.{column}
+use Rattle.text.specs.ColumnLaws.{column-injective}
+use Rattle.automaton.specs.Automaton.{Fits}
+use Rattle.automaton.specs.EdgeLaws.{edge-letter, walk-in}
+use Rattle.automaton.specs.Meeting.{cells}
+use Rattle.automaton.specs.Lent.{Tables, Long, Meets}
+use Rattle.format.specs.Format.{Sheet, FileIs, Faulty, mostSheet}
+use Rattle.format.specs.FormatLaws.{fault-number}
+use Rattle.format.specs.Numbers.{numbers}
+use Rattle.format.specs.NumbersLaws.{sheet-fits}
+use Rattle.parser.specs.UniqueLaws.{fault-unique, file-or-fault}
+use Rattle.sheet.specs.Read.{Refuses}
+use Rattle.writer.specs.Same.{writing}
+use Rattle.writer.specs.RoundTrip.{writing-most}
+use Rattle.writer.specs.Write.{Writes}
+use Rattle.report.specs.Report.{refusalLine}
+use Rattle.report.specs.Output.{Prints, TooLong}
+use Rattle.report.specs.OutputLaws.{zero-again, front-lent, same-lent, enough}
+use Rattle.rewrite_output.specs.Rewrite.{longestRewrite, spaced, RewriteOutput}
+use Rattle.rewrite_output.specs.Put.{refusalText, WrittenAt}
+use Rattle.rewrite_output.specs.PutLaws.{spaced-one, spaced-two, spaced-length, text-other, text-ten, refusal-most}
+
+-- TOO LONG: "Is the sheet at most 24,576 bytes ..? No: 2", and nothing else is printed
+pub too-long-rewrite : TooLong RewriteOutput mostSheet (refusalLine 2 0)
+too-long-rewrite s text h = (to, λ e. RewriteOutput.refused 2 0 (Faulty.size h) e)
+  where
+    to : RewriteOutput s text → text ≡ refusalLine 2 0
+    to (RewriteOutput.refused number line fault e) =
+        let (p, q) = fault-unique s number 2 line 0 fault (Faulty.size h) in
+        e ∙ ap₂ refusalLine p q
+    to (RewriteOutput.meeting σ file v w r m e) = absurd (file-or-fault s σ 2 0 file (Faulty.size h))
+    to (RewriteOutput.written σ accepted e) = absurd (file-or-fault s σ 2 0 (accepted .file) (Faulty.size h))
+
+-- the first 24,577 bytes of the input are enough
+pub rewrite-enough : (s text : List ℕ) → RewriteOutput s text ↔ RewriteOutput (take (mostSheet + 1) s) text
+rewrite-enough = enough too-long-rewrite
+
+-- THE NUMBERS OF A WITNESS have one digit or two, so that each is shown whole
+
+pub record WitnessShown (w : Tables) (t : ℕ) : Type 0 where
+  pub letters : (i : ℕ) → i < t → getD (w .word) i 0 < 8
+  pub one : (i : ℕ) → i ≤ t → getD (w .one) i 0 < 16
+  pub other : (i : ℕ) → i ≤ t → getD (w .other) i 0 < 16
+
+pub witness-shown : (s : List ℕ) (σ : Sheet) → FileIs s σ → {v w : Tables} {r : Refusal} → Meets (numbers σ) v w r → WitnessShown w (r .length)
+witness-shown s σ file {v} {w} {r} m =
+    let fits : Fits (numbers σ) = sheet-fits s σ file in
+    let n = fits .range .1 in
+    let meet = m .witness .meets in
+    let t = r .length in
+    let word = cells (w .word) in
+    record {
+      letters = λ i h. edge-letter (numbers σ) fits (word i) _ _ (meet .one .goes i h);
+      one = λ i h. omega (arith, walk-in (numbers σ) fits word t (cells (w .one)) (meet .one) i h);
+      other = λ i h. omega (arith, walk-in (numbers σ) fits word t (cells (w .other)) (meet .other) i h);
+    }
+
+-- a space and a number of one digit or two tell the number
+pub spaced-injective : (u v : ℕ) → u < 100 → v < 100 → spaced u ≡ spaced v → u ≡ v
+spaced-injective u v hu hv e = by (lt-or-ge u 10) (lt-or-ge v 10)
+  where
+    same : (w : ℕ) → u < 10 ^ w → v < 10 ^ w → spaced u ≡ space ∷ column w u → spaced v ≡ space ∷ column w v → u ≡ v
+    same w p q a b = let c : column w u ≡ column w v = cc in column-injective w u v p q c
+
+    by : (u < 10) ⊎ (10 ≤ u) → (v < 10) ⊎ (10 ≤ v) → u ≡ v
+    by (inl p) (inl q) = same 1 p q (spaced-one p) (spaced-one q)
+    by (inr p) (inr q) = same 2 hu hv (spaced-two p) (spaced-two q)
+    by (inl p) (inr q) = absurd (omega (arith, spaced-length u 1 (spaced-one p), spaced-length v 2 (spaced-two q), ap length e))
+    by (inr p) (inl q) = absurd (omega (arith, spaced-length u 2 (spaced-two p), spaced-length v 1 (spaced-one q), ap length e))
+
+-- A REFUSAL by questions 2 to 10
+
+module _ {s : List ℕ} {v w : Tables} {r : Refusal} where
+  refused-most : Refuses s v w r → r .length ≤ 136
+  refused-most (Refuses.faulty number line f e z) = omega (arith, ap (λ (r : Refusal). r .length) e)
+  refused-most (Refuses.meeting σ f m) = m .witness .most
+
+  refused-output : Refuses s v w r → RewriteOutput s (refusalText r w)
+  refused-output (Refuses.faulty number line f e z) =
+      let is : refusalText r w ≡ refusalLine number line =
+      ap (λ (x : Refusal). refusalText x w) e ∙ text-other (refusal number line) w (λ n. omega (arith, fault-number f .1)) in
+      RewriteOutput.refused number line f is
+  refused-output (Refuses.meeting σ f m) = RewriteOutput.meeting σ f v w r m (text-ten r w (m .number))
+
+-- THE ENDS OF THE CALL, behind writing into a buffer that was b and is c then
+
+module _ {s : List ℕ} {v w : Tables} {b c : List ℕ} (room : longestRewrite ≤ length b) where
+  pub bytes-printed : {m : ℕ} → Writes s v w b c (Bytes m) → Prints (RewriteOutput s) longestRewrite b c m
+  bytes-printed (Writes.short n e z k) = let x : _≡_ {A = ℕ} 0 1 = cc in absurd (omega arith)
+  bytes-printed (Writes.refused l x f e k) = let x : _≡_ {A = ℕ} 0 1 = cc in absurd (omega arith)
+  bytes-printed (Writes.asked l σ a z (count, fits, is)) =
+      Prints.printed room (writing σ) (RewriteOutput.written σ a refl) count (writing-most s σ (a .file)) is
+
+  -- question 1 is not answered no: the tables and the buffer are long enough
+  refused-behind : {r : Refusal} → Long v → Writes s v w b c (Refused r) → Refuses s v w r × (c ≡ cleared b)
+  refused-behind long (Writes.short n e z k) = absurd (n long)
+  refused-behind {r} long (Writes.refused l x f e k) = let same : x ≡ r = cc in (subst (Refuses s v w) same f, k)
+  refused-behind long (Writes.asked l σ a z (short, e, k)) = absurd (omega (arith, writing-most s σ (a .file)))
+
+  module _ {r : Refusal} (long : Long v) (h : Writes s v w b c (Refused r)) where
+    pub refused-short : r .length ≤ 136
+    refused-short = refused-most (refused-behind long h .0)
+
+    pub refused-printed : {d : List ℕ} {n : ℕ} → WrittenAt (refusalText r w) c 0 d n → Prints (RewriteOutput s) longestRewrite b d n
+    refused-printed {d} {n} x =
+        let (f, zero) = refused-behind long h in
+        let text = refusalText r w in
+        let most : length text ≤ 1257 = refusal-most r w (refused-most f) in
+        let kept : length c ≡ length b = ap length zero ∙ length-cleared b in
+        Prints.printed room text (refused-output f) (x .behind-it ∙ zero-add (length text)) (omega arith)
+        (front-lent text c (zero-again b c zero) (omega arith) (x .stored) ∙ same-lent text b c kept)

@@ -1,0 +1,17 @@
+-- What the parts of `verdict` answer.
+use Prim.Native.Nat.{ℕ}
+use mathlib.Core.List.{List}
+use Rattle.judge.specs.Passes.{isYes}
+use Rattle.judge.specs.declared.Verdict.{Verdict}
+use Rattle.judge.specs.declared.Outcome.{Outcome}
+use Rattle.judge.specs.declared.Outcome.the-variants.{Refused, Judged}
+use Rattle.report.specs.Report.{lineOf, verdictLine}
+
+-- the line of a verdict
+abbrev pub judgedLine : Verdict → List ℕ
+judgedLine z = verdictLine (isYes (z .answer)) (z .least) (z .passes)
+
+-- the line of an outcome
+abbrev pub outcomeLine : Outcome → List ℕ
+outcomeLine (Refused r) = lineOf r
+outcomeLine (Judged z) = judgedLine z

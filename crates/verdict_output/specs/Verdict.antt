@@ -1,0 +1,41 @@
+-- Document 01, "A whole listing": "Program `verdict` (room 1,024) reads a sheet and after its END a plan". What it prints.
+use Prim.Native.Nat.{ℕ, _+_}
+use mathlib.Core.Path.{_≡_}
+use mathlib.Core.List.{List}
+use lib.ListN.{take, drop}
+use Rattle.gate.specs.declared.Refusal.{Refusal}
+use Rattle.automaton.specs.Lent.{Tables}
+use Rattle.format.specs.Format.{Sheet, mostSheet}
+use Rattle.format.specs.Numbers.{numbers}
+use Rattle.sheet.specs.Read.{Accepted}
+use Rattle.tracker.specs.Build.{Store, Fitted}
+use Rattle.plan.specs.Plan.{mostPlan}
+use Rattle.judge.specs.Passes.{isYes}
+use Rattle.judge.specs.Verdict.{SizesFit, Refusing, Verdicts}
+use Rattle.judge.specs.declared.Verdict.{Verdict}
+use Rattle.report.specs.Report.{refusalLine, verdictLine}
+use Rattle.report.specs.Split.{SheetEnds}
+use Rattle.report.specs.Output.{programRoom}
+
+-- a line of a report
+abbrev pub longestVerdict : ℕ
+longestVerdict = 12
+
+-- the most bytes that a sheet and a plan may have together: 36,864
+abbrev pub mostInput : ℕ
+mostInput = mostSheet + mostPlan
+
+-- for a sheet s and a plan p
+pub data VerdictOn (s p text : List ℕ) : Type 0 where
+  -- 2 to 14: "For a refusal either program prints `REF`, number (3), line (5)."
+  refused : (v w : Tables) (f : Store) (r : Refusal) → Refusing s p programRoom v w f r → text ≡ refusalLine (r .number) (r .line) → VerdictOn s p text
+  -- "`YES` or ` NO`, least colour (3), passes (5)"
+  judged : SizesFit s p → (σ : Sheet) → Accepted s σ → (f g : Store) (count : ℕ) → Fitted (numbers σ) programRoom f g count
+      → (lead cycle : List ℕ) (z : Verdict) → Verdicts σ p lead cycle count z
+      → text ≡ verdictLine (isYes (z .answer)) (z .least) (z .passes) → VerdictOn s p text
+
+-- WHAT `verdict` PRINTS for the input s: "There the sheet reaches to the first line that is just END (to the end of input if none)"
+pub record VerdictOutput (s text : List ℕ) : Type 0 where
+  pub end : ℕ
+  pub split : SheetEnds s end
+  pub on : VerdictOn (take end s) (drop end s) text

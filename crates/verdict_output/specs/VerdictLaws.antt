@@ -1,0 +1,80 @@
+-- `verdict` prints the line of what judging answers, an input that is too long has one answer, and what is read of the input is enough. Assumes nothing.
+use Prim.Native.Nat.{ℕ, _+_, _≤_, _<_}
+use mathlib.Core.Path.{_≡_, refl, ap, subst, _∙_}
+use mathlib.Core.List.{List, []}
+use mathlib.Core.Logic.{_↔_}
+use native.Mathlib.Omega.{arith}
+use lib.ListN.{length, take, drop, length-drop}
+use lib.Seq.{length-take-le}
+use Rattle.gate.specs.Gate.{refusal, lentText}
+use Rattle.automaton.specs.Lent.{Tables, tables}
+use Rattle.text.specs.Bytes.{stretch}
+use Rattle.text.specs.BytesLaws.{stretch-end}
+use Rattle.tracker.specs.Build.{Store, store, Lent}
+use Rattle.judge.specs.Passes.{isYes}
+use Rattle.judge.specs.Verdict.{SizesFit, Refusing, Judgement}
+use Rattle.judge.specs.declared.Outcome.{Outcome}
+use Rattle.judge.specs.declared.Outcome.the-variants.{Refused, Judged}
+use Rattle.report.specs.Report.{refusalLine, lineOf}
+use Rattle.report.specs.ReportLaws.{refusal-length, verdict-length}
+use Rattle.report.specs.Split.{SheetEnds}
+use Rattle.report.specs.SplitLaws.{ends-within, some-end}
+use Rattle.report.specs.Output.{programRoom, Prints, TooLong}
+use Rattle.report.specs.OutputLaws.{enough}
+use Rattle.verdict_output.specs.Verdict.{longestVerdict, mostInput, VerdictOn, VerdictOutput}
+use Rattle.verdict_output.specs.Parts.{outcomeLine}
+
+-- AN INPUT THAT IS TOO LONG, wherever its sheet ends
+
+-- one of both parts is
+no-sizes : (s : List ℕ) (e : ℕ) → mostInput < length s → SheetEnds s e → SizesFit (take e s) (drop e s) → ⊥
+no-sizes s e long split fit =
+    let h = ends-within s e split in
+    omega (arith, length-take-le e s h, length-drop e s, fit .sheet, fit .plan)
+
+only-size : (s p text : List ℕ) → (SizesFit s p → ⊥) → VerdictOn s p text → text ≡ refusalLine 2 0
+only-size s p text not (VerdictOn.refused v w f r (Refusing.by-size n e z) q) = q ∙ ap lineOf e
+only-size s p text not (VerdictOn.refused v w f r (Refusing.by-sheet fit x) q) = absurd (not fit)
+only-size s p text not (VerdictOn.refused v w f r (Refusing.by-room fit σ x m e z) q) = absurd (not fit)
+only-size s p text not (VerdictOn.refused v w f r (Refusing.by-plan fit σ x h count g number line y e z) q) = absurd (not fit)
+only-size s p text not (VerdictOn.judged fit σ x f g count h lead cycle z y q) = absurd (not fit)
+
+by-size : (s p text : List ℕ) → (SizesFit s p → ⊥) → text ≡ refusalLine 2 0 → VerdictOn s p text
+by-size s p text not q =
+    VerdictOn.refused (tables [] [] []) (tables [] [] []) (store [] []) (refusal 2 0) (Refusing.by-size not refl refl) q
+
+pub too-long-verdict : TooLong VerdictOutput mostInput (refusalLine 2 0)
+too-long-verdict s text long =
+    let (e, split) = some-end s in (
+      λ o. only-size _ _ text (no-sizes s (o .end) long (o .split)) (o .on),
+      λ q. record { end = e; split = split; on = by-size _ _ text (no-sizes s e long split) q },
+    )
+
+-- the first 36,865 bytes of the input are enough
+pub verdict-enough : (s text : List ℕ) → VerdictOutput s text ↔ VerdictOutput (take (mostInput + 1) s) text
+verdict-enough = enough too-long-verdict
+
+-- THE ANSWERS OF JUDGING, in tables that are long enough
+
+outcome-length : (o : Outcome) → length (outcomeLine o) ≡ 12
+outcome-length (Refused r) = refusal-length (r .number) (r .line)
+outcome-length (Judged z) = verdict-length (isYes (z .answer)) (z .least) (z .passes)
+
+judgement-on : {s p t u : List ℕ} {v w : Tables} {f g : Store} {o : Outcome} → Lent programRoom t v f → Judgement s p programRoom t u v w f g o
+    → VerdictOn s p (outcomeLine o)
+judgement-on lent (Judgement.short n e x y z) = absurd (n lent)
+judgement-on {v = v} {w} {f} lent (Judgement.refused l r x e y z) = VerdictOn.refused v w f r x (ap outcomeLine e)
+judgement-on {f = f} {g} lent (Judgement.judged l fit σ x count h lead cycle z y e p q) = VerdictOn.judged fit σ x f g count h lead cycle z y (ap outcomeLine e)
+
+-- the sheet is what stands before its end, and the plan is the rest
+pub judgement-output : {s t u : List ℕ} {v w : Tables} {f g : Store} {o : Outcome} (e : ℕ) → SheetEnds s e → Lent programRoom t v f
+    → Judgement (take e s) (stretch s e (length s)) programRoom t u v w f g o → VerdictOutput s (outcomeLine o)
+judgement-output {s} {o = o} e split lent j =
+    record { end = e; split = split; on = subst (λ (p : List ℕ). VerdictOn (take e s) p (outcomeLine o)) (stretch-end s e) (judgement-on lent j) }
+
+-- the line of an outcome at the front of a buffer
+pub line-prints : {s line b c : List ℕ} {count : ℕ} (o : Outcome) → VerdictOutput s (outcomeLine o) → line ≡ outcomeLine o → longestVerdict ≤ length b
+    → (count ≡ length line) × (c ≡ lentText line b) → Prints (VerdictOutput s) longestVerdict b c count
+line-prints {s} {line} {b} o out e long (n, f) =
+    let k = outcome-length o in
+    Prints.printed long (outcomeLine o) out (n ∙ ap length e) (omega arith) (f ∙ ap (λ (x : List ℕ). lentText x b) e)
