@@ -1,0 +1,88 @@
+-- The answers of the public calls in numbers, for callers that have no enums: the cells of each answer, and a lent table that holds them.
+use Prim.Native.Nat.{ℕ}
+use mathlib.Core.Path.{_≡_}
+use mathlib.Core.List.{List, [], _∷_}
+use lib.ListN.{length, take}
+use Rattle.gate.specs.Gate.{padded}
+use Rattle.gate.specs.declared.Refusal.{Refusal}
+use Rattle.gate.specs.declared.Written.{Written}
+use Rattle.gate.specs.declared.Written.the-variants.{Refused as WriteRefused, Bytes}
+use Rattle.automaton.specs.Automaton.{Automaton}
+use Rattle.automaton.specs.declared.Numbers.{Numbers}
+use Rattle.walks.specs.declared.Checked.{Checked}
+use Rattle.walks.specs.declared.Checked.the-variants.{Refused as CheckRefused, Accepted}
+use Rattle.sheet.specs.Letters.{NameIs}
+use Rattle.sheet.specs.declared.Read.{Read}
+use Rattle.sheet.specs.declared.Read.the-variants.{Refused as ReadRefused, Is as ReadIs}
+use Rattle.sheet.specs.declared.Found.{Found}
+use Rattle.sheet.specs.declared.Found.the-variants.{Refused as FindRefused, Letter}
+use Rattle.tracker.specs.declared.Built.{Built}
+use Rattle.tracker.specs.declared.Built.the-variants.{Refused as BuildRefused, Is as BuildIs}
+use Rattle.judge.specs.declared.Answer.{Answer}
+use Rattle.judge.specs.declared.Answer.the-variants.{Yes, No}
+use Rattle.judge.specs.declared.Outcome.{Outcome}
+use Rattle.judge.specs.declared.Outcome.the-variants.{Refused as JudgeRefused, Judged}
+
+-- as much of a list as a lent table holds, with zeros behind it
+abbrev pub into : List ℕ → List ℕ → List ℕ
+into table list = take (length table) (padded (length table) list)
+
+-- THE ANSWER OF A CALL IN NUMBERS: an answer that the call's contract allows, by its cells in a lent table that was a and is b
+pub record InNumbers {X : Type 0} (Call : X → Type 0) (cells : X → List ℕ) (a b : List ℕ) : Type 0 where
+  pub answer : X
+  pub call : Call answer
+  pub table : b ≡ into a (cells answer)
+
+-- a sheet as numbers, from a call's arguments
+abbrev pub asNumbers : ℕ → ℕ → ℕ → ℕ → List ℕ → Automaton
+asNumbers n k initial recurring table = record { n = n; k = k; initial = initial; recurring = recurring; table = table }
+
+-- THE CELLS OF AN ANSWER. Where there are several cases the first cell tells which it is, and 0 is a refusal.
+
+-- "A refusal is the number with the line"; behind them the length of the witness
+abbrev pub numberCells : Refusal → List ℕ
+numberCells r = r .number ∷ r .line ∷ r .length ∷ []
+
+abbrev pub refusalCells : Refusal → List ℕ
+refusalCells r = 0 ∷ numberCells r
+
+abbrev pub checkedCells : Checked → List ℕ
+checkedCells (CheckRefused r) = refusalCells r
+checkedCells Accepted = 1 ∷ []
+
+abbrev pub sheetCells : Numbers → List ℕ
+sheetCells a = a .n ∷ a .k ∷ a .initial ∷ a .recurring ∷ []
+
+abbrev pub readCells : Read → List ℕ
+readCells (ReadRefused r) = refusalCells r
+readCells (ReadIs a) = 1 ∷ sheetCells a
+
+abbrev pub writtenCells : Written → List ℕ
+writtenCells (WriteRefused r) = refusalCells r
+writtenCells (Bytes count) = 1 ∷ count ∷ []
+
+abbrev pub foundCells : Found → List ℕ
+foundCells (FindRefused r) = refusalCells r
+foundCells (Letter l) = 1 ∷ l ∷ []
+
+abbrev pub builtCells : Built → List ℕ
+builtCells (BuildRefused r) = refusalCells r
+builtCells (BuildIs x) = 1 ∷ x .numbers .n ∷ x .numbers .k ∷ x .numbers .initial ∷ x .numbers .recurring ∷ x .tuples ∷ []
+
+-- a judged plan: 1 for yes, 2 for no
+abbrev pub answerCell : Answer → ℕ
+answerCell Yes = 1
+answerCell No = 2
+
+abbrev pub outcomeCells : Outcome → List ℕ
+outcomeCells (JudgeRefused r) = refusalCells r
+outcomeCells (Judged z) = answerCell (z .answer) ∷ z .least ∷ z .passes ∷ []
+
+-- a name: how many bytes it has
+abbrev pub nameCells : List ℕ → List ℕ
+nameCells name = length name ∷ []
+
+-- the name of a letter, with its bytes in a lent buffer that was b and is c
+pub record NameCopied (s : List ℕ) (letter : ℕ) (b c : List ℕ) (name : List ℕ) : Type 0 where
+  pub is : NameIs s letter name
+  pub bytes : c ≡ into b name

@@ -1,0 +1,101 @@
+// The calls on a whole sheet: checked, read, written.
+ghost use Rattle.automaton.specs.Lent.{tables};
+ghost use Rattle.walks.specs.Check.{Checks};
+ghost use Rattle.sheet.specs.Read.{Reads};
+ghost use Rattle.writer.specs.Write.{Writes, WritesNumbers};
+ghost use Rattle.answers.specs.Answer.{InNumbers, asNumbers, checkedCells, readCells, writtenCells};
+use automaton::Numbers;
+
+// `walks::check`
+#[no_mangle]
+pub extern "C" fn lunthomi_check(
+    n: usize,
+    k: usize,
+    initial: u16,
+    recurring: u16,
+    table: &[u16],
+    word: &mut [u16],
+    one: &mut [u16],
+    other: &mut [u16],
+    answer: &mut [usize],
+)
+    ensures { λ _. ⌜ InNumbers (Checks (asNumbers n k initial recurring (now (table .entry)))
+        (tables (now (word .entry)) (now (one .entry)) (now (other .entry))) (tables (now (word .exit)) (now (one .exit)) (now (other .exit))))
+        checkedCells (now (answer .entry)) (now (answer .exit)) ⌝ }
+{
+    let a = Numbers {
+        n,
+        k,
+        initial,
+        recurring,
+    };
+    let r = walks::check(a, table, word, one, other);
+    answers::put_checked(r, answer);
+}
+
+// `sheet::read_sheet`
+#[no_mangle]
+pub extern "C" fn lunthomi_read_sheet(
+    sheet: &[u8],
+    table: &mut [u16],
+    word: &mut [u16],
+    one: &mut [u16],
+    other: &mut [u16],
+    answer: &mut [usize],
+)
+    ensures { λ _. ⌜ InNumbers (Reads (now (sheet .entry)) (now (table .entry)) (now (table .exit))
+        (tables (now (word .entry)) (now (one .entry)) (now (other .entry))) (tables (now (word .exit)) (now (one .exit)) (now (other .exit))))
+        readCells (now (answer .entry)) (now (answer .exit)) ⌝ }
+{
+    let r = sheet::read_sheet(sheet, table, word, one, other);
+    answers::put_read(r, answer);
+}
+
+// `writer::write`
+#[no_mangle]
+pub extern "C" fn lunthomi_write(
+    sheet: &[u8],
+    word: &mut [u16],
+    one: &mut [u16],
+    other: &mut [u16],
+    out: &mut [u8],
+    answer: &mut [usize],
+)
+    ensures { λ _. ⌜ InNumbers (Writes (now (sheet .entry))
+        (tables (now (word .entry)) (now (one .entry)) (now (other .entry))) (tables (now (word .exit)) (now (one .exit)) (now (other .exit)))
+        (now (out .entry)) (now (out .exit)))
+        writtenCells (now (answer .entry)) (now (answer .exit)) ⌝ }
+{
+    let r = writer::write(sheet, word, one, other, out);
+    answers::put_written(r, answer);
+}
+
+// `writer::write_numbers`
+#[no_mangle]
+pub extern "C" fn lunthomi_write_numbers(
+    n: usize,
+    k: usize,
+    initial: u16,
+    recurring: u16,
+    table: &[u16],
+    names: &[u8],
+    word: &mut [u16],
+    one: &mut [u16],
+    other: &mut [u16],
+    out: &mut [u8],
+    answer: &mut [usize],
+)
+    ensures { λ _. ⌜ InNumbers (WritesNumbers (asNumbers n k initial recurring (now (table .entry))) (now (names .entry))
+        (tables (now (word .entry)) (now (one .entry)) (now (other .entry))) (tables (now (word .exit)) (now (one .exit)) (now (other .exit)))
+        (now (out .entry)) (now (out .exit)))
+        writtenCells (now (answer .entry)) (now (answer .exit)) ⌝ }
+{
+    let a = Numbers {
+        n,
+        k,
+        initial,
+        recurring,
+    };
+    let r = writer::write_numbers(a, table, names, word, one, other, out);
+    answers::put_written(r, answer);
+}

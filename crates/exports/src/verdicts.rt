@@ -1,0 +1,28 @@
+// The call that judges a plan.
+ghost use Rattle.automaton.specs.Lent.{tables};
+ghost use Rattle.tracker.specs.Build.{store};
+ghost use Rattle.judge.specs.Verdict.{Judgement};
+ghost use Rattle.answers.specs.Answer.{InNumbers, outcomeCells};
+
+// `judge::files::verdict`
+#[no_mangle]
+pub extern "C" fn lunthomi_verdict(
+    sheet: &[u8],
+    plan: &[u8],
+    room: usize,
+    table: &mut [u16],
+    tuples: &mut [u16],
+    nexts: &mut [u16],
+    word: &mut [u16],
+    one: &mut [u16],
+    other: &mut [u16],
+    answer: &mut [usize],
+)
+    ensures { λ _. ⌜ InNumbers (Judgement (now (sheet .entry)) (now (plan .entry)) room (now (table .entry)) (now (table .exit))
+        (tables (now (word .entry)) (now (one .entry)) (now (other .entry))) (tables (now (word .exit)) (now (one .exit)) (now (other .exit)))
+        (store (now (tuples .entry)) (now (nexts .entry))) (store (now (tuples .exit)) (now (nexts .exit))))
+        outcomeCells (now (answer .entry)) (now (answer .exit)) ⌝ }
+{
+    let r = judge::files::verdict(sheet, plan, room, table, tuples, nexts, word, one, other);
+    answers::put_outcome(r, answer);
+}
