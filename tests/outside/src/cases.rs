@@ -4,7 +4,8 @@
 //! verdict, the length and a sum of the listing, and the length and a sum of the sheet written out, or a refusal in the place of each.
 
 use super::*;
-use sheet::Plan;
+use expected::{accepted, refusal, split};
+use sheet::{read_sheet, No, Plan, Sheet};
 
 const A16: &str = "abcdefghijklmnop";
 
@@ -22,8 +23,8 @@ fn answer(room: usize, input: &[u8]) -> String {
     let counted = |word: &str, text: &[u8]| format!("{word}{:7}{:6}", text.len(), sum(text));
     let (file, _) = split(input);
     let in_room = (1..=ROOM).contains(&room);
-    let verdict = if in_room { expected_verdict(input, room) } else { Err((1, 0)) };
-    let listing = if in_room { expected_listing(file, room) } else { Err((1, 0)) };
+    let verdict = if in_room { expected::verdict(input, room) } else { Err((1, 0)) };
+    let listing = if in_room { expected::listing(file, room) } else { Err((1, 0)) };
     let copy = accepted(file).map(|s| write_sheet(&s, true));
     format!(
         "{} {} {}",
@@ -33,7 +34,7 @@ fn answer(room: usize, input: &[u8]) -> String {
     )
 }
 
-fn sheet_of(n: usize, k: usize, initial: &[usize], recurring: &[usize], edges: &[(usize, usize, usize)]) -> Sheet {
+pub fn sheet_of(n: usize, k: usize, initial: &[usize], recurring: &[usize], edges: &[(usize, usize, usize)]) -> Sheet {
     let mut next = vec![vec![Vec::new(); k]; n];
     edges.iter().for_each(|(q, l, r)| next[*q][*l].push(*r));
     next.iter_mut().flatten().for_each(|x| x.sort());
@@ -47,7 +48,7 @@ fn sheet_of(n: usize, k: usize, initial: &[usize], recurring: &[usize], edges: &
     }
 }
 
-fn sheet_b() -> Sheet {
+pub fn sheet_b() -> Sheet {
     sheet_of(2, 2, &[0, 1], &[1], &[(0, 0, 0), (0, 1, 0), (0, 1, 1), (1, 0, 1)])
 }
 

@@ -1,16 +1,20 @@
 //! Do a tracker and a Rabin automaton accept the same endless sequences? Decided on their product, not by samples.
 
-use crate::graph::components;
+use crate::graph::Graph;
 use crate::safra::Rabin;
 use crate::tuples::Tracker;
 use std::collections::HashMap;
 
-struct Product {
-    edges: Vec<Vec<usize>>,
-    nodes: Vec<(usize, usize)>,
+struct Product<'a> {
+    graph: Graph,
+    /// Of each node: the colour of its tuple, which is entered with it, and its tree.
+    colour: Vec<usize>,
+    tree: Vec<usize>,
+    rabin: &'a Rabin,
 }
 
-fn product(t: &Tracker, r: &Rabin) -> Product {
+/// The reachable pairs of tuple and tree, or None where there are more than `room`.
+fn product<'a>(t: &Tracker, r: &'a Rabin, room: usize) -> Option<Product<'a>> {
     let mut nodes = vec![(0, 0)];
     let mut number = HashMap::from([((0, 0), 0)]);
     let mut edges: Vec<Vec<usize>> = Vec::new();
@@ -27,53 +31,84 @@ fn product(t: &Tracker, r: &Rabin) -> Product {
             row.push(i);
         }
         edges.push(row);
+        if nodes.len() > room {
+            return None;
+        }
     }
-    Product { edges, nodes }
+    let colour = nodes.iter().map(|x| t.tuples[x.0].colour).collect();
+    let tree = nodes.iter().map(|x| x.1).collect();
+    Some(Product { graph: Graph::new(edges), colour, tree, rabin: r })
 }
 
-/// Is there a loop that Rabin rejects (for every pair: marked without end only if absent without end) and that has colour c?
-fn rejected_loop(p: &Product, r: &Rabin, nodes: &[usize], has: &dyn Fn(usize) -> bool) -> bool {
-    for part in components(nodes, &p.edges) {
-        if !part.iter().any(|x| has(*x)) {
-            continue;
-        }
-        let bad = r.pairs.iter().find(|(marked, absent)| {
-            part.iter().any(|x| marked[p.nodes[*x].1]) && !part.iter().any(|x| absent[p.nodes[*x].1])
-        });
-        match bad {
-            None => return true,
-            Some((marked, _)) => {
-                let rest: Vec<usize> = part.iter().copied().filter(|x| !marked[p.nodes[*x].1]).collect();
-                if rejected_loop(p, r, &rest, has) {
+impl Product<'_> {
+    fn least(&self, part: &[usize]) -> usize {
+        part.iter().map(|x| self.colour[*x]).min().unwrap()
+    }
+
+    fn without_colour(&self, part: &[usize], c: usize) -> Vec<usize> {
+        part.iter().copied().filter(|x| self.colour[*x] != c).collect()
+    }
+
+    /// The pairs by which a loop through all of these nodes is accepted: marked somewhere and nowhere absent.
+    fn accepting(&self, part: &[usize]) -> Vec<usize> {
+        let trees: Vec<usize> = part.iter().map(|x| self.tree[*x]).collect();
+        let good = |(marked, absent): &(Vec<bool>, Vec<bool>)| trees.iter().any(|y| marked[*y]) && !trees.iter().any(|y| absent[*y]);
+        (0..self.rabin.pairs.len()).filter(|p| good(&self.rabin.pairs[*p])).collect()
+    }
+
+    /// Is there a loop in these nodes with an even least colour that Rabin rejects?
+    fn wrongly_passed(&mut self, nodes: &[usize]) -> bool {
+        for part in self.graph.components(nodes) {
+            let c = self.least(&part);
+            let rest = if c % 2 == 1 {
+                // A loop with an even least colour avoids this one.
+                self.without_colour(&part, c)
+            } else {
+                let accepting = self.accepting(&part);
+                if accepting.is_empty() {
                     return true;
                 }
+                // A rejected loop avoids every tree in which such a pair is marked.
+                let marked = |x: usize| accepting.iter().any(|p| self.rabin.pairs[*p].0[self.tree[x]]);
+                part.iter().copied().filter(|x| !marked(*x)).collect()
+            };
+            if self.wrongly_passed(&rest) {
+                return true;
             }
         }
+        false
     }
-    false
+
+    /// Is there a loop in these nodes with an odd least colour, in which pair p is marked? (It is absent in none of the nodes.)
+    fn wrongly_refused(&mut self, nodes: &[usize], p: usize) -> bool {
+        for part in self.graph.components(nodes) {
+            if !part.iter().any(|x| self.rabin.pairs[p].0[self.tree[*x]]) {
+                continue;
+            }
+            let c = self.least(&part);
+            if c % 2 == 1 || self.wrongly_refused(&self.without_colour(&part, c), p) {
+                return true;
+            }
+        }
+        false
+    }
 }
 
-/// The colour of a tuple is entered with it, so a loop's colours are those of its tuples.
-pub fn same_sequences(t: &Tracker, r: &Rabin) -> bool {
-    let p = product(t, r);
-    let colour = |x: usize| t.tuples[p.nodes[x].0].colour;
-    let top = (0..p.nodes.len()).map(colour).max().unwrap();
-    for c in 1..=top {
-        let nodes: Vec<usize> = (0..p.nodes.len()).filter(|x| colour(*x) >= c).collect();
-        if c % 2 == 0 {
-            if rejected_loop(&p, r, &nodes, &|x| colour(x) == c) {
-                return false;
-            }
-        } else {
-            for (marked, absent) in &r.pairs {
-                let present: Vec<usize> = nodes.iter().copied().filter(|x| !absent[p.nodes[*x].1]).collect();
-                for part in components(&present, &p.edges) {
-                    if part.iter().any(|x| marked[p.nodes[*x].1]) && part.iter().any(|x| colour(*x) == c) {
-                        return false;
-                    }
-                }
-            }
+/// None where the product has more than `room` nodes.
+pub fn same_sequences(t: &Tracker, r: &Rabin, room: usize) -> Option<bool> {
+    let mut p = product(t, r, room)?;
+    let all: Vec<usize> = (0..p.tree.len()).collect();
+    if p.wrongly_passed(&all) {
+        return Some(false);
+    }
+    for (i, (marked, absent)) in r.pairs.iter().enumerate() {
+        if !marked.contains(&true) {
+            continue;
+        }
+        let present: Vec<usize> = all.iter().copied().filter(|x| !absent[p.tree[*x]]).collect();
+        if p.wrongly_refused(&present, i) {
+            return Some(false);
         }
     }
-    true
+    Some(true)
 }

@@ -48,18 +48,22 @@ fn add(s: &mut Sheet, q: usize, l: usize, t: usize) {
 }
 
 /// Each state has at most one predecessor on a letter: walks to one state are equal, read backwards.
-fn reverse_deterministic(r: &mut Random, n: usize, k: usize) -> Sheet {
-    let mut s = empty(r, n, k);
-    let full = [60, 80, 95, 100][r.below(4)];
-    for l in 0..k {
-        for t in 0..n {
+fn one_predecessor(r: &mut Random, mut s: Sheet, full: usize) -> Sheet {
+    for l in 0..s.k {
+        for t in 0..s.n {
             if r.chance(full) {
-                let q = r.below(n);
+                let q = r.below(s.n);
                 add(&mut s, q, l, t);
             }
         }
     }
     s
+}
+
+fn reverse_deterministic(r: &mut Random, n: usize, k: usize) -> Sheet {
+    let s = empty(r, n, k);
+    let full = [60, 80, 95, 100][r.below(4)];
+    one_predecessor(r, s, full)
 }
 
 /// One initial state, at most one successor on a letter.
@@ -163,6 +167,11 @@ fn perturbed(r: &mut Random, mut s: Sheet) -> Sheet {
 
 pub fn sheet(r: &mut Random, most: usize) -> Sheet {
     let n = 1 + r.below(most);
+    of_size(r, n)
+}
+
+/// A sheet of n states, or a few fewer where its family says so.
+pub fn of_size(r: &mut Random, n: usize) -> Sheet {
     let k = 1 + r.below(8);
     let s = match r.below(8) {
         0 | 1 => reverse_deterministic(r, n, k),
@@ -181,6 +190,23 @@ pub fn sheet(r: &mut Random, most: usize) -> Sheet {
     s
 }
 
+/// The sheet with k letters: those behind are dropped, those that are missing have no transitions.
+pub fn with_letters(s: &Sheet, k: usize) -> Sheet {
+    let mut out = s.clone();
+    out.k = k;
+    out.next.iter_mut().for_each(|row| row.resize(k, Vec::new()));
+    out.names.resize(k, Vec::new());
+    out
+}
+
+/// As many transitions as give some hundred tuples.
+pub fn sparse(r: &mut Random, n: usize) -> Sheet {
+    let k = 1 + r.below(8);
+    let s = empty(r, n, k);
+    let full = 30 + r.below(50);
+    one_predecessor(r, s, full)
+}
+
 pub fn plan(r: &mut Random, k: usize) -> Plan {
     let long = if r.chance(5) { 200 } else { 6 };
     let lead = r.below(long + 1);
@@ -190,8 +216,11 @@ pub fn plan(r: &mut Random, k: usize) -> Plan {
 
 /// A file damaged in one place.
 pub fn damaged(r: &mut Random, file: &[u8]) -> Vec<u8> {
+    if file.is_empty() {
+        return b"\n".to_vec();
+    }
     let mut out = file.to_vec();
-    let at = r.below(out.len().max(1));
+    let at = r.below(out.len());
     const BYTES: &[u8] = b"0123456789 ABCENSTPLXa\n\r\x00\xc3\xcc\x88\xa4~!\x7f";
     let lines = |x: &[u8]| x.split_inclusive(|b| *b == b'\n').map(|l| l.to_vec()).collect::<Vec<_>>();
     match r.below(9) {

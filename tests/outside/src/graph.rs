@@ -1,57 +1,64 @@
 //! Strongly connected components that have an edge inside.
 
-/// The components of the graph on `nodes` in which some edge stays.
-pub fn components(nodes: &[usize], edges: &[Vec<usize>]) -> Vec<Vec<usize>> {
-    let mut inside = vec![false; edges.len()];
-    nodes.iter().for_each(|x| inside[*x] = true);
-    let mut order = Vec::new();
-    let mut seen = vec![false; edges.len()];
-    for &root in nodes {
-        if seen[root] {
-            continue;
-        }
-        seen[root] = true;
-        let mut stack = vec![(root, 0)];
-        while let Some((x, i)) = stack.pop() {
-            if let Some(&y) = edges[x].get(i) {
-                stack.push((x, i + 1));
-                if inside[y] && !seen[y] {
-                    seen[y] = true;
-                    stack.push((y, 0));
+pub struct Graph {
+    edges: Vec<Vec<usize>>,
+    /// Scratch for `components`: when each node was found. Between the calls all are outside.
+    found: Vec<usize>,
+}
+
+const OUTSIDE: usize = usize::MAX;
+const FRESH: usize = usize::MAX - 1;
+const DONE: usize = usize::MAX - 2;
+
+impl Graph {
+    pub fn new(edges: Vec<Vec<usize>>) -> Self {
+        let found = vec![OUTSIDE; edges.len()];
+        Graph { edges, found }
+    }
+
+    /// The components of the graph on `nodes` in which some edge stays (Tarjan's search, without recursion).
+    pub fn components(&mut self, nodes: &[usize]) -> Vec<Vec<usize>> {
+        let (edges, found) = (&self.edges, &mut self.found);
+        nodes.iter().for_each(|x| found[*x] = FRESH);
+        let (mut out, mut open, mut count) = (Vec::new(), Vec::new(), 0);
+        for &root in nodes {
+            if found[root] != FRESH {
+                continue;
+            }
+            // A node, its next edge, and the earliest open node that it reaches.
+            let mut path = vec![(root, 0, count)];
+            found[root] = count;
+            count += 1;
+            open.push(root);
+            while let Some((x, i, low)) = path.pop() {
+                if let Some(&y) = edges[x].get(i) {
+                    match found[y] {
+                        OUTSIDE | DONE => path.push((x, i + 1, low)),
+                        FRESH => {
+                            path.push((x, i + 1, low));
+                            path.push((y, 0, count));
+                            found[y] = count;
+                            count += 1;
+                            open.push(y);
+                        }
+                        earlier => path.push((x, i + 1, low.min(earlier))),
+                    }
+                    continue;
                 }
-            } else {
-                order.push(x);
-            }
-        }
-    }
-    let mut back = vec![Vec::new(); edges.len()];
-    for &x in nodes {
-        for &y in &edges[x] {
-            if inside[y] {
-                back[y].push(x);
-            }
-        }
-    }
-    let mut taken = vec![false; edges.len()];
-    let mut out = Vec::new();
-    for &root in order.iter().rev() {
-        if taken[root] {
-            continue;
-        }
-        taken[root] = true;
-        let (mut part, mut stack) = (Vec::new(), vec![root]);
-        while let Some(x) = stack.pop() {
-            part.push(x);
-            for &y in &back[x] {
-                if !taken[y] {
-                    taken[y] = true;
-                    stack.push(y);
+                if let Some(above) = path.last_mut() {
+                    above.2 = above.2.min(low);
+                }
+                if low == found[x] {
+                    let start = open.iter().rposition(|y| *y == x).unwrap();
+                    let part = open.split_off(start);
+                    part.iter().for_each(|y| found[*y] = DONE);
+                    if part.len() > 1 || edges[x].contains(&x) {
+                        out.push(part);
+                    }
                 }
             }
         }
-        if part.len() > 1 || edges[part[0]].contains(&part[0]) {
-            out.push(part);
-        }
+        nodes.iter().for_each(|x| found[*x] = OUTSIDE);
+        out
     }
-    out
 }

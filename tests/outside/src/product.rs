@@ -1,6 +1,6 @@
 //! The verdict without tuples: a cycle through a must-recur state in the product of sheet and plan.
 
-use crate::graph::components;
+use crate::graph::Graph;
 use crate::sheet::{Plan, Sheet};
 
 /// Has some endless reading of the plan must-recur states without end?
@@ -22,5 +22,5 @@ pub fn passes(s: &Sheet, p: &Plan) -> bool {
         }
     }
     let alive: Vec<usize> = (0..edges.len()).filter(|x| reached[*x]).collect();
-    components(&alive, &edges).iter().any(|c| c.iter().any(|x| s.recurring[x % s.n]))
+    Graph::new(edges).components(&alive).iter().any(|c| c.iter().any(|x| s.recurring[x % s.n]))
 }

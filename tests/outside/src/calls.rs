@@ -1,0 +1,57 @@
+//! The public calls of the library, each with random, damaged and extreme arguments: the answer and every cell of every table against
+//! a model of the call.
+
+mod arguments;
+mod call;
+mod compare;
+mod facts;
+mod foreign;
+mod lent;
+mod model;
+mod numbers;
+mod scenario;
+
+use crate::bench::Bench;
+use crate::random::Random;
+use call::{Call, ALL, LATE};
+use scenario::Scenario;
+
+/// How many sheets, with their numbers and plans, the calls are tried on.
+const SCENARIOS: u64 = 4000;
+/// How often each call is tried on each of them.
+const TIMES: usize = 4;
+
+pub fn run(b: &mut Bench) {
+    for seed in 0..SCENARIOS {
+        let mut r = Random::new(seed << 20 | 0xca11);
+        let s = Scenario::new(&mut r, seed);
+        for call in ALL {
+            // The listing program clears 149,525 bytes each time.
+            let times = if call == Call::Track { 1 } else { TIMES };
+            for _ in 0..times {
+                one(b, &mut r, &s, call);
+            }
+        }
+    }
+    for call in ALL {
+        for number in call.refusals() {
+            let given = b.refused.contains(&(call.name(), number));
+            b.expect("refusals of each call", given, format!("{}, {number}", call.name()).as_bytes());
+        }
+    }
+    b.at_least(100_000, "call ");
+}
+
+/// One call, compared with its model.
+fn one(b: &mut Bench, r: &mut Random, s: &Scenario, call: Call) {
+    let (a, before) = arguments::of(r, s, call);
+    let want = model::want(call, s, &a, &before);
+    let (mut after, mut used) = (before.clone(), a.clone());
+    let returned = foreign::call(call, &mut used, &mut after);
+    let difference = compare::difference(&want, returned, &after).or_else(|| (used != a).then(|| "an argument that is only read".to_string()));
+    if difference.is_none() {
+        b.refused.insert((call.name(), if want.late { LATE } else { want.number }));
+    }
+    let text = difference.as_ref().map_or(String::new(), |what| format!("{what}\n{a:?}\n{}", before.lengths()));
+    b.count(call.name(), want.number, difference.is_none(), text.as_bytes());
+}

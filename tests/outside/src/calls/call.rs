@@ -1,0 +1,114 @@
+//! The public calls, and what each of them takes.
+
+#[derive(Clone, Copy, PartialEq, Eq, Debug)]
+pub enum Call {
+    Check,
+    ReadSheet,
+    Write,
+    WriteNumbers,
+    Name,
+    NameNumber,
+    Find,
+    Successors,
+    Build,
+    BuildNumbers,
+    List,
+    ListNumbers,
+    Verdict,
+    Track,
+    VerdictProgram,
+    Rewrite,
+}
+
+use Call::*;
+
+/// Stands for refusal 1 asked last of all, and for a program's buffer that is too short.
+pub const LATE: u32 = 100;
+
+pub const ALL: [Call; 16] = [
+    Check, ReadSheet, Write, WriteNumbers, Name, NameNumber, Find, Successors, Build, BuildNumbers, List, ListNumbers, Verdict, Track,
+    VerdictProgram, Rewrite,
+];
+
+impl Call {
+    pub fn name(self) -> &'static str {
+        match self {
+            Check => "call check",
+            ReadSheet => "call read_sheet",
+            Write => "call write",
+            WriteNumbers => "call write_numbers",
+            Name => "call name",
+            NameNumber => "call name_number",
+            Find => "call find",
+            Successors => "call successors",
+            Build => "call build",
+            BuildNumbers => "call build_numbers",
+            List => "call list",
+            ListNumbers => "call list_numbers",
+            Verdict => "call verdict",
+            Track => "call track_output",
+            VerdictProgram => "call verdict_output",
+            Rewrite => "call rewrite_output",
+        }
+    }
+
+    /// A sheet as numbers, whose table is only read.
+    pub fn takes_numbers(self) -> bool {
+        matches!(self, Check | WriteNumbers | BuildNumbers | ListNumbers)
+    }
+
+    /// A table for the successor sets.
+    pub fn lends_sets(self) -> bool {
+        matches!(self, ReadSheet | Build | List | Verdict)
+    }
+
+    /// Tables for a word and two walks.
+    pub fn lends_witness(self) -> bool {
+        !matches!(self, Name | NameNumber | Successors) && self.program().is_none()
+    }
+
+    /// A room, and tables for tuples and next numbers.
+    pub fn lends_room(self) -> bool {
+        matches!(self, Build | BuildNumbers | List | ListNumbers | Verdict)
+    }
+
+    /// A buffer for a text whose length is asked last.
+    pub fn writes(self) -> bool {
+        matches!(self, Write | WriteNumbers | List | ListNumbers)
+    }
+
+    /// Of a whole program, the least buffer that it takes.
+    pub fn program(self) -> Option<usize> {
+        match self {
+            Track => Some(149_525),
+            VerdictProgram => Some(12),
+            Rewrite => Some(22_960),
+            _ => None,
+        }
+    }
+
+    /// The refusals that the call can give, with 0 for none.
+    pub fn refusals(self) -> Vec<u32> {
+        let mut out = self.numbers();
+        if self.writes() || self.program().is_some() {
+            out.push(LATE);
+        }
+        out
+    }
+
+    fn numbers(self) -> Vec<u32> {
+        match self {
+            Check => vec![0, 1, 4, 7, 8, 10],
+            ReadSheet | Write | WriteNumbers => (0..=10).collect(),
+            Name | Successors => vec![0],
+            NameNumber => vec![0, 2, 3, 4, 5, 6, 7, 8, 9, 14],
+            Find => (0..=10).chain([14]).collect(),
+            Build | List => (0..=11).collect(),
+            BuildNumbers | ListNumbers => vec![0, 1, 4, 7, 8, 10, 11],
+            Verdict => (0..=14).collect(),
+            Track => [0].into_iter().chain(2..=11).collect(),
+            VerdictProgram => [0].into_iter().chain(2..=14).collect(),
+            Rewrite => [0].into_iter().chain(2..=10).collect(),
+        }
+    }
+}

@@ -1,0 +1,202 @@
+//! What each call answers, and what every table holds then: the questions in their order, by the requirements' text.
+
+use super::arguments::Arguments;
+use super::call::Call;
+use super::facts::{Facts, Refusal};
+use super::lent::Tables;
+use super::numbers::{mask, Numbers};
+use super::scenario::{print, Scenario};
+use crate::expected::ROOM;
+use crate::sheet::{characters, read_plan, write_sheet, No, Sheet};
+use crate::tuples::{self, Tracker};
+
+pub struct Want<'a> {
+    pub tables: Tables,
+    pub returned: usize,
+    /// The refusal, or 0; and was it a 1 asked last, or a program's buffer that is too short?
+    pub number: u32,
+    pub late: bool,
+    /// With 10 the sheet and the length of its shortest words. Which word and walks stand in the tables is free.
+    pub meeting: Option<(&'a Sheet, usize)>,
+    /// Do the word and the walks stand in the buffer, as `rewrite` prints them?
+    pub printed: bool,
+}
+
+pub fn want<'a>(call: Call, s: &'a Scenario, a: &Arguments, before: &Tables) -> Want<'a> {
+    let mut w = Want { tables: before.clone(), returned: 0, number: 0, late: false, meeting: None, printed: false };
+    match call {
+        Call::Successors => w.returned = successors(before.sets.inside(), a.letter, a.set) as usize,
+        Call::Name | Call::NameNumber => about_a_letter(call, s, a, &mut w),
+        _ if call.program().is_some() => program(call, s, &mut w),
+        _ => whole_sheet(call, s, a, &mut w),
+    }
+    w
+}
+
+/// The union of the members' cells; past the table's end and from letter 8 on there are none.
+fn successors(table: &[u16], letter: usize, set: u16) -> u16 {
+    let cell = |q: usize| if letter < 8 { table.get(8 * q + letter).copied().unwrap_or(0) } else { 0 };
+    (0..16).filter(|q| set >> q & 1 == 1).fold(0, |u, q| u | cell(q))
+}
+
+fn about_a_letter<'a>(call: Call, s: &'a Scenario, a: &Arguments, w: &mut Want<'a>) {
+    let found: Result<&[u8], No> = match &s.of_file.sheet {
+        Err(no) => Err(*no),
+        Ok(sheet) => sheet.names.get(a.letter).map(|x| &x[..]).ok_or((14, 0)),
+    };
+    if call == Call::Name {
+        let name = found.unwrap_or(&[]);
+        w.tables.out.set(name);
+        w.tables.answer.set(&[name.len()]);
+    } else {
+        let (number, line) = found.err().unwrap_or((0, 0));
+        w.tables.answer.set(&[number as usize, line, 0]);
+        w.number = number;
+    }
+}
+
+/// A buffer that is too short is left as it was.
+fn program<'a>(call: Call, s: &'a Scenario, w: &mut Want<'a>) {
+    let sheet = s.of_file.accepted();
+    let printed: Result<String, No> = match (call, &sheet) {
+        (Call::VerdictProgram, _) => s.printed.clone(),
+        (_, Err(Refusal::Plain(no))) => Err(*no),
+        (_, Err(Refusal::Meeting(..))) => Err((10, 0)),
+        (Call::Rewrite, Ok(x)) => Ok(String::from_utf8(write_sheet(x, true)).unwrap()),
+        (_, Ok(_)) => s.of_file.tracked(ROOM).map(|_| s.of_file.listing.clone()).map_err(|_| (11, 0)),
+    };
+    if w.tables.out.len() < call.program().unwrap() {
+        w.late = true;
+        return;
+    }
+    let text = print(&printed);
+    w.tables.out.set(&text);
+    w.returned = text.len();
+    w.number = printed.err().map_or(0, |no| no.0);
+    if let (Call::Rewrite, Err(Refusal::Meeting(sheet, length))) = (call, sheet) {
+        w.meeting = Some((sheet, length));
+        w.printed = true;
+    }
+}
+
+/// Question 1, as far as it is asked first.
+fn long_enough(call: Call, a: &Arguments, t: &Tables) -> bool {
+    let sets = !(call.lends_sets() || call.takes_numbers()) || t.sets.len() >= 128;
+    let witness = t.word.len() >= 136 && t.one.len() >= 137 && t.other.len() >= 137;
+    let room = !call.lends_room() || (1..=1024).contains(&a.room) && t.tuples.len() >= 17 * a.room && t.nexts.len() >= 8 * a.room;
+    sets && witness && room
+}
+
+/// What a call gives that refuses nothing.
+#[derive(Default)]
+struct Done<'a> {
+    cells: Vec<usize>,
+    sheet: Option<&'a Sheet>,
+    tracker: Option<&'a Tracker>,
+    text: Vec<u8>,
+}
+
+/// The sheet written from the numbers with the names of the file, where both are accepted.
+pub fn text_from_numbers(s: &Scenario) -> Option<Vec<u8>> {
+    let names = s.of_file.accepted().ok()?.names.clone();
+    let sheet = s.of_numbers.accepted().ok().filter(|x| x.k == names.len())?;
+    Some(write_sheet(&Sheet { names, ..sheet.clone() }, true))
+}
+
+/// The questions behind 1, in their order.
+fn questions<'a>(call: Call, s: &'a Scenario, a: &Arguments, t: &Tables) -> Result<Done<'a>, Refusal<'a>> {
+    let no = |number: u32| Refusal::Plain((number, 0));
+    let mut done = Done::default();
+    if call == Call::Verdict && (s.file.len() > 24_576 || s.plan.len() > 12_288) {
+        return Err(no(2));
+    }
+    if call == Call::WriteNumbers && s.of_file.accepted()?.k != a.k {
+        return Err(no(4));
+    }
+    let facts: &Facts = if call.takes_numbers() { &s.of_numbers } else { &s.of_file };
+    let sheet = facts.accepted()?;
+    let numbers = Numbers::of(sheet);
+    done.sheet = Some(sheet);
+    done.cells = vec![1, sheet.n, sheet.k, numbers.initial as usize, numbers.recurring as usize];
+    if call.lends_room() {
+        let tracker = facts.tracked(a.room)?;
+        done.cells.push(tracker.tuples.len());
+        done.tracker = Some(tracker);
+    }
+    match call {
+        Call::Check => done.cells = vec![1],
+        Call::Find => {
+            let wanted = characters(&a.name);
+            let letter = sheet.names.iter().position(|x| wanted.is_some() && characters(x) == wanted).ok_or(no(14))?;
+            done.cells = vec![1, letter];
+        }
+        Call::Verdict => {
+            let plan = read_plan(&s.plan, sheet).map_err(Refusal::Plain)?;
+            let (yes, least, passes) = tuples::verdict(done.tracker.unwrap(), &plan);
+            done.cells = vec![if yes { 1 } else { 2 }, least, passes];
+        }
+        _ => {}
+    }
+    if call.writes() {
+        done.text = match call {
+            Call::Write => write_sheet(sheet, true),
+            Call::WriteNumbers => text_from_numbers(s).unwrap(),
+            _ => facts.listing.clone().into_bytes(),
+        };
+        if t.out.len() < done.text.len() {
+            return Err(no(1));
+        }
+        done.cells = vec![1, done.text.len()];
+    }
+    Ok(done)
+}
+
+fn whole_sheet<'a>(call: Call, s: &'a Scenario, a: &Arguments, w: &mut Want<'a>) {
+    if !long_enough(call, a, &w.tables) {
+        w.number = 1;
+        w.tables.answer.set(&[0, 1, 0, 0]);
+        return;
+    }
+    let asked = questions(call, s, a, &w.tables);
+    let given = w.tables.sets.clone();
+    w.tables.clear();
+    if call.takes_numbers() {
+        w.tables.sets = given;
+    }
+    match asked {
+        Err(Refusal::Plain((number, line))) => {
+            w.number = number;
+            w.late = number == 1;
+            w.tables.answer.set(&[0, number as usize, line, 0]);
+        }
+        Err(Refusal::Meeting(sheet, length)) => {
+            w.number = 10;
+            w.meeting = Some((sheet, length));
+            w.tables.answer.set(&[0, 10, 0, length]);
+        }
+        Ok(done) => {
+            w.tables.answer.set(&done.cells);
+            w.tables.out.set(&done.text);
+            if call.lends_sets() {
+                w.tables.sets.set(&Numbers::of(done.sheet.unwrap()).sets);
+            }
+            if let Some(t) = done.tracker {
+                put_tracker(t, &mut w.tables);
+            }
+        }
+    }
+}
+
+/// Tuple t in numbers 17t to 17t+16, its nexts from 8t on.
+fn put_tracker(t: &Tracker, tables: &mut Tables) {
+    let (tuples, nexts) = (tables.tuples.inside_mut(), tables.nexts.inside_mut());
+    for (i, u) in t.tuples.iter().enumerate() {
+        for (p, set) in u.sets.iter().enumerate() {
+            tuples[17 * i + p] = mask(set.iter().copied());
+        }
+        tuples[17 * i + 16] = u.colour as u16;
+        for (l, to) in t.next[i].iter().enumerate() {
+            nexts[8 * i + l] = *to as u16;
+        }
+    }
+}

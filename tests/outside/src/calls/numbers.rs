@@ -1,0 +1,55 @@
+//! A sheet as numbers, and the questions on it: 4, 7 and 8.
+
+use crate::sheet::{No, Sheet};
+
+#[derive(Clone, PartialEq, Debug)]
+pub struct Numbers {
+    pub n: usize,
+    pub k: usize,
+    pub initial: u16,
+    pub recurring: u16,
+    pub sets: Vec<u16>,
+}
+
+/// The set as a number.
+pub fn mask(states: impl Iterator<Item = usize>) -> u16 {
+    states.map(|q| 1u16 << q).sum()
+}
+
+fn members(set: u16) -> Vec<usize> {
+    (0..16).filter(|q| set & (1 << q) != 0).collect()
+}
+
+impl Numbers {
+    pub fn of(s: &Sheet) -> Self {
+        let mut sets = vec![0; 128];
+        for q in 0..s.n {
+            for l in 0..s.k {
+                sets[8 * q + l] = mask(s.next[q][l].iter().copied());
+            }
+        }
+        let set = |flags: &[bool]| mask((0..s.n).filter(|q| flags[*q]));
+        Numbers { n: s.n, k: s.k, initial: set(&s.initial), recurring: set(&s.recurring), sets }
+    }
+
+    /// Questions 4, 7 and 8. The names are left out.
+    pub fn sheet(&self) -> Result<Sheet, No> {
+        let (n, k) = (self.n, self.k);
+        if n < 1 || n > 16 || k < 1 || k > 8 {
+            return Err((4, 0));
+        }
+        let beyond = |set: u16| members(set).iter().any(|q| *q >= n);
+        if beyond(self.initial) || beyond(self.recurring) {
+            return Err((7, 0));
+        }
+        for (i, set) in self.sets.iter().enumerate() {
+            let inside = i / 8 < n && i % 8 < k;
+            if if inside { beyond(*set) } else { *set != 0 } {
+                return Err((8, 0));
+            }
+        }
+        let flags = |set: u16| (0..n).map(|q| members(set).contains(&q)).collect();
+        let next = (0..n).map(|q| (0..k).map(|l| members(self.sets[8 * q + l])).collect()).collect();
+        Ok(Sheet { n, k, initial: flags(self.initial), recurring: flags(self.recurring), next, names: Vec::new() })
+    }
+}

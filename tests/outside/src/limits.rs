@@ -1,0 +1,27 @@
+//! The programs at their limits: the most tuples, the longest files, every refusal, and an input that cannot be read.
+
+mod counts;
+mod meetings;
+mod refusals;
+mod sizes;
+mod splits;
+mod unreadable;
+
+use crate::bench::Bench;
+use crate::random::Random;
+use crate::sheet::Sheet;
+pub use sizes::longest_sheet;
+
+/// A sheet with about 1,024 tuples.
+pub fn many_tuples(r: &mut Random) -> Sheet {
+    counts::sheet(counts::COUNTS[r.below(counts::COUNTS.len())].0)
+}
+
+pub fn run(b: &mut Bench) {
+    meetings::run(b);
+    counts::run(b);
+    sizes::run(b);
+    splits::run(b);
+    refusals::run(b);
+    unreadable::run_all(b);
+}

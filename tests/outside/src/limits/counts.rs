@@ -1,0 +1,79 @@
+//! As many tuples as the programs have room for, one fewer and one more: 16 states and 8 letters, so that the longest listing is among them.
+
+use crate::bench::Bench;
+use crate::expected::{self, ROOM};
+use crate::families;
+use crate::random::Random;
+use crate::sheet::{write_plan, write_sheet, Sheet};
+use crate::tuples;
+
+/// Seeds, found by search, and how many tuples their sheets have.
+pub const COUNTS: [(u64, usize); 16] = [
+    (32345, 1013),
+    (1782, 1014),
+    (14761, 1015),
+    (46660, 1016),
+    (384, 1017),
+    (13862, 1018),
+    (11885, 1019),
+    (10311, 1020),
+    (12800, 1021),
+    (643, 1022),
+    (30370, 1023),
+    (34120, 1024),
+    (6261, 1024),
+    (54944, 1025),
+    (26415, 1025),
+    (3312, 1026),
+];
+
+/// The bytes of the longest listing: 1,024 tuples of 16 sets and 8 letters.
+const LONGEST: usize = 149_525;
+
+/// Each state has at most one predecessor on a letter, so no walks meet.
+pub fn sheet(seed: u64) -> Sheet {
+    let (n, k) = (16, 8);
+    let mut r = Random::new(seed);
+    let (mut initial, mut recurring) = (Vec::new(), Vec::new());
+    for _ in 0..n {
+        initial.push(r.chance(50));
+        recurring.push(r.chance(40));
+    }
+    let full = 30 + r.below(50);
+    let mut next = vec![vec![Vec::new(); k]; n];
+    for l in 0..k {
+        for t in 0..n {
+            if r.chance(full) {
+                next[r.below(n)][l].push(t);
+            }
+        }
+    }
+    let names = (0..k).map(|l| vec![b'a' + l as u8]).collect();
+    Sheet { n, k, initial, recurring, next, names }
+}
+
+/// A sheet with one tuple too many.
+pub fn too_many() -> Vec<u8> {
+    write_sheet(&sheet(54944), false)
+}
+
+pub fn run(b: &mut Bench) {
+    let mut r = Random::new(1024);
+    for (seed, count) in COUNTS {
+        let s = sheet(seed);
+        let file = write_sheet(&s, false);
+        let counted = tuples::build(&s, count).map(|t| t.tuples.len());
+        b.expect("limit: tuples counted", counted == Some(count), &file);
+        b.listed("limit: tuples listed", &file);
+        for _ in 0..4 {
+            let input = [file.clone(), write_plan(&s, &families::plan(&mut r, s.k))].concat();
+            b.judged("limit: tuples judged", &input);
+        }
+        if count == ROOM {
+            b.expect("limit: the longest listing", b.run("track", &file).len() == LONGEST, &file);
+            // The listing does not fit in a pipe, and the input comes in pieces.
+            let got = b.run_in_pieces("track", &file, 100);
+            b.compare("limit: input in pieces", "track", &file, expected::listing(&file, ROOM), &got);
+        }
+    }
+}
