@@ -9,7 +9,7 @@ pub use Rattle.text.specs.Bytes.{endLine}
 use Rattle.text.specs.Column.{column}
 use Rattle.text.specs.Pair.{firstLine, threeNumbers}
 use Rattle.names.specs.Name.{IsName, compose}
-use Rattle.automaton.specs.Automaton.{InRange}
+use Rattle.automaton.specs.Graph.{InRange}
 
 -- a state line's two flags, initial and must-recur
 pub record State : Type 0 where

@@ -13,7 +13,8 @@ use native.Mathlib.Nat.{add-zero, zero-add}
 use Rattle.sets.specs.Sets.{bit, Member, setOf, unionOf}
 use Rattle.sets.specs.SetLaws.{no-member, some-member, member-lt, union-right, bit-union, bit-single, bit-single-other, setOf-lt, bit-setOf}
 use Rattle.automaton.specs.declared.Numbers.{Numbers}
-use Rattle.automaton.specs.Automaton.{automaton, AreNumbers, Edge, InRange, Fits}
+use Rattle.automaton.specs.Automaton.{automaton, graphOf, AreNumbers, Fits}
+use Rattle.automaton.specs.Graph.{Edge, InRange}
 use Rattle.automaton.specs.Lent.{lentTable}
 use Rattle.format.specs.Format.{State, Transition, Sheet, FlagsRight, StatesRight, TransitionRight, TransitionsRight, cell, place, Right, FileIs}
 use Rattle.format.specs.Numbers.{flagSet, inserted, tableOf, numbers}
@@ -205,11 +206,11 @@ module _ (σ : Sheet) (right : Right σ) where
   member-of t o = table-new (σ .n) (σ .k) (right .range) t (replicate 128 0) refl 0 (σ .transitions) (right .transitions) (o .0) (o .1) (o .2)
 
   -- "transitions (from, letter, to)": the edges of the numbers are the transitions of the sheet
-  right-edge : (l q r : ℕ) → Edge (numbers σ) l q r ↔ OneOf (σ .transitions) (transition q l r)
+  right-edge : (l q r : ℕ) → Edge (graphOf (numbers σ)) l q r ↔ OneOf (σ .transitions) (transition q l r)
   unfolding numbers
   right-edge l q r = (from, to)
     where
-      from : Edge (numbers σ) l q r → OneOf (σ .transitions) (transition q l r)
+      from : Edge (graphOf (numbers σ)) l q r → OneOf (σ .transitions) (transition q l r)
       from e =
           let m = member-is (8 * q + l) r (e .to) in
           let s = cell-same (σ .n) (σ .k) (right .range) (transition q l r) (m .by) (e .letter) (m .right .letter) (m .at) in
@@ -217,7 +218,7 @@ module _ (σ : Sheet) (right : Right σ) where
           let (i, l, is) = m .one in
           (i, l, is ∙ same)
 
-      to : OneOf (σ .transitions) (transition q l r) → Edge (numbers σ) l q r
+      to : OneOf (σ .transitions) (transition q l r) → Edge (graphOf (numbers σ)) l q r
       to o =
           let h = one-right (σ .n) (σ .k) (right .range) (transition q l r) 0 (σ .transitions) (right .transitions) o in
           record { letter = h .letter; from = h .from; to = member-of (transition q l r) o }
@@ -258,7 +259,7 @@ sheet-fits s σ h = right-fits σ (h .right) (h .all-states)
 
 -- WHAT THE NUMBERS OF A SHEET MEAN: its transitions, its initial states and its must-recur states
 module _ (s : List ℕ) (σ : Sheet) (file : FileIs s σ) where
-  pub transition-is : (l q r : ℕ) → Edge (numbers σ) l q r ↔ OneOf (σ .transitions) (transition q l r)
+  pub transition-is : (l q r : ℕ) → Edge (graphOf (numbers σ)) l q r ↔ OneOf (σ .transitions) (transition q l r)
   transition-is = right-edge σ (file .right)
 
   pub initial-is : (q : ℕ) → Member (numbers σ .initial) q ↔ ((q < σ .n) × (getD (σ .states) q unflagged .initial ≡ 1))

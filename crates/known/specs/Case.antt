@@ -5,6 +5,7 @@ use mathlib.Core.List.{List, map}
 use lib.ListN.{length}
 use Rattle.gate.specs.Gate.{refusal}
 use Rattle.gate.specs.declared.Refusal.{Refusal}
+use Rattle.automaton.specs.Automaton.{graphOf}
 use Rattle.automaton.specs.Meeting.{Everywhere, Witness}
 use Rattle.automaton.specs.Lent.{Tables}
 use Rattle.format.specs.Format.{Sheet, FileIs}
@@ -47,7 +48,7 @@ pub record Tracked (s : List ℕ) (f g : Store) (colours : List ℕ) : Type 0 wh
 pub record Shortest (s word one other : List ℕ) : Type 0 where
   pub sheet : Sheet
   pub file : FileIs s sheet
-  pub witness : Witness (numbers sheet) Everywhere (length word) word one other
+  pub witness : Witness (graphOf (numbers sheet)) Everywhere (length word) word one other
 
 -- refusal 10 with a word of so many letters
 abbrev pub met : ℕ → Refusal

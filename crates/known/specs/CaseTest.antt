@@ -6,7 +6,7 @@ use lib.Dec.{eqb, ltb}
 use lib.ListN.{length, take, drop}
 use Rattle.lists.specs.Search.{same}
 use Rattle.lists.specs.Choice.{choose}
-use Rattle.automaton.specs.Automaton.{Automaton}
+use Rattle.automaton.specs.Automaton.{Automaton, graphOf}
 use Rattle.format.specs.Format.{mostSheet}
 use Rattle.parser.specs.Parse.{parse}
 use Rattle.parser.specs.Phase.{Phase, refused, passed}
@@ -53,9 +53,9 @@ rightRoom A ts names p room e =
 
 -- question 10
 unfoldable pub rightWalks : Automaton → List (List ℕ) → List ℕ → ℕ → Expected → Bool
-rightWalks A names p room (meeting word one other) = isShortest A word one other
-rightWalks A names p room (judged z colours) = isFree A && rightRoom A (tuplesIn A room) names p room (judged z colours)
-rightWalks A names p room (E.refused number line) = isFree A && rightRoom A (tuplesIn A room) names p room (E.refused number line)
+rightWalks A names p room (meeting word one other) = isShortest (graphOf A) word one other
+rightWalks A names p room (judged z colours) = isFree (graphOf A) && rightRoom A (tuplesIn A room) names p room (judged z colours)
+rightWalks A names p room (E.refused number line) = isFree (graphOf A) && rightRoom A (tuplesIn A room) names p room (E.refused number line)
 
 -- questions 3 to 9
 unfoldable pub rightFile : Phase S.Contents → List ℕ → ℕ → Expected → Bool

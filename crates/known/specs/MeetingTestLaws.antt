@@ -9,7 +9,7 @@ use borrow.Author.Tests.{lt-ltb, eq-eqb, ne-eqb, ltb-true, eqb-true, eqb-false, 
 use lib.Dec.{eqb, ltb}
 use lib.ListN.{length, getD, List·getD-eq-default}
 use Rattle.sets.specs.Sets.{bit}
-use Rattle.automaton.specs.Automaton.{Automaton, Edge, Fits, successorSet}
+use Rattle.automaton.specs.Graph.{Graph, GraphFits, Edge, successorSet}
 use Rattle.automaton.specs.Meeting.{Walk, Meet, Everywhere, Free, NoneShorter, Witness, cells}
 use Rattle.automaton.specs.EdgeLaws.{walk-in}
 use Rattle.pairs.specs.Joining.{Joins, Backwards, meet-joins}
@@ -18,85 +18,85 @@ use Rattle.known.specs.Below.{any}
 use Rattle.known.specs.BelowLaws.{not-both, all-at, any-of, any-is}
 use Rattle.known.specs.MeetingTest.{isMember, isEdge, reached, together, joinAt, noneUpTo, isFree, isWalk, doMeet, isShortest}
 
-everywhere : (A : Automaton) → Backwards A Everywhere
-everywhere A l q r e c = tt
+everywhere : (G : Graph) → Backwards G Everywhere
+everywhere G l q r e c = tt
 
-edge-test : (A : Automaton) (l q r : ℕ) → Edge A l q r → isEdge A l q r ≡ true
+edge-test : (G : Graph) (l q r : ℕ) → Edge G l q r → isEdge G l q r ≡ true
 unfolding isEdge
-edge-test A l q r e = rw (lt-ltb l (A .k) (e .letter), lt-ltb q (A .n) (e .from)) (eq-eqb (bit (successorSet (A .table) q l) r) 1 (e .to))
+edge-test G l q r e = rw (lt-ltb l (G .k) (e .letter), lt-ltb q (G .n) (e .from)) (eq-eqb (bit (successorSet (G .table) q l) r) 1 (e .to))
 
-edge-is : (A : Automaton) (l q r : ℕ) → isEdge A l q r ≡ true → Edge A l q r
+edge-is : (G : Graph) (l q r : ℕ) → isEdge G l q r ≡ true → Edge G l q r
 unfolding isEdge
-edge-is A l q r e =
-    let (a, f) = and-eq-true-iff (ltb l (A .k)) (ltb q (A .n) && isMember (successorSet (A .table) q l) r) .0 e in
-    let (b, c) = and-eq-true-iff (ltb q (A .n)) (isMember (successorSet (A .table) q l) r) .0 f in
-    record { letter = ltb-true l (A .k) a; from = ltb-true q (A .n) b; to = eqb-true (bit (successorSet (A .table) q l) r) 1 c }
+edge-is G l q r e =
+    let (a, f) = and-eq-true-iff (ltb l (G .k)) (ltb q (G .n) && isMember (successorSet (G .table) q l) r) .0 e in
+    let (b, c) = and-eq-true-iff (ltb q (G .n)) (isMember (successorSet (G .table) q l) r) .0 f in
+    record { letter = ltb-true l (G .k) a; from = ltb-true q (G .n) b; to = eqb-true (bit (successorSet (G .table) q l) r) 1 c }
 
-module _ (A : Automaton) (fits : Fits A) (w : ℕ → ℕ) (t : ℕ) (x y : ℕ → ℕ) (v : Walk A w t x) (v′ : Walk A w t y) where
-  walks-reached : (s : ℕ) → s ≤ t → reached A s (x s) (y s) ≡ true
+module _ (G : Graph) (fits : GraphFits G) (w : ℕ → ℕ) (t : ℕ) (x y : ℕ → ℕ) (v : Walk G w t x) (v′ : Walk G w t y) where
+  walks-reached : (s : ℕ) → s ≤ t → reached G s (x s) (y s) ≡ true
   unfolding reached
-  walks-reached zero h = rw (eq-eqb (bit (A .initial) (x 0)) 1 (v .starts)) (eq-eqb (bit (A .initial) (y 0)) 1 (v′ .starts))
+  walks-reached zero h = rw (eq-eqb (bit (G .initial) (x 0)) 1 (v .starts)) (eq-eqb (bit (G .initial) (y 0)) 1 (v′ .starts))
   walks-reached (suc s) h =
       let e = v .goes s (omega arith) in
       let f = v′ .goes s (omega arith) in
-      let l = any-of (A .k) (λ l. isEdge A l (x s) (x (suc s)) && isEdge A l (y s) (y (suc s))) (w s) (e .letter)
-      (and-eq-true-iff (isEdge A (w s) (x s) (x (suc s))) (isEdge A (w s) (y s) (y (suc s))) .1 (edge-test A (w s) (x s) (x (suc s)) e, edge-test A (w s) (y s) (y (suc s)) f)) in
-      any-of (A .n) _ (x s) (e .from) (any-of (A .n) _ (y s) (f .from) (and-eq-true-iff _ (reached A s (x s) (y s)) .1 (l, walks-reached s (omega arith))))
+      let l = any-of (G .k) (λ l. isEdge G l (x s) (x (suc s)) && isEdge G l (y s) (y (suc s))) (w s) (e .letter)
+      (and-eq-true-iff (isEdge G (w s) (x s) (x (suc s))) (isEdge G (w s) (y s) (y (suc s))) .1 (edge-test G (w s) (x s) (x (suc s)) e, edge-test G (w s) (y s) (y (suc s)) f)) in
+      any-of (G .n) _ (x s) (e .from) (any-of (G .n) _ (y s) (f .from) (and-eq-true-iff _ (reached G s (x s) (y s)) .1 (l, walks-reached s (omega arith))))
 
-  join-at : (s : ℕ) → s < t → Joins Everywhere x y s → joinAt A s ≡ true
+  join-at : (s : ℕ) → s < t → Joins Everywhere x y s → joinAt G s ≡ true
   unfolding joinAt together
   join-at s h j =
       let e = v .goes s h in
-      let f = subst (Edge A (w s) (y s)) (sym (j .joined)) (v′ .goes s h) in
-      let z = walk-in A fits w t x v (suc s) h in
-      let g = any-of (A .k) (λ l. any (A .n) (λ z. isEdge A l (x s) z && isEdge A l (y s) z)) (w s) (e .letter)
-      (any-of (A .n) (λ z. isEdge A (w s) (x s) z && isEdge A (w s) (y s) z) (x (suc s)) z
-      (and-eq-true-iff (isEdge A (w s) (x s) (x (suc s))) (isEdge A (w s) (y s) (x (suc s))) .1 (edge-test A (w s) (x s) (x (suc s)) e, edge-test A (w s) (y s) (x (suc s)) f))) in
-      any-of (A .n) _ (x s) (e .from)
-      (any-of (A .n) _ (y s) (f .from)
-      (rw (ne-eqb (x s) (y s) (j .apart)) (and-eq-true-iff _ (reached A s (x s) (y s)) .1 (g, walks-reached s (omega arith)))))
+      let f = subst (Edge G (w s) (y s)) (sym (j .joined)) (v′ .goes s h) in
+      let z = walk-in G fits w t x v (suc s) h in
+      let g = any-of (G .k) (λ l. any (G .n) (λ z. isEdge G l (x s) z && isEdge G l (y s) z)) (w s) (e .letter)
+      (any-of (G .n) (λ z. isEdge G (w s) (x s) z && isEdge G (w s) (y s) z) (x (suc s)) z
+      (and-eq-true-iff (isEdge G (w s) (x s) (x (suc s))) (isEdge G (w s) (y s) (x (suc s))) .1 (edge-test G (w s) (x s) (x (suc s)) e, edge-test G (w s) (y s) (x (suc s)) f))) in
+      any-of (G .n) _ (x s) (e .from)
+      (any-of (G .n) _ (y s) (f .from)
+      (rw (ne-eqb (x s) (y s) (j .apart)) (and-eq-true-iff _ (reached G s (x s) (y s)) .1 (g, walks-reached s (omega arith)))))
 
-module _ (A : Automaton) (fits : Fits A) where
-  none-up-to : (m : ℕ) → noneUpTo A m ≡ true → (w : ℕ → ℕ) (t : ℕ) (x y : ℕ → ℕ) → t ≤ m → Meet A Everywhere w t x y → ⊥
+module _ (G : Graph) (fits : GraphFits G) where
+  none-up-to : (m : ℕ) → noneUpTo G m ≡ true → (w : ℕ → ℕ) (t : ℕ) (x y : ℕ → ℕ) → t ≤ m → Meet G Everywhere w t x y → ⊥
   unfolding noneUpTo
   none-up-to m e w t x y h meet =
-      let (s, l, j) = meet-joins A Everywhere (everywhere A) w t x y meet in
-      not-both (joinAt A s) (all-at m (λ t. not (joinAt A t)) e s (omega arith)) (join-at A fits w t x y (meet .one) (meet .other) s l j)
+      let (s, l, j) = meet-joins G Everywhere (everywhere G) w t x y meet in
+      not-both (joinAt G s) (all-at m (λ t. not (joinAt G t)) e s (omega arith)) (join-at G fits w t x y (meet .one) (meet .other) s l j)
 
   -- a word with meeting walks would be no longer than those tested, or there would be a shorter one
-  free-below : isFree A ≡ true → (t : ℕ) → NoneShorter A Everywhere t
+  free-below : isFree G ≡ true → (t : ℕ) → NoneShorter G Everywhere t
   unfolding isFree
   free-below e zero w s x y l meet = omega arith
   free-below e (suc t) w s x y l meet = by (decLt s t) (free-below e t)
     where
-      by : Dec (s < t) → NoneShorter A Everywhere t → ⊥
+      by : Dec (s < t) → NoneShorter G Everywhere t → ⊥
       by (yes h) ih = ih w s x y h meet
       by (no h) ih =
-          none-up-to (A .n * (A .n + 1) / 2) e w s x y
-          (shortest-bound A fits Everywhere (everywhere A) w s x y meet (λ w u x y k. ih w u x y (omega arith))) meet
+          none-up-to (G .n * (G .n + 1) / 2) e w s x y
+          (shortest-bound G fits Everywhere (everywhere G) w s x y meet (λ w u x y k. ih w u x y (omega arith))) meet
 
-  pub free-is : isFree A ≡ true → Free A Everywhere
+  pub free-is : isFree G ≡ true → Free G Everywhere
   free-is e w t x y = free-below e (suc t) w t x y (omega arith)
 
-  walk-is : (word x : List ℕ) → isWalk A word x ≡ true → (length x ≡ suc (length word)) × Walk A (cells word) (length word) (cells x)
+  walk-is : (word x : List ℕ) → isWalk G word x ≡ true → (length x ≡ suc (length word)) × Walk G (cells word) (length word) (cells x)
   unfolding isWalk
   walk-is word x e =
       let (a, f) = and-eq-true-iff (eqb (length x) (suc (length word))) _ .0 e in
-      let (b, c) = and-eq-true-iff (isMember (A .initial) (getD x 0 0)) _ .0 f in (
+      let (b, c) = and-eq-true-iff (isMember (G .initial) (getD x 0 0)) _ .0 f in (
         eqb-true (length x) (suc (length word)) a,
         record {
-          starts = eqb-true (bit (A .initial) (getD x 0 0)) 1 b;
-          goes = λ s h. edge-is A (getD word s 0) (getD x s 0) (getD x (suc s) 0) (all-at (length word) _ c s h);
+          starts = eqb-true (bit (G .initial) (getD x 0 0)) 1 b;
+          goes = λ s h. edge-is G (getD word s 0) (getD x s 0) (getD x (suc s) 0) (all-at (length word) _ c s h);
         },
       )
 
-  pub shortest-is : (word one other : List ℕ) → isShortest A word one other ≡ true → Witness A Everywhere (length word) word one other
+  pub shortest-is : (word one other : List ℕ) → isShortest G word one other ≡ true → Witness G Everywhere (length word) word one other
   unfolding isShortest doMeet
   shortest-is word one other e =
       let (a, f) = and-eq-true-iff (ltb (length word) 137) _ .0 e in
-      let (m, none) = and-eq-true-iff (doMeet A word one other) (noneUpTo A (length word - 1)) .0 f in
-      let (b, g) = and-eq-true-iff (isWalk A word one) _ .0 m in
-      let (c, h) = and-eq-true-iff (isWalk A word other) _ .0 g in
+      let (m, none) = and-eq-true-iff (doMeet G word one other) (noneUpTo G (length word - 1)) .0 f in
+      let (b, g) = and-eq-true-iff (isWalk G word one) _ .0 m in
+      let (c, h) = and-eq-true-iff (isWalk G word other) _ .0 g in
       let (d, k) = and-eq-true-iff (any (suc (length word)) (λ s. not (eqb (getD one s 0) (getD other s 0)))) _ .0 h in
       let (l, x) = walk-is word one b in
       let (o, y) = walk-is word other c in

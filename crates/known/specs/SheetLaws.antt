@@ -10,9 +10,10 @@ use lib.ListN.{length}
 use Rattle.lists.specs.Choice.{choose}
 use Rattle.gate.specs.Gate.{refusal}
 use Rattle.gate.specs.declared.Refusal.{Refusal}
-use Rattle.automaton.specs.Automaton.{Automaton, Fits}
+use Rattle.automaton.specs.Automaton.{Automaton, graphOf, Fits}
 use Rattle.automaton.specs.Meeting.{Everywhere, Witness}
 use Rattle.automaton.specs.MeetingLaws.{one-length}
+use Rattle.automaton.specs.QuestionLaws.{fits-graph}
 use Rattle.format.specs.Format.{Sheet, FileIs, Faulty}
 use Rattle.format.specs.Numbers.{numbers}
 use Rattle.format.specs.NumbersLaws.{sheet-fits}
@@ -83,10 +84,11 @@ module _ (s p : List ℕ) (room : ℕ) (Outcomes : Type 0) (refuse : Refusal →
     fits σ file = subst Fits (same-numbers σ file) (sheet-fits s σ file)
 
     -- QUESTION 10 answered no
-    module _ (word one other : List ℕ) (test : isShortest A word one other ≡ true) where
-      witness : (σ : Sheet) → FileIs s σ → Witness (numbers σ) Everywhere (length word) word one other
+    module _ (word one other : List ℕ) (test : isShortest (graphOf A) word one other ≡ true) where
+      witness : (σ : Sheet) → FileIs s σ → Witness (graphOf (numbers σ)) Everywhere (length word) word one other
       witness σ file =
-          subst (λ (B : Automaton). Witness B Everywhere (length word) word one other) (sym (same-numbers σ file)) (shortest-is A (fits σ file) word one other test)
+          subst (λ (B : Automaton). Witness (graphOf B) Everywhere (length word) word one other) (sym (same-numbers σ file))
+          (shortest-is (graphOf A) (fits-graph (fits σ file)) word one other test)
 
       not-free : (σ : Sheet) → Accepted s σ → ⊥
       not-free σ accepted = accepted .free _ _ _ _ (witness σ (accepted .file) .meets)
@@ -100,10 +102,11 @@ module _ (s p : List ℕ) (room : ℕ) (Outcomes : Type 0) (refuse : Refusal →
       walks-meet (Cause.numbered σ accepted ts n m h) = absurd (not-free σ accepted)
 
     -- QUESTION 10 answered yes
-    module _ (free : isFree A ≡ true) where
-      no-walks : (σ : Sheet) → FileIs s σ → (m : ℕ) (word one other : List ℕ) → Witness (numbers σ) Everywhere m word one other → ⊥
+    module _ (free : isFree (graphOf A) ≡ true) where
+      no-walks : (σ : Sheet) → FileIs s σ → (m : ℕ) (word one other : List ℕ) → Witness (graphOf (numbers σ)) Everywhere m word one other → ⊥
       no-walks σ file m word one other h =
-          free-is A (fits σ file) free _ _ _ _ (subst (λ (B : Automaton). Witness B Everywhere m word one other) (same-numbers σ file) h .meets)
+          free-is (graphOf A) (fits-graph (fits σ file)) free _ _ _ _
+          (subst (λ (B : Automaton). Witness (graphOf B) Everywhere m word one other) (same-numbers σ file) h .meets)
 
       renumbered : (σ : Sheet) → FileIs s σ → (ts : List Tuple) → Numbering (numbers σ) ts → Numbering A ts
       renumbered σ file ts n = subst (λ (B : Automaton). Numbering B ts) (same-numbers σ file) n
@@ -146,8 +149,8 @@ module _ (s p : List ℕ) (room : ℕ) (Outcomes : Type 0) (refuse : Refusal →
     walks-asked : (e : Expected) → rightWalks A (x .names) p room e ≡ true → Causes → Says e
     unfolding rightWalks
     walks-asked (meeting word one other) t h = walks-meet word one other t h
-    walks-asked (judged z colours) t h = let (a, b) = and-eq-true-iff (isFree A) _ .0 t in room-asked a (judged z colours) b h
-    walks-asked (E.refused number line) t h = let (a, b) = and-eq-true-iff (isFree A) _ .0 t in room-asked a (E.refused number line) b h
+    walks-asked (judged z colours) t h = let (a, b) = and-eq-true-iff (isFree (graphOf A)) _ .0 t in room-asked a (judged z colours) b h
+    walks-asked (E.refused number line) t h = let (a, b) = and-eq-true-iff (isFree (graphOf A)) _ .0 t in room-asked a (E.refused number line) b h
 
   file-asked : (e : Expected) (q : Phase Contents) → parse s ≡ q → rightFile q p room e ≡ true → Causes → Says e
   unfolding rightFile

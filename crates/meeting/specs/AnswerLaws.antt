@@ -4,7 +4,7 @@ use mathlib.Core.Path.{refl}
 use native.Mathlib.Omega.{arith}
 use Rattle.sets.specs.Sets.{Member}
 use Rattle.sets.specs.SetLaws.{all-members}
-use Rattle.automaton.specs.Automaton.{Automaton, Fits}
+use Rattle.automaton.specs.Graph.{Graph, GraphFits}
 use Rattle.automaton.specs.Meeting.{Meet, Everywhere, Free, Witness}
 use Rattle.automaton.specs.Lent.{Tables, SameLengths}
 use Rattle.pairs.specs.Joining.{Backwards}
@@ -16,29 +16,29 @@ use Rattle.meeting.specs.Answer.{Answered}
 same-tables : (v : Tables) → SameLengths v v
 same-tables v = record { word = refl; one = refl; other = refl }
 
-pub answer-free : {A : Automaton} {Counts : ℕ → Type 0} {v : Tables} → Free A Counts → Answered A Counts v v 0
+pub answer-free : {G : Graph} {Counts : ℕ → Type 0} {v : Tables} → Free G Counts → Answered G Counts v v 0
 answer-free {v = v} f = record { free = λ e. f; kept = λ e. refl; witness = λ l. absurd (omega arith); lengths = same-tables v }
 
-pub answer-witness : {A : Automaton} {Counts : ℕ → Type 0} {v w : Tables} {r : ℕ} → 0 < r → Witness A Counts r (w .word) (w .one) (w .other)
-    → SameLengths v w → Answered A Counts v w r
+pub answer-witness : {G : Graph} {Counts : ℕ → Type 0} {v w : Tables} {r : ℕ} → 0 < r → Witness G Counts r (w .word) (w .one) (w .other)
+    → SameLengths v w → Answered G Counts v w r
 answer-witness l x s = record { free = λ e. absurd (omega arith); kept = λ e. absurd (omega arith); witness = λ m. x; lengths = s }
 
 -- Every state counts
 
-module _ {A : Automaton} (fits : Fits A) where
-  pub all-backwards : Backwards A (Member 65535)
+module _ {G : Graph} (fits : GraphFits G) where
+  pub all-backwards : Backwards G (Member 65535)
   all-backwards l q r e m = let h = e .from in let n = fits .range .1 in all-members q (omega arith)
 
-  meet-all : {w : ℕ → ℕ} {t : ℕ} {x y : ℕ → ℕ} → Meet A Everywhere w t x y → Meet A (Member 65535) w t x y
+  meet-all : {w : ℕ → ℕ} {t : ℕ} {x y : ℕ → ℕ} → Meet G Everywhere w t x y → Meet G (Member 65535) w t x y
   meet-all {w} {t} {x} m =
-      let h = walk-in A fits w t x (m .one) t (omega arith) in
+      let h = walk-in G fits w t x (m .one) t (omega arith) in
       let n = fits .range .1 in
       record { one = m .one; other = m .other; differ = m .differ; shared = m .shared; counts = all-members (x t) (omega arith) }
 
-  meet-any : {Counts : ℕ → Type 0} {w : ℕ → ℕ} {t : ℕ} {x y : ℕ → ℕ} → Meet A Counts w t x y → Meet A Everywhere w t x y
+  meet-any : {Counts : ℕ → Type 0} {w : ℕ → ℕ} {t : ℕ} {x y : ℕ → ℕ} → Meet G Counts w t x y → Meet G Everywhere w t x y
   meet-any m = record { one = m .one; other = m .other; differ = m .differ; shared = m .shared; counts = tt }
 
-  pub answer-everywhere : {v w : Tables} {r : ℕ} → Answered A (Member 65535) v w r → Answered A Everywhere v w r
+  pub answer-everywhere : {v w : Tables} {r : ℕ} → Answered G (Member 65535) v w r → Answered G Everywhere v w r
   answer-everywhere a = record {
     free = λ e u t x y m. a .free e u t x y (meet-all m);
     kept = a .kept;

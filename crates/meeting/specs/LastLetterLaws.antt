@@ -9,7 +9,7 @@ use lib.Seq.{getD-set-same, getD-set-other}
 use Rattle.gate.specs.Gate.{Zero}
 use Rattle.gate.specs.GateLaws.{zero-cleared}
 use Rattle.sets.specs.Sets.{Member}
-use Rattle.automaton.specs.Automaton.{Automaton, Edge, successorSet}
+use Rattle.automaton.specs.Graph.{Graph, Edge, successorSet}
 use Rattle.automaton.specs.Lent.{Tables}
 use Rattle.queue.specs.Queue.{pair, depth, one, other}
 use Rattle.automaton.specs.EdgeLaws.{edge-of}
@@ -26,18 +26,18 @@ module _ (v : List ℕ) (d p z : ℕ) (h : d + 1 < length v) where
   behind-end : Zero v → (i : ℕ) → suc d < i → getD (set (set v d p) (d + 1) z) i 0 ≡ 0
   behind-end zero-v i l = getD-set-other (set v d p) (d + 1) i z 0 (λ e. omega arith) ∙ getD-set-other v d i p 0 (λ e. omega arith) ∙ zero-v i
 
-tail-start : (A : Automaton) (d : ℕ) (word states : List ℕ) (l p z : ℕ) → d < length word → d + 1 < length states → Edge A l p z → Zero word → Zero states
-    → Tail A d d (set word d l) (set (set states d p) (d + 1) z)
-tail-start A d word states l p z hw hs e nw ns = record {
+tail-start : (G : Graph) (d : ℕ) (word states : List ℕ) (l p z : ℕ) → d < length word → d + 1 < length states → Edge G l p z → Zero word → Zero states
+    → Tail G d d (set word d l) (set (set states d p) (d + 1) z)
+tail-start G d word states l p z hw hs e nw ns = record {
   goes = λ s x y. (let v : s ≡ d = omega arith in rw (v, getD-set-same word d l 0 hw, at-last states d p z hs, at-end states d p z hs) e);
   behind = behind-end states d p z hs ns;
   behind-word = λ i x. getD-set-other word d i l 0 (λ v. omega arith) ∙ nw i;
 }
 
-pub trace-start : (A : Automaton) (counts : ℕ) (T : List ℕ) (head e l z : ℕ) (v : Tables) → Asked A v → e ≡ pair T head → depth e < 136 → l < 8
-    → (one e ≡ other e → ⊥) → Member (successorSet (A .table) (one e) l) z × Member (successorSet (A .table) (other e) l) z × Member counts z
-    → Traced A counts T head (depth e) (depth e) head (ended (noted v (depth e) l e) (depth e) z)
-trace-start A counts T head e l z v a he most hl f (m1, m2, c) =
+pub trace-start : (G : Graph) (counts : ℕ) (T : List ℕ) (head e l z : ℕ) (v : Tables) → Asked G v → e ≡ pair T head → depth e < 136 → l < 8
+    → (one e ≡ other e → ⊥) → Member (successorSet (G .table) (one e) l) z × Member (successorSet (G .table) (other e) l) z × Member counts z
+    → Traced G counts T head (depth e) (depth e) head (ended (noted v (depth e) l e) (depth e) z)
+trace-start G counts T head e l z v a he most hl f (m1, m2, c) =
     let d = depth e in
     let hw = a .lengths .long .word in
     let h1 = a .lengths .long .one in
@@ -55,8 +55,8 @@ trace-start A counts T head e l z v a he most hl f (m1, m2, c) =
       low = omega arith;
       state-one = l1 ∙ ap one he;
       state-other = l2 ∙ ap other he;
-      tail-one = tail-start A d (v .word) (v .one) l (one e) z (omega arith) (omega arith) (edge-of A (a .fits) l (one e) z hl m1) zw z1;
-      tail-other = tail-start A d (v .word) (v .other) l (other e) z (omega arith) (omega arith) (edge-of A (a .fits) l (other e) z hl m2) zw z2;
+      tail-one = tail-start G d (v .word) (v .one) l (one e) z (omega arith) (omega arith) (edge-of G (a .fits) l (one e) z hl m1) zw z1;
+      tail-other = tail-start G d (v .word) (v .other) l (other e) z (omega arith) (omega arith) (edge-of G (a .fits) l (other e) z hl m2) zw z2;
       apart = λ x. f (sym l1 ∙ x ∙ l2);
       shared = e1 ∙ sym e2;
       counted = rw e1 c;

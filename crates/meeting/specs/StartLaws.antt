@@ -7,14 +7,14 @@ use native.Mathlib.Omega.{arith}
 use native.Mathlib.Decide.{decLt}
 use Rattle.sets.specs.Sets.{Member}
 use Rattle.sets.specs.SetLaws.{no-member}
-use Rattle.automaton.specs.Automaton.{Automaton, Fits}
+use Rattle.automaton.specs.Graph.{Graph, GraphFits}
 use Rattle.queue.specs.Queue.{Has, Longer, Below, Open}
 use Rattle.queue.specs.RowLaws.{has-longer}
 use Rattle.meeting.specs.Search.{Empty, Started, Guarded}
 use Rattle.automaton.specs.EdgeLaws.{initial-lt}
 use Rattle.meeting.specs.JustifiedLaws.{justified-longer}
 
-pub start-empty : {A : Automaton} {T : List ℕ} → Empty T → Started A T 0 0
+pub start-empty : {G : Graph} {T : List ℕ} → Empty T → Started G T 0 0
 start-empty e = record {
   queue = record {
     size = e .size;
@@ -30,21 +30,21 @@ start-empty e = record {
   begun = λ p q l. absurd (omega arith);
 }
 
-module _ {A : Automaton} {T : List ℕ} {count p : ℕ} (s : Started A T count p) where
+module _ {G : Graph} {T : List ℕ} {count p : ℕ} (s : Started G T count p) where
   pub start-open : p < 16 → Open T count 0 p
   start-open l = record { queue = s .queue; most = s .most; deep = omega arith; state = l }
 
-  module _ (fits : Fits A) (x : ℕ) (g : Guarded (A .initial) p (A .initial) x) {T' : List ℕ} {count' : ℕ} (y : Longer T count 0 p (Below x 16) 0 T' count') where
-    at : (r q : ℕ) → r < p + 1 → Member (A .initial) r → Member (A .initial) q → Dec (r < p) → Has T' count' 0 r q
+  module _ (fits : GraphFits G) (x : ℕ) (g : Guarded (G .initial) p (G .initial) x) {T' : List ℕ} {count' : ℕ} (y : Longer T count 0 p (Below x 16) 0 T' count') where
+    at : (r q : ℕ) → r < p + 1 → Member (G .initial) r → Member (G .initial) q → Dec (r < p) → Has T' count' 0 r q
     at r q l a b (yes h) = has-longer T T' count count' 0 r q (y .keeps) (y .more) (s .begun r q h a b)
     at r q l a b (no h) =
         let e : r ≡ p = omega arith in
-        rw e (y .has q (initial-lt A fits q b, g q .1 (rw e at a, b)))
+        rw e (y .has q (initial-lt G fits q b, g q .1 (rw e at a, b)))
 
-    pub start-more : Started A T' count' (p + 1)
+    pub start-more : Started G T' count' (p + 1)
     start-more = record {
       queue = y .queue;
-      justified = justified-longer A T count 0 p (Below x 16) 0 T' count' (s .justified) y (λ q m. (let (a, b) = g q .0 (m .1) in inl (record { deep = refl; left = a; right = b })));
+      justified = justified-longer G T count 0 p (Below x 16) 0 T' count' (s .justified) y (λ q m. (let (a, b) = g q .0 (m .1) in inl (record { deep = refl; left = a; right = b })));
       most = y .most;
       begun = λ r q l a b. at r q l a b (decLt r p);
     }

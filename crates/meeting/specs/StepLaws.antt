@@ -5,25 +5,25 @@ use mathlib.Core.Logic.{inr}
 use mathlib.Core.List.{List}
 use native.Mathlib.Omega.{arith}
 use native.Mathlib.Decide.{decLt}
-use Rattle.automaton.specs.Automaton.{Automaton, Edge, Fits, successorSet}
+use Rattle.automaton.specs.Graph.{Graph, Edge, GraphFits, successorSet}
 use Rattle.queue.specs.Queue.{pair, depth, one, other, Has, Queue, AtMost, Longer, Below, Open}
 use Rattle.queue.specs.RowLaws.{has-longer}
 use Rattle.meeting.specs.Search.{Arrives, AllJustified, Grown, Guarded, Stepped, Closed}
 use Rattle.automaton.specs.EdgeLaws.{edge-of, edge-to}
 use Rattle.meeting.specs.JustifiedLaws.{justified-longer}
 
-pub grown-none : {A : Automaton} {T : List ℕ} {count d : ℕ} → Queue T count → AllJustified A T count → AtMost T count d → Grown A T count d T count
+pub grown-none : {G : Graph} {T : List ℕ} {count d : ℕ} → Queue T count → AllJustified G T count → AtMost T count d → Grown G T count d T count
 grown-none q s m = record { queue = q; justified = s; more = omega arith; keeps = λ i l. (refl, refl); most = m }
 
 -- Step j is on letter j / 16 to state j % 16; e is the pair whose steps they are.
-module _ {A : Automaton} (fits : Fits A) {T₀ : List ℕ} {count₀ head e d : ℕ} (h : head < count₀) (is : e ≡ pair T₀ head) (deep : d ≡ depth e + 1)
-    {T : List ℕ} {count : ℕ} (j : ℕ) (g : Grown A T₀ count₀ d T count) where
+module _ {G : Graph} (fits : GraphFits G) {T₀ : List ℕ} {count₀ head e d : ℕ} (h : head < count₀) (is : e ≡ pair T₀ head) (deep : d ≡ depth e + 1)
+    {T : List ℕ} {count : ℕ} (j : ℕ) (g : Grown G T₀ count₀ d T count) where
   pub step-open : Queue T₀ count₀ → Open T count d (j % 16)
   step-open q = let m = g .more in let u = q .early head h in let v : depth e ≤ head = rw is u in record { queue = g .queue; most = g .most; deep = omega arith; state = omega arith }
 
-  module _ (x : ℕ) {T' : List ℕ} {count' : ℕ} (l : j / 16 < A .k) (gd : Guarded (successorSet (A .table) (one e) (j / 16)) (j % 16) (successorSet (A .table) (other e) (j / 16)) x)
+  module _ (x : ℕ) {T' : List ℕ} {count' : ℕ} (l : j / 16 < G .k) (gd : Guarded (successorSet (G .table) (one e) (j / 16)) (j % 16) (successorSet (G .table) (other e) (j / 16)) x)
       (y : Longer T count d (j % 16) (Below x 16) (8 * head + j / 16) T' count') where
-    why : (q : ℕ) → Below x 16 q → Arrives A T count d (j % 16) q (8 * head + j / 16)
+    why : (q : ℕ) → Below x 16 q → Arrives G T count d (j % 16) q (8 * head + j / 16)
     why q m =
         let k = fits .range .3 in
         let more = g .more in
@@ -34,23 +34,23 @@ module _ {A : Automaton} (fits : Fits A) {T₀ : List ℕ} {count₀ head e d : 
         inr (record {
           earlier = omega arith;
           deep = rw (a, o) (omega arith);
-          left = rw (a, b, o) (edge-of A fits (j / 16) (one e) (j % 16) (omega arith) u);
-          right = rw (a, b, o) (edge-of A fits (j / 16) (other e) q (omega arith) v);
+          left = rw (a, b, o) (edge-of G fits (j / 16) (one e) (j % 16) (omega arith) u);
+          right = rw (a, b, o) (edge-of G fits (j / 16) (other e) q (omega arith) v);
         })
 
-    grown : Grown A T₀ count₀ d T' count'
+    grown : Grown G T₀ count₀ d T' count'
     grown =
         let a = g .more in
         let b = y .more in
         record {
           queue = y .queue;
-          justified = justified-longer A T count d (j % 16) (Below x 16) (8 * head + j / 16) T' count' (g .justified) y why;
+          justified = justified-longer G T count d (j % 16) (Below x 16) (8 * head + j / 16) T' count' (g .justified) y why;
           more = omega arith;
           keeps = λ i m. (let k = y .keeps i (omega arith) in let u = g .keeps i m in (k .0 ∙ u .0, k .1 ∙ u .1));
           most = y .most;
         }
 
-    stepped : Stepped A (one e) (other e) d T count j → Stepped A (one e) (other e) d T' count' (j + 1)
+    stepped : Stepped G (one e) (other e) d T count j → Stepped G (one e) (other e) d T' count' (j + 1)
     stepped s c r z i m u v = at (decLt (16 * c + r) j)
       where
         at : Dec (16 * c + r < j) → Has T' count' d r z
@@ -58,23 +58,23 @@ module _ {A : Automaton} (fits : Fits A) {T₀ : List ℕ} {count₀ head e d : 
         at (no w) =
             let a : r ≡ j % 16 = omega arith in
             let b : c ≡ j / 16 = omega arith in
-            rw a (y .has z (edge-to A fits c (other e) z v, gd z .1 (rw (b, a) at (u .to), rw b at (v .to))))
+            rw a (y .has z (edge-to G fits c (other e) z v, gd z .1 (rw (b, a) at (u .to), rw b at (v .to))))
 
-    pub step-taken : Stepped A (one e) (other e) d T count j → Grown A T₀ count₀ d T' count' × Stepped A (one e) (other e) d T' count' (j + 1)
+    pub step-taken : Stepped G (one e) (other e) d T count j → Grown G T₀ count₀ d T' count' × Stepped G (one e) (other e) d T' count' (j + 1)
     step-taken s = (grown, stepped s)
 
-  closed : 16 * A .k ≤ j → Stepped A (one e) (other e) d T count j → Closed A T count head
+  closed : 16 * G .k ≤ j → Stepped G (one e) (other e) d T count j → Closed G T count head
   closed l s c x y u v =
       let o : pair T head ≡ e = g .keeps head h .0 ∙ sym is in
-      let u' : Edge A c (one e) x = rw o at u in
-      let v' : Edge A c (other e) y = rw o at v in
+      let u' : Edge G c (one e) x = rw o at u in
+      let v' : Edge G c (other e) y = rw o at v in
       let n = u' .letter in
-      let m = edge-to A fits c (one e) x u' in
+      let m = edge-to G fits c (one e) x u' in
       let z : suc (depth (pair T head)) ≡ d = rw o (omega arith) in
       rw z (s c x y (omega arith) m u' v')
 
-  grown-by : Grown A T₀ count₀ (suc (depth (pair T₀ head))) T count
+  grown-by : Grown G T₀ count₀ (suc (depth (pair T₀ head))) T count
   grown-by = let z : suc (depth (pair T₀ head)) ≡ d = rw (← is) (omega arith) in rw z g
 
-  pub all-taken : 16 * A .k ≤ j → Stepped A (one e) (other e) d T count j → Grown A T₀ count₀ (suc (depth (pair T₀ head))) T count × Closed A T count head
+  pub all-taken : 16 * G .k ≤ j → Stepped G (one e) (other e) d T count j → Grown G T₀ count₀ (suc (depth (pair T₀ head))) T count × Closed G T count head
   all-taken l s = (grown-by, closed l s)

@@ -4,7 +4,7 @@ use mathlib.Core.Path.{_≡_}
 use mathlib.Core.List.{List}
 use lib.ListN.{length, getD, set}
 use Rattle.sets.specs.Sets.{Member}
-use Rattle.automaton.specs.Automaton.{Automaton, Edge}
+use Rattle.automaton.specs.Graph.{Graph, Edge}
 use Rattle.automaton.specs.Lent.{Tables, tables}
 use Rattle.queue.specs.Queue.{pair, origin, depth, one, other}
 use Rattle.meeting.specs.Search.{AllJustified}
@@ -18,20 +18,20 @@ abbrev pub ended : Tables → ℕ → ℕ → Tables
 ended v d z = tables (v .word) (set (v .one) (d + 1) z) (set (v .other) (d + 1) z)
 
 -- the end of a walk, from time t to d + 1, with zeros behind
-pub record Tail (A : Automaton) (d t : ℕ) (word states : List ℕ) : Type 0 where
-  pub goes : (s : ℕ) → t ≤ s → s ≤ d → Edge A (getD word s 0) (getD states s 0) (getD states (suc s) 0)
+pub record Tail (G : Graph) (d t : ℕ) (word states : List ℕ) : Type 0 where
+  pub goes : (s : ℕ) → t ≤ s → s ≤ d → Edge G (getD word s 0) (getD states s 0) (getD states (suc s) 0)
   pub behind : (i : ℕ) → suc d < i → getD states i 0 ≡ 0
   pub behind-word : (i : ℕ) → d < i → getD word i 0 ≡ 0
 
 -- the ends of two walks that are in pair i at time t, in different states at time d, and then in one state that counts
-pub record Traced (A : Automaton) (counts : ℕ) (T : List ℕ) (head d t i : ℕ) (v : Tables) : Type 0 where
+pub record Traced (G : Graph) (counts : ℕ) (T : List ℕ) (head d t i : ℕ) (v : Tables) : Type 0 where
   pub before : i ≤ head
   pub deep : depth (pair T i) ≡ t
   pub low : t ≤ d
   pub state-one : getD (v .one) t 0 ≡ one (pair T i)
   pub state-other : getD (v .other) t 0 ≡ other (pair T i)
-  pub tail-one : Tail A d t (v .word) (v .one)
-  pub tail-other : Tail A d t (v .word) (v .other)
+  pub tail-one : Tail G d t (v .word) (v .one)
+  pub tail-other : Tail G d t (v .word) (v .other)
   pub apart : getD (v .one) d 0 ≡ getD (v .other) d 0 → ⊥
   pub shared : getD (v .one) (suc d) 0 ≡ getD (v .other) (suc d) 0
   pub counted : Member counts (getD (v .one) (suc d) 0)
@@ -50,6 +50,6 @@ pub record Traceable (T : List ℕ) (head d : ℕ) (v : Tables) : Type 0 where
   pub one : d < length (v .one)
   pub other : d < length (v .other)
 
--- tables v with the last letter of a meeting have become w, with the letters from t on: whatever the automaton
+-- tables v with the last letter of a meeting have become w, with the letters from t on: whatever the graph
 abbrev pub Leads : List ℕ → ℕ → ℕ → ℕ → ℕ → Tables → Tables → Type 0
-Leads T head d t i v w = (A : Automaton) (counts : ℕ) → AllJustified A T (suc head) → Traced A counts T head d d head v → Traced A counts T head d t i w
+Leads T head d t i v w = (G : Graph) (counts : ℕ) → AllJustified G T (suc head) → Traced G counts T head d d head v → Traced G counts T head d t i w

@@ -4,14 +4,14 @@ ghost use Prim.Native.Nat.{ℕ, suc, _<_, _≤_};
 ghost use lib.ListN.{length};
 ghost use Rattle.sets.specs.Sets.{Member};
 ghost use Rattle.pairs.specs.Joining.{Backwards};
-ghost use Rattle.automaton.specs.Automaton.{automaton, Fits};
+ghost use Rattle.automaton.specs.Graph.{graph, GraphFits};
 ghost use Rattle.automaton.specs.Meeting.{Witness};
 ghost use Rattle.automaton.specs.Lent.{tables};
 ghost use Rattle.meeting.specs.Answer.{Asked, Answered};
 ghost use Rattle.queue.specs.Queue.{pair, depth};
 ghost use Rattle.meeting.specs.Search.{Empty, Grown, Started, Guarded, Ready, Closed, Common, Joining, Explored, Found};
 ghost use Rattle.meeting.specs.Trace.{noted, Traceable, Leads};
-use automaton::Numbers;
+use automaton::GraphNumbers;
 
 // The set y where p is a member of x, and else the empty set.
 fn guarded(x: u16, p: usize, y: u16) -> u16
@@ -25,23 +25,23 @@ fn guarded(x: u16, p: usize, y: u16) -> u16
 }
 
 // The pairs of initial states, from an empty queue.
-fn begin(a: Numbers, table: &[u16], queue: &mut [u16]) -> usize
-    requires { ⌜ Fits (automaton a (now table)) × Empty (now queue) ⌝ }
-    ensures { λ r. ⌜ Started (automaton a (now (table .entry))) (now (queue .exit)) r 16 ⌝ }
+fn begin(g: GraphNumbers, table: &[u16], queue: &mut [u16]) -> usize
+    requires { ⌜ GraphFits (graph g (now table)) × Empty (now queue) ⌝ }
+    ensures { λ r. ⌜ Started (graph g (now (table .entry))) (now (queue .exit)) r 16 ⌝ }
 {
     let mut count = 0;
     let mut p = 0;
     while p < 16 {
-        count = queue::add_row(queue, count, 0, p, guarded(a.initial, p, a.initial), 0);
+        count = queue::add_row(queue, count, 0, p, guarded(g.initial, p, g.initial), 0);
         p += 1;
     }
     count
 }
 
 // The pairs to which a pair steps.
-fn expand(a: Numbers, table: &[u16], queue: &mut [u16], count: usize, head: usize) -> usize
-    requires { ⌜ Ready (automaton a (now table)) (now queue) count head ⌝ }
-    ensures { λ r. ⌜ Grown (automaton a (now (table .entry))) (now (queue .entry)) count (suc (depth (pair (now (queue .entry)) head))) (now (queue .exit)) r × Closed (automaton a (now (table .entry))) (now (queue .exit)) r head ⌝ }
+fn expand(g: GraphNumbers, table: &[u16], queue: &mut [u16], count: usize, head: usize) -> usize
+    requires { ⌜ Ready (graph g (now table)) (now queue) count head ⌝ }
+    ensures { λ r. ⌜ Grown (graph g (now (table .entry))) (now (queue .entry)) count (suc (depth (pair (now (queue .entry)) head))) (now (queue .exit)) r × Closed (graph g (now (table .entry))) (now (queue .exit)) r head ⌝ }
 {
     let e = queue::number(queue, head);
     let d = e / 256 + 1;
@@ -49,7 +49,7 @@ fn expand(a: Numbers, table: &[u16], queue: &mut [u16], count: usize, head: usiz
     let q = e % 16;
     let mut reached = count;
     let mut j = 0;
-    while j < 16 * a.k {
+    while j < 16 * g.k {
         let l = j / 16;
         let x = j % 16;
         let next = guarded(table[8 * p + l], x, table[8 * q + l]);
@@ -91,17 +91,17 @@ fn joining(table: &[u16], counts: u16, e: usize) -> usize
 }
 
 // The first pair in the order of the search that joins, or 256.
-fn explore(a: Numbers, table: &[u16], counts: u16, queue: &mut [u16]) -> usize
-    requires { ⌜ Fits (automaton a (now table)) × (128 ≤ length (now table)) × Backwards (automaton a (now table)) (Member counts) × Empty (now queue) ⌝ }
-    ensures { λ r. ⌜ Explored (automaton a (now (table .entry))) counts (now (queue .exit)) r ⌝ }
+fn explore(g: GraphNumbers, table: &[u16], counts: u16, queue: &mut [u16]) -> usize
+    requires { ⌜ GraphFits (graph g (now table)) × (128 ≤ length (now table)) × Backwards (graph g (now table)) (Member counts) × Empty (now queue) ⌝ }
+    ensures { λ r. ⌜ Explored (graph g (now (table .entry))) counts (now (queue .exit)) r ⌝ }
 {
-    let mut count = begin(a, table, queue);
+    let mut count = begin(g, table, queue);
     let mut head = 0;
     while head < count {
         if joining(table, counts, queue::number(queue, head)) < 8 {
             return head;
         }
-        count = expand(a, table, queue, count, head);
+        count = expand(g, table, queue, count, head);
         head += 1;
     }
     256
@@ -149,7 +149,7 @@ fn trace(queue: &[u16], head: usize, d: usize, word: &mut [u16], one: &mut [u16]
 
 // A shortest meeting by way of pair `head`, which joins: its word and walks, in the tables. The answer is its length.
 fn witness(
-    a: Numbers,
+    g: GraphNumbers,
     table: &[u16],
     counts: u16,
     queue: &[u16],
@@ -158,8 +158,8 @@ fn witness(
     one: &mut [u16],
     other: &mut [u16],
 ) -> usize
-    requires { ⌜ Asked (automaton a (now table)) (tables (now word) (now one) (now other)) × Found (automaton a (now table)) counts (now queue) head ⌝ }
-    ensures { λ r. ⌜ (0 < r) × Witness (automaton a (now (table .entry))) (Member counts) r (now (word .exit)) (now (one .exit)) (now (other .exit)) ⌝ }
+    requires { ⌜ Asked (graph g (now table)) (tables (now word) (now one) (now other)) × Found (graph g (now table)) counts (now queue) head ⌝ }
+    ensures { λ r. ⌜ (0 < r) × Witness (graph g (now (table .entry))) (Member counts) r (now (word .exit)) (now (one .exit)) (now (other .exit)) ⌝ }
 {
     let e = queue::number(queue, head);
     let d = e / 256;
@@ -176,20 +176,20 @@ fn witness(
 
 // Question 10 where a meeting counts at the states of a set: 0 for yes, or the length of a shortest word with meeting walks.
 pub fn search(
-    a: Numbers,
+    g: GraphNumbers,
     table: &[u16],
     counts: u16,
     word: &mut [u16],
     one: &mut [u16],
     other: &mut [u16],
 ) -> usize
-    requires { ⌜ Asked (automaton a (now table)) (tables (now word) (now one) (now other)) × Backwards (automaton a (now table)) (Member counts) ⌝ }
-    ensures { λ r. ⌜ Answered (automaton a (now (table .entry))) (Member counts) (tables (now (word .entry)) (now (one .entry)) (now (other .entry))) (tables (now (word .exit)) (now (one .exit)) (now (other .exit))) r ⌝ }
+    requires { ⌜ Asked (graph g (now table)) (tables (now word) (now one) (now other)) × Backwards (graph g (now table)) (Member counts) ⌝ }
+    ensures { λ r. ⌜ Answered (graph g (now (table .entry))) (Member counts) (tables (now (word .entry)) (now (one .entry)) (now (other .entry))) (tables (now (word .exit)) (now (one .exit)) (now (other .exit))) r ⌝ }
 {
     let mut queue = [0u16; 528];
-    let head = explore(a, table, counts, &mut queue);
+    let head = explore(g, table, counts, &mut queue);
     if head < 256 {
-        return witness(a, table, counts, &queue, head, word, one, other);
+        return witness(g, table, counts, &queue, head, word, one, other);
     }
     0
 }

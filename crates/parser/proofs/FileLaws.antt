@@ -14,7 +14,7 @@ use Rattle.format.specs.Format.{mostSheet}
 use borrow.Author.Tests.{lt-ltb, le-ltb}
 use Rattle.parser.specs.PhaseAnswers.{statesAnswer, FillsTable, NamesRead, NumbersRead, FileRead}
 use Rattle.names.specs.Rows.{HoldNames}
-use Rattle.automaton.specs.Automaton.{InRange}
+use Rattle.automaton.specs.Graph.{InRange}
 use Rattle.parser.specs.declared.Place.{Place}
 use Rattle.parser.specs.declared.File.{File}
 use Rattle.parser.specs.declared.Names.the-variants as N

@@ -4,7 +4,7 @@ use mathlib.Core.Path.{_≡_, refl}
 use mathlib.Core.List.{List, _++_}
 use lib.ListN.{length, drop}
 use native.Mathlib.Omega.{arith}
-use Rattle.automaton.specs.Automaton.{InRange}
+use Rattle.automaton.specs.Graph.{InRange}
 use Rattle.format.specs.Format.{sheetWord, headLine, mostSheet, Faulty, head, range}
 use Rattle.parser.specs.declared.Sizes.{Sizes}
 use Rattle.parser.specs.Parse.{sizes, sheetBounds, headOf}

@@ -10,7 +10,7 @@ use native.Mathlib.Omega.{arith}
 use native.Mathlib.Nat.{zero-add}
 use Rattle.lists.specs.Choice.{choose}
 use Rattle.names.specs.Name.{compose}
-use Rattle.automaton.specs.Automaton.{InRange}
+use Rattle.automaton.specs.Graph.{InRange}
 use Rattle.format.specs.Format.{State, Transition, Sheet, headLine, stateLine, FlagsRight, nameLines, stateLines, transitionLines, endLine, lines, leastAfter, mostSheet, FileIs, Above, NameDue, StateDue, EndDue, lineDue, EndFault, Faulty}
 use Rattle.format.specs.Numbers.{numbers}
 use Rattle.format.specs.FormatLaws.{lines-parted}

@@ -5,7 +5,8 @@ use mathlib.Core.List.{List, _++_}
 use lib.ListN.{length, drop}
 use Rattle.gate.specs.Gate.{refusal, cleared}
 use Rattle.automaton.specs.declared.Numbers.{Numbers}
-use Rattle.automaton.specs.Automaton.{Automaton, InRange}
+use Rattle.automaton.specs.Automaton.{Automaton}
+use Rattle.automaton.specs.Graph.{InRange}
 use Rattle.parser.specs.declared.Bounds.{Bounds}
 use Rattle.parser.specs.declared.Sets.{Sets}
 use Rattle.parser.specs.declared.First.{First}

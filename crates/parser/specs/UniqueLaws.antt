@@ -9,7 +9,7 @@ use Rattle.text.specs.Bytes.{stretch}
 use Rattle.lists.specs.AppendLaws.{append-same}
 use Rattle.names.specs.Name.{IsName}
 use Rattle.names.specs.declared.Ending.the-variants as E
-use Rattle.automaton.specs.Automaton.{InRange}
+use Rattle.automaton.specs.Graph.{InRange}
 use Rattle.format.specs.Format.{State, Transition, Sheet, headLine, nameLine, stateLine, transitionLine, nameLines, stateLines, transitionLines, endLine, NamesRight, FlagsRight, StatesRight, place, TransitionRight, TransitionsRight, FileIs, Faulty}
 use Rattle.format.specs.NumbersLaws.{loosened}
 use Rattle.format.specs.FormatLaws.{head-length, name-length, state-length, transition-length, lines-parted}

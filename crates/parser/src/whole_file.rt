@@ -3,7 +3,7 @@ ghost use mathlib.Core.Path.{_≡_};
 ghost use Prim.Native.Nat.{_≤_};
 ghost use lib.ListN.{length};
 ghost use Rattle.gate.specs.Gate.{cleared};
-ghost use Rattle.automaton.specs.Automaton.{InRange};
+ghost use Rattle.automaton.specs.Graph.{InRange};
 ghost use Rattle.format.specs.Format.{mostSheet};
 ghost use Rattle.parser.specs.Parse.{Named, parse, afterNames};
 ghost use Rattle.parser.specs.PhaseAnswers.{NumbersRead, FileRead};

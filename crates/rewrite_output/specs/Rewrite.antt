@@ -9,6 +9,7 @@ use Rattle.lists.specs.Choice.{choose}
 use Rattle.text.specs.Bytes.{lf, space}
 use Rattle.text.specs.Column.{column}
 use Rattle.text.specs.Pieces.{pieces}
+use Rattle.automaton.specs.Automaton.{graphOf}
 use Rattle.automaton.specs.Lent.{Tables, Meets}
 use Rattle.format.specs.Format.{Sheet, FileIs, Faulty}
 use Rattle.format.specs.Numbers.{numbers}
@@ -39,7 +40,7 @@ pub data RewriteOutput (s text : List ℕ) : Type 0 where
   -- 2 to 9
   refused : (number line : ℕ) → Faulty s number line → text ≡ refusalLine number line → RewriteOutput s text
   -- 10, with its witness in tables that were v and are w
-  meeting : (σ : Sheet) → FileIs s σ → (v w : Tables) (r : Refusal) → Meets (numbers σ) v w r
+  meeting : (σ : Sheet) → FileIs s σ → (v w : Tables) (r : Refusal) → Meets (graphOf (numbers σ)) v w r
       → text ≡ refusalLine (r .number) (r .line) ++ witnessText w (r .length) → RewriteOutput s text
   -- "The writer writes composed letters"
   written : (σ : Sheet) → Accepted s σ → text ≡ writing σ → RewriteOutput s text

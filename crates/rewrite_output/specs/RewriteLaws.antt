@@ -14,7 +14,8 @@ use Rattle.lists.specs.ChoiceLaws.{lt-or-ge}
 use Rattle.text.specs.Bytes.{space}
 use Rattle.text.specs.Column.{column}
 use Rattle.text.specs.ColumnLaws.{column-injective}
-use Rattle.automaton.specs.Automaton.{Fits}
+use Rattle.automaton.specs.Automaton.{graphOf}
+use Rattle.automaton.specs.QuestionLaws.{fits-graph}
 use Rattle.automaton.specs.EdgeLaws.{edge-letter, walk-in}
 use Rattle.automaton.specs.Meeting.{cells}
 use Rattle.automaton.specs.Lent.{Tables, Long, Meets}
@@ -56,17 +57,17 @@ pub record WitnessShown (w : Tables) (t : ℕ) : Type 0 where
   pub one : (i : ℕ) → i ≤ t → getD (w .one) i 0 < 16
   pub other : (i : ℕ) → i ≤ t → getD (w .other) i 0 < 16
 
-pub witness-shown : (s : List ℕ) (σ : Sheet) → FileIs s σ → {v w : Tables} {r : Refusal} → Meets (numbers σ) v w r → WitnessShown w (r .length)
+pub witness-shown : (s : List ℕ) (σ : Sheet) → FileIs s σ → {v w : Tables} {r : Refusal} → Meets (graphOf (numbers σ)) v w r → WitnessShown w (r .length)
 witness-shown s σ file {v} {w} {r} m =
-    let fits : Fits (numbers σ) = sheet-fits s σ file in
+    let fits = fits-graph (sheet-fits s σ file) in
     let n = fits .range .1 in
     let meet = m .witness .meets in
     let t = r .length in
     let word = cells (w .word) in
     record {
-      letters = λ i h. edge-letter (numbers σ) fits (word i) _ _ (meet .one .goes i h);
-      one = λ i h. omega (arith, walk-in (numbers σ) fits word t (cells (w .one)) (meet .one) i h);
-      other = λ i h. omega (arith, walk-in (numbers σ) fits word t (cells (w .other)) (meet .other) i h);
+      letters = λ i h. edge-letter (graphOf (numbers σ)) fits (word i) _ _ (meet .one .goes i h);
+      one = λ i h. omega (arith, walk-in (graphOf (numbers σ)) fits word t (cells (w .one)) (meet .one) i h);
+      other = λ i h. omega (arith, walk-in (graphOf (numbers σ)) fits word t (cells (w .other)) (meet .other) i h);
     }
 
 -- a space and a number of one digit or two tell the number

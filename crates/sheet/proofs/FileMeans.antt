@@ -6,7 +6,8 @@ use native.Mathlib.Omega.{arith}
 use lib.ListN.{length, drop}
 use Rattle.gate.specs.Gate.{RefusedBy, cleared}
 use Rattle.gate.specs.declared.Refusal.{Refusal}
-use Rattle.automaton.specs.Automaton.{InRange, AreNumbers}
+use Rattle.automaton.specs.Automaton.{AreNumbers}
+use Rattle.automaton.specs.Graph.{InRange}
 use Rattle.automaton.specs.declared.Numbers.{Numbers}
 use Rattle.format.specs.Format.{Sheet, FileIs, Faulty}
 use Rattle.format.specs.Numbers.{numbers}

@@ -9,7 +9,10 @@ use Rattle.gate.specs.Gate.{cleared}
 use Rattle.automaton.specs.LentLaws.{tables-twice, long-cleared, meets-cleared}
 use Rattle.gate.specs.GateLaws.{cleared-twice, length-cleared}
 use Rattle.gate.specs.declared.Refusal.{Refusal}
-use Rattle.automaton.specs.Automaton.{Automaton, automaton, Fits}
+use Rattle.automaton.specs.Automaton.{Automaton, automaton, graphOf, graphNumbers}
+use Rattle.automaton.specs.Graph.{Graph, graph, GraphFits}
+use Rattle.automaton.specs.QuestionLaws.{same-graph, fits-graph}
+use Rattle.automaton.specs.declared.GraphNumbers.{GraphNumbers}
 use Rattle.automaton.specs.declared.Numbers.{Numbers}
 use Rattle.automaton.specs.Meeting.{Everywhere}
 use Rattle.automaton.specs.Lent.{Tables, Long, clearedTables, lentTable, Lengths}
@@ -33,17 +36,21 @@ module _ {s t u old rows : List ℕ} {a : Numbers} (h : FileAccepted s t u old r
   sheet-automaton : automaton a (take 128 u) ≡ numbers (h .sheet)
   sheet-automaton = read-is (h .sheet) t (are-numbers h) table-is
 
-  module _ {v : Tables} (zeros : v ≡ clearedTables v) where
-    pub asked : Long v → Asked (automaton a (take 128 u)) v
+  -- its graph is the one that is asked
+  module _ {g : GraphNumbers} (same : g ≡ graphNumbers a) {v : Tables} (zeros : v ≡ clearedTables v) where
+    sheet-graph : graph g (take 128 u) ≡ graphOf (numbers (h .sheet))
+    sheet-graph = same-graph a (take 128 u) same ∙ ap (λ (A : Automaton). graphOf A) sheet-automaton
+
+    pub asked : Long v → Asked (graph g (take 128 u)) v
     asked long = record {
-      fits = subst Fits (sym sheet-automaton) (sheet-fits s (h .sheet) (h .file));
-      lengths = record { cells = subst (λ (A : Automaton). 128 ≤ length (A .table)) (sym sheet-automaton) (omega (arith, numbers-length (h .sheet))); long = long };
+      fits = subst GraphFits (sym sheet-graph) (fits-graph (sheet-fits s (h .sheet) (h .file)));
+      lengths = record { cells = subst (λ (G : Graph). 128 ≤ length (G .table)) (sym sheet-graph) (omega (arith, numbers-length (h .sheet))); long = long };
       zeros = zeros;
     }
 
-    module _ {w : Tables} {r : ℕ} (answer : Answered (automaton a (take 128 u)) Everywhere v w r) where
-      answered : Answered (numbers (h .sheet)) Everywhere v w r
-      answered = subst (λ (A : Automaton). Answered A Everywhere v w r) sheet-automaton answer
+    module _ {w : Tables} {r : ℕ} (answer : Answered (graph g (take 128 u)) Everywhere v w r) where
+      answered : Answered (graphOf (numbers (h .sheet))) Everywhere v w r
+      answered = subst (λ (G : Graph). Answered G Everywhere v w r) sheet-graph answer
 
       pub free-accepts : r ≡ 0 → read.ReadsLong s t u v w (R.Is a)
       free-accepts e = (h .sheet, record { file = h .file; free = answered .free e }, are-numbers h, table-is, answered .kept e ∙ zeros)

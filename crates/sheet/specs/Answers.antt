@@ -5,7 +5,8 @@ use mathlib.Core.List.{List, map}
 use lib.ListN.{length, drop}
 use Rattle.gate.specs.Gate.{RefusedBy, cleared}
 use Rattle.automaton.specs.declared.Numbers.{Numbers}
-use Rattle.automaton.specs.Automaton.{InRange, AreNumbers}
+use Rattle.automaton.specs.Automaton.{AreNumbers}
+use Rattle.automaton.specs.Graph.{InRange}
 use Rattle.parser.specs.declared.File.{File}
 use Rattle.parser.specs.declared.File.the-variants as F
 use Rattle.names.specs.Rows.{HoldNames}

@@ -5,7 +5,7 @@ use mathlib.Core.List.{List}
 use mathlib.Core.Logic.{_⊎_}
 use Rattle.gate.specs.Gate.{refusal, cleared}
 use Rattle.gate.specs.declared.Refusal.{Refusal}
-use Rattle.automaton.specs.Automaton.{AreNumbers}
+use Rattle.automaton.specs.Automaton.{graphOf, AreNumbers}
 use Rattle.automaton.specs.Meeting.{Free, Everywhere}
 use Rattle.automaton.specs.Lent.{Tables, Lengths, clearedTables, lentTable, Meets}
 use Rattle.sheet.specs.declared.Read.{Read}
@@ -16,12 +16,12 @@ use Rattle.format.specs.Numbers.{numbers}
 -- QUESTIONS 2 TO 10 on a sheet file: s is the file of σ, and no two walks meet
 pub record Accepted (s : List ℕ) (σ : Sheet) : Type 0 where
   pub file : FileIs s σ
-  pub free : Free (numbers σ) Everywhere
+  pub free : Free (graphOf (numbers σ)) Everywhere
 
 -- or the first that is answered no refuses with r; the witness was v and is w then
 pub data Refuses (s : List ℕ) (v w : Tables) (r : Refusal) : Type 0 where
   faulty : (number line : ℕ) → Faulty s number line → r ≡ refusal number line → w ≡ clearedTables v → Refuses s v w r
-  meeting : (σ : Sheet) → FileIs s σ → Meets (numbers σ) v w r → Refuses s v w r
+  meeting : (σ : Sheet) → FileIs s σ → Meets (graphOf (numbers σ)) v w r → Refuses s v w r
 
 -- the answer of questions 2 to 10, in tables that are long enough. The successor sets' table was t and is u then.
 abbrev pub ReadsLong : List ℕ → List ℕ → List ℕ → Tables → Tables → Read → Type 0

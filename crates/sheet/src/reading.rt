@@ -25,7 +25,7 @@ pub fn read_cleared(
     match read_file(sheet, table, &mut rows) {
         File::Refused(r) => Read::Refused(r),
         File::Is(a) => {
-            let length = walks::ask(a, &table[..128], word, one, other);
+            let length = walks::ask(automaton::graph_of(a), &table[..128], word, one, other);
             if length == 0 {
                 return Read::Is(a);
             }

@@ -5,7 +5,7 @@ use mathlib.Core.List.{List, _++_}
 use lib.ListN.{length, replicate}
 use Rattle.gate.specs.Gate.{refusal, cleared}
 use Rattle.gate.specs.declared.Refusal.{Refusal}
-use Rattle.automaton.specs.Automaton.{Automaton, Fits, AreNumbers}
+use Rattle.automaton.specs.Automaton.{Automaton, graphOf, Fits, AreNumbers}
 use Rattle.automaton.specs.Meeting.{Free, Everywhere}
 use Rattle.automaton.specs.Lent.{Tables, Lengths, clearedTables, NumbersRefuse, lentTable}
 use Rattle.format.specs.Format.{Sheet}
@@ -67,7 +67,7 @@ pub data BuildsNumbers (A : Automaton) (room : ℕ) (v w : Tables) (f g : Store)
   -- 4, 7, 8 and 10
   refused : Lent room (A .table) v f → (r : Refusal) → NumbersRefuse A v w r → b ≡ Refused r → g ≡ clearedStore f → BuildsNumbers A room v w f g b
   -- 11, or the tracker
-  asked : Lent room (A .table) v f → Fits A → Free A Everywhere → w ≡ clearedTables v → Tracks A room f g b → BuildsNumbers A room v w f g b
+  asked : Lent room (A .table) v f → Fits A → Free (graphOf A) Everywhere → w ≡ clearedTables v → Tracks A room f g b → BuildsNumbers A room v w f g b
 
 -- a lent table of successor sets, which was t, behind question 11: all zero with a refusal, and the sheet's with its tracker
 abbrev pub TableIs : List ℕ → List ℕ → List ℕ → Built → Type 0

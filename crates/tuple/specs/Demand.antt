@@ -6,7 +6,8 @@ use native.Mathlib.Omega.{arith}
 use native.Mathlib.Decide.{ℕ-discrete}
 use Rattle.sets.specs.Sets.{Member}
 use Rattle.sets.specs.SetLaws.{member-dec}
-use Rattle.automaton.specs.Automaton.{Automaton, Edge, Fits}
+use Rattle.automaton.specs.Automaton.{Automaton, graphOf, Fits}
+use Rattle.automaton.specs.Graph.{Edge}
 use Rattle.automaton.specs.Meeting.{Walk, Meet, Free, Everywhere}
 use Rattle.automaton.specs.Reading.{Reading, Recurs, Passes}
 use Rattle.automaton.specs.EdgeLaws.{edge-dec}
@@ -24,17 +25,17 @@ use Rattle.tuple.specs.RunLaws.{run-repeats, is-run, set-zero}
 -- without end
 
 abbrev Paths : Automaton → (ℕ → ℕ) → (ℕ → ℕ) → Type 0
-Paths A w x = Path (λ t. Edge A (w t)) (λ t. In (run A w t .sets)) x
+Paths A w x = Path (λ t. Edge (graphOf A) (w t)) (λ t. In (run A w t .sets)) x
 
-path-of : (A : Automaton) (w x : ℕ → ℕ) → Reading A w x → Paths A w x
+path-of : (A : Automaton) (w x : ℕ → ℕ) → Reading (graphOf A) w x → Paths A w x
 unfolding run
 path-of A w x h = record { starts = first-of A (x 0) (h .starts); goes = h .goes }
 
-reading-of : (A : Automaton) (w x : ℕ → ℕ) → Paths A w x → Reading A w x
+reading-of : (A : Automaton) (w x : ℕ → ℕ) → Paths A w x → Reading (graphOf A) w x
 unfolding run
 reading-of A w x h = record { starts = first-in A 0 (x 0) (h .starts) .1; goes = h .goes }
 
-often-of : (A : Automaton) (w x : ℕ → ℕ) → Reading A w x → Recurs A x → Often (λ t. Recurrent A (w t)) x
+often-of : (A : Automaton) (w x : ℕ → ℕ) → Reading (graphOf A) w x → Recurs A x → Often (λ t. Recurrent A (w t)) x
 often-of A w x h recurs t = let (u, l, m) = recurs (suc t) in at u l m
   where
     at : (u : ℕ) → suc t < u → Member (A .recurring) (x u) → (u : ℕ) × (t < u) × Recurrent A (w u) (x u) (x (suc u))
@@ -51,25 +52,25 @@ passes-both A w = (
 )
 
 -- An automaton without walks that meet in states that count, and every state of a reading counts
-module _ {A : Automaton} (fits : Fits A) (Counts : ℕ → Type 0) (count : (w x : ℕ → ℕ) → Reading A w x → (t : ℕ) → Counts (x t))
-    (free : Free A Counts) (w : ℕ → ℕ) (letters : (t : ℕ) → w t < A .k) where
+module _ {A : Automaton} (fits : Fits A) (Counts : ℕ → Type 0) (count : (w x : ℕ → ℕ) → Reading (graphOf A) w x → (t : ℕ) → Counts (x t))
+    (free : Free (graphOf A) Counts) (w : ℕ → ℕ) (letters : (t : ℕ) → w t < A .k) where
   -- Any other state of set 0 that steps to the reading's next state would give a second walk to it.
-  alone : Alone (λ t. Edge A (w t)) (λ t. In (run A w t .sets))
+  alone : Alone (λ t. Edge (graphOf A) (w t)) (λ t. In (run A w t .sets))
   alone ξ path t q s e = by (ℕ-discrete q (ξ t))
     where
-      meet : (q ≡ ξ t → ⊥) → (x : ℕ → ℕ) → Walk A w t x → x t ≡ q → Meet A Counts w (suc t) ξ (glue x (λ s. ξ (suc t)) (suc t))
+      meet : (q ≡ ξ t → ⊥) → (x : ℕ → ℕ) → Walk (graphOf A) w t x → x t ≡ q → Meet (graphOf A) Counts w (suc t) ξ (glue x (λ s. ξ (suc t)) (suc t))
       meet f x walk end =
           let h = reading-of A w ξ path in
           let y = glue x (λ s. ξ (suc t)) (suc t) in
           let y-first : y 0 ≡ x 0 = glue-lt x (λ s. ξ (suc t)) (suc t) 0 (omega arith) in
           let y-t : y t ≡ x t = glue-lt x (λ s. ξ (suc t)) (suc t) t (omega arith) in
-          let last : Edge A (w t) (x t) (ξ (suc t)) = subst (λ (z : ℕ). Edge A (w t) z (ξ (suc t))) (sym end) e in
+          let last : Edge (graphOf A) (w t) (x t) (ξ (suc t)) = subst (λ (z : ℕ). Edge (graphOf A) (w t) z (ξ (suc t))) (sym end) e in
           let y-end : y (suc t) ≡ ξ (suc t) = glue-ge x (λ s. ξ (suc t)) (suc t) (suc t) (omega arith) in
           record {
             one = record { starts = h .starts; goes = λ s l. h .goes s };
             other = record {
               starts = subst (λ (z : ℕ). Member (A .initial) z) (sym y-first) (walk .starts);
-              goes = λ s l. extend (λ t. Edge A (w t)) 0 t (ξ (suc t)) x (λ s b l. walk .goes s l) last s (omega arith) l;
+              goes = λ s l. extend (λ t. Edge (graphOf A) (w t)) 0 t (ξ (suc t)) x (λ s b l. walk .goes s l) last s (omega arith) l;
             };
             differ = (t, omega arith, λ g. f (sym end ∙ sym y-t ∙ sym g));
             shared = sym y-end;
@@ -93,24 +94,24 @@ module _ {A : Automaton} (fits : Fits A) (Counts : ℕ → Type 0) (count : (w x
   pub demand-counts : (T d : ℕ) → ((t : ℕ) → T ≤ t → w (t + suc d) ≡ w t) → run A w (T + suc d) ≡ run A w T
       → (lowest (colourEntered A w) T d % 2 ≡ 0) ↔ Passes A w
   demand-counts T d word again =
-      let edges : (s q r : ℕ) → T ≤ s → Edge A (w s) q r → Edge A (w (s + suc d)) q r =
-      λ s q r l e. subst (λ (a : ℕ). Edge A a q r) (sym (word s l)) e in
+      let edges : (s q r : ℕ) → T ≤ s → Edge (graphOf A) (w s) q r → Edge (graphOf A) (w (s + suc d)) q r =
+      λ s q r l e. subst (λ (a : ℕ). Edge (graphOf A) a q r) (sym (word s l)) e in
       let r = repeating (is-run fits w letters) alone T d edges (colours-repeat T d word again) in
       let p = passes-both A w in
       (λ e. p .0 (r .0 e), λ h. r .1 (p .1 h))
 
   -- Any endless word, with the premise LPO: there is a least colour entered without end, and it is even exactly if the sheet passes the word.
   pub least-colour : LPO → (c : ℕ) × Least (colourEntered A w) c
-  least-colour lpo = least lpo (is-run fits w letters) (λ t. edge-dec A (w t)) (λ t j q. member-dec (setAt (run A w t .sets) j) q)
+  least-colour lpo = least lpo (is-run fits w letters) (λ t. edge-dec (graphOf A) (w t)) (λ t j q. member-dec (setAt (run A w t .sets) j) q)
 
   pub demand-endless : LPO → (c : ℕ) → Least (colourEntered A w) c → (c % 2 ≡ 0) ↔ Passes A w
   demand-endless lpo c low =
-      let r = endless (is-run fits w letters) lpo (λ t. edge-dec A (w t)) (λ t j q. member-dec (setAt (run A w t .sets) j) q) alone c low in
+      let r = endless (is-run fits w letters) lpo (λ t. edge-dec (graphOf A) (w t)) (λ t j q. member-dec (setAt (run A w t .sets) j) q) alone c low in
       let p = passes-both A w in
       (λ e. p .0 (r .0 e), λ h. r .1 (p .1 h))
 
 -- Demand 3: an accepted sheet has no meeting walks at all.
-pub demand : {A : Automaton} → Fits A → Free A Everywhere → (w : ℕ → ℕ) → ((t : ℕ) → w t < A .k)
+pub demand : {A : Automaton} → Fits A → Free (graphOf A) Everywhere → (w : ℕ → ℕ) → ((t : ℕ) → w t < A .k)
     → (T d : ℕ) → ((t : ℕ) → T ≤ t → w (t + suc d) ≡ w t) → run A w (T + suc d) ≡ run A w T
     → (lowest (colourEntered A w) T d % 2 ≡ 0) ↔ Passes A w
 demand fits free = demand-counts fits Everywhere (λ w x h t. tt) free

@@ -9,16 +9,18 @@ use lib.ListN.{length, getD, length-append, length-map, List·getD-append, List�
 use lib.Seq.{getD-at}
 use Rattle.sets.specs.Sets.{Member}
 use Rattle.sets.specs.SetLaws.{member-dec, inter-in, inter-of}
-use Rattle.automaton.specs.Automaton.{Automaton, Edge, Fits}
+use Rattle.automaton.specs.Automaton.{Automaton, graphOf, Fits}
+use Rattle.automaton.specs.Graph.{Edge}
 use Rattle.automaton.specs.Successors.{successorsOf}
 use Rattle.automaton.specs.EdgeLaws.{edge-dec, edge-state}
+use Rattle.automaton.specs.QuestionLaws.{fits-graph}
 use Rattle.automaton.specs.SuccessorLaws.{successors-edge, successors-empty}
 use Rattle.tuple.specs.Step.{setAt, recurrent, Recurrent, places}
 use Rattle.tuple.specs.PassLaws.{In, front}
 
 pub recurrent-dec : (A : Automaton) (l q r : ℕ) → Dec (Recurrent A l q r)
 recurrent-dec A l q r =
-    Dec·of-iff (λ (a, b). record { edge = a; into = b }, λ e. (e .edge, e .into)) (Dec·and (edge-dec A l q r) (member-dec (A .recurring) r))
+    Dec·of-iff (λ (a, b). record { edge = a; into = b }, λ e. (e .edge, e .into)) (Dec·and (edge-dec (graphOf A) l q r) (member-dec (A .recurring) r))
 
 pub places-length : (A : Automaton) (l : ℕ) (sets : List ℕ) → length (places A l sets) ≡ suc (length sets)
 unfolding places
@@ -28,11 +30,11 @@ places-length A l sets =
 
 module _ {A : Automaton} (fits : Fits A) where
   module _ (l : ℕ) (letter : l < A .k) where
-    edges-of : (x q r : ℕ) → Member x q → Edge A l q r → Member (successorsOf (A .table) l x) r
-    edges-of x q r h e = successors-edge A fits l x letter r .1 (q, h, e)
+    edges-of : (x q r : ℕ) → Member x q → Edge (graphOf A) l q r → Member (successorsOf (A .table) l x) r
+    edges-of x q r h e = successors-edge (graphOf A) (fits-graph fits) l x letter r .1 (q, h, e)
 
-    edges-in : (x r : ℕ) → Member (successorsOf (A .table) l x) r → (q : ℕ) × Member x q × Edge A l q r
-    edges-in x r h = successors-edge A fits l x letter r .0 h
+    edges-in : (x r : ℕ) → Member (successorsOf (A .table) l x) r → (q : ℕ) × Member x q × Edge (graphOf A) l q r
+    edges-in x r h = successors-edge (graphOf A) (fits-graph fits) l x letter r .0 h
 
     recurrent-of : (x q r : ℕ) → Member x q → Recurrent A l q r → Member (recurrent A l x) r
     recurrent-of x q r h e = inter-of (successorsOf (A .table) l x) (A .recurring) r (edges-of x q r h (e .edge)) (e .into)
@@ -52,11 +54,11 @@ module _ {A : Automaton} (fits : Fits A) where
         ∙ ap (getD (map f sets) j) (sym (successors-empty (A .table) l))
         ∙ List·getD-map f sets j 0
 
-    pub places-old : (sets : List ℕ) (j q r : ℕ) → In sets j q → Edge A l q r → In (places A l sets) j r
+    pub places-old : (sets : List ℕ) (j q r : ℕ) → In sets j q → Edge (graphOf A) l q r → In (places A l sets) j r
     places-old sets j q r h e =
         subst (λ (x : ℕ). Member x r) (sym (places-below sets j (front sets j q h))) (edges-of (setAt sets j) q r h e)
 
-    pub places-old⁻ : (sets : List ℕ) (j r : ℕ) → j < length sets → In (places A l sets) j r → (q : ℕ) × In sets j q × Edge A l q r
+    pub places-old⁻ : (sets : List ℕ) (j r : ℕ) → j < length sets → In (places A l sets) j r → (q : ℕ) × In sets j q × Edge (graphOf A) l q r
     places-old⁻ sets j r k h = edges-in (setAt sets j) r (subst (λ (x : ℕ). Member x r) (places-below sets j k) h)
 
     -- F2: the new set at place p
@@ -80,9 +82,9 @@ module _ {A : Automaton} (fits : Fits A) where
     places-state sets j r h = by (decLt j (length sets))
       where
         by : Dec (j < length sets) → r < A .n
-        by (yes k) = let (q, a, e) = places-old⁻ sets j r k h in edge-state A fits l q r e
+        by (yes k) = let (q, a, e) = places-old⁻ sets j r k h in edge-state (graphOf A) (fits-graph fits) l q r e
         by (no k) =
             let c = places-none sets j r h in
             let d : j ≡ length sets = omega arith in
             let (q, a, e) = places-new⁻ sets r (subst (λ (z : ℕ). In (places A l sets) z r) d h) in
-            edge-state A fits l q r (e .edge)
+            edge-state (graphOf A) (fits-graph fits) l q r (e .edge)

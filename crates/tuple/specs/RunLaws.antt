@@ -8,7 +8,8 @@ use native.Mathlib.Decide.{le-ind}
 use lib.ListN.{length}
 use Rattle.sets.specs.Sets.{Member}
 use Rattle.sets.specs.SetLaws.{some-member}
-use Rattle.automaton.specs.Automaton.{Automaton, Edge, Fits}
+use Rattle.automaton.specs.Automaton.{Automaton, graphOf, Fits}
+use Rattle.automaton.specs.Graph.{Edge}
 use Rattle.automaton.specs.Meeting.{Walk}
 use Rattle.theory.specs.Run.{Run}
 use Rattle.theory.specs.Basic.{reached, reaches}
@@ -42,7 +43,7 @@ module _ {A : Automaton} (fits : Fits A) (w : ℕ → ℕ) (letters : (t : ℕ) 
   unfolding pass
   one-more t i l = omega (arith, turns-length (length (before t)) (before t) (same-length t), places-length A (w t) (run A w t .sets))
 
-  pub is-run : Run (A .n) (λ t. Edge A (w t)) (λ t. Recurrent A (w t)) (λ t. In (run A w t .sets)) (λ t. In (before t)) (λ t. After (after t))
+  pub is-run : Run (A .n) (λ t. Edge (graphOf A) (w t)) (λ t. Recurrent A (w t)) (λ t. In (run A w t .sets)) (λ t. In (before t)) (λ t. After (after t))
       (λ t. Marked (after t)) (λ t. length (run A w t .sets)) (colourEntered A w) (λ t j. rank j (after t))
   unfolding run next pass rank
   is-run = record {
@@ -82,12 +83,12 @@ module _ {A : Automaton} (fits : Fits A) (w : ℕ → ℕ) (letters : (t : ℕ) 
   at-most-n t = run-formed fits w letters t .few
 
   -- set 0 holds the states in which walks on the letters read so far end
-  pub set-zero : (t q : ℕ) → Member (setAt (run A w t .sets) 0) q ↔ ((x : ℕ → ℕ) × Walk A w t x × (x t ≡ q))
+  pub set-zero : (t q : ℕ) → Member (setAt (run A w t .sets) 0) q ↔ ((x : ℕ → ℕ) × Walk (graphOf A) w t x × (x t ≡ q))
   unfolding run
   set-zero t q = (to, from)
     where
-      to : Member (setAt (run A w t .sets) 0) q → (x : ℕ → ℕ) × Walk A w t x × (x t ≡ q)
+      to : Member (setAt (run A w t .sets) 0) q → (x : ℕ → ℕ) × Walk (graphOf A) w t x × (x t ≡ q)
       to h = let (x, e, s, goes) = reached is-run t q h in (x, record { starts = first-in A 0 (x 0) s .1; goes = goes }, e)
 
-      from : ((x : ℕ → ℕ) × Walk A w t x × (x t ≡ q)) → Member (setAt (run A w t .sets) 0) q
+      from : ((x : ℕ → ℕ) × Walk (graphOf A) w t x × (x t ≡ q)) → Member (setAt (run A w t .sets) 0) q
       from (x, h, e) = subst (λ (z : ℕ). Member (setAt (run A w t .sets) 0) z) e (reaches is-run t x (first-of A (x 0) (h .starts)) (h .goes))

@@ -6,7 +6,8 @@ use mathlib.Core.List.{List, [], _∷_, _++_, map}
 use lib.Dec.{ltb}
 use lib.ListN.{length, getD}
 use Rattle.sets.specs.Sets.{Member, unionOf, interOf, minusOf, isEmpty, isWithin}
-use Rattle.automaton.specs.Automaton.{Automaton, Edge}
+use Rattle.automaton.specs.Automaton.{Automaton, graphOf}
+use Rattle.automaton.specs.Graph.{Edge}
 use Rattle.automaton.specs.Successors.{successorsOf}
 use Rattle.tuple.specs.Colour.{neutral, marked, emptied, dead}
 
@@ -30,7 +31,7 @@ recurrent A l x = interOf (successorsOf (A .table) l x) (A .recurring)
 
 -- these are the targets of recurrent transitions: those into a must-recur state
 pub record Recurrent (A : Automaton) (l q r : ℕ) : Type 0 where
-  pub edge : Edge A l q r
+  pub edge : Edge (graphOf A) l q r
   pub into : Member (A .recurring) r
 
 -- "At place p, the count of non-empty sets before the step, put" these. "This may be place n, a spare." The places behind it are

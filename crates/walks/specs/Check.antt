@@ -3,7 +3,7 @@
 use mathlib.Core.Path.{_≡_}
 use mathlib.Core.Logic.{_⊎_}
 use Rattle.gate.specs.Gate.{refusal}
-use Rattle.automaton.specs.Automaton.{Automaton, Fits}
+use Rattle.automaton.specs.Automaton.{Automaton, graphOf, Fits}
 use Rattle.automaton.specs.Meeting.{Everywhere, Free}
 use Rattle.automaton.specs.Lent.{Tables, Lengths, clearedTables, NumbersRefuse}
 use Rattle.walks.specs.declared.Checked.{Checked}
@@ -12,9 +12,9 @@ use Rattle.walks.specs.declared.Checked.the-variants.{Refused, Accepted}
 -- "Refusal 1 asked first touches nothing"; 4, 7, 8 and 10 are the next questions; "On success" the witness tables have no meaning: all zero
 abbrev pub Checks : Automaton → Tables → Tables → Checked → Type 0
 Checks A v w (Refused r) = ((Lengths (A .table) v → ⊥) × (r ≡ refusal 1 0) × (w ≡ v)) ⊎ (Lengths (A .table) v × NumbersRefuse A v w r)
-Checks A v w Accepted = Lengths (A .table) v × Fits A × Free A Everywhere × (w ≡ clearedTables v)
+Checks A v w Accepted = Lengths (A .table) v × Fits A × Free (graphOf A) Everywhere × (w ≡ clearedTables v)
 
 -- the same once the tables are long enough and cleared: v are the cleared tables
 abbrev pub ChecksCleared : Automaton → Tables → Tables → Checked → Type 0
 ChecksCleared A v w (Refused r) = NumbersRefuse A v w r
-ChecksCleared A v w Accepted = Fits A × Free A Everywhere × (w ≡ clearedTables v)
+ChecksCleared A v w Accepted = Fits A × Free (graphOf A) Everywhere × (w ≡ clearedTables v)

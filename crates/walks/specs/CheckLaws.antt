@@ -4,7 +4,8 @@ use mathlib.Core.Path.{_≡_, refl, sym, _∙_}
 use mathlib.Core.Logic.{inr}
 use mathlib.Core.List.{List}
 use native.Mathlib.Omega.{arith}
-use Rattle.automaton.specs.Automaton.{Automaton, Fits}
+use Rattle.automaton.specs.Automaton.{Automaton, graphOf, Fits}
+use Rattle.automaton.specs.Graph.{Graph}
 use Rattle.automaton.specs.Lent.{Tables, Lengths, clearedTables, Meets}
 use Rattle.automaton.specs.LentLaws.{lengths-cleared, tables-twice, refuse-cleared}
 use Rattle.automaton.specs.Meeting.{Everywhere}
@@ -26,9 +27,9 @@ module _ {v w : Tables} (e : w ≡ clearedTables v) where
   checked A l after c j = checks-cleared A v after c l (rw e at j)
 
 -- question 10 answered
-module _ {A : Automaton} {v w : Tables} {r : ℕ} (a : Answered A Everywhere v w r) where
-  pub meets-answered : (r ≡ 0 → ⊥) → Meets A v w (record { number = 10; line = 0; length = r })
-  meets-answered e = record { number = refl; line = refl; some = omega arith; witness = a .witness (omega arith); lengths = a .lengths }
+module _ {v w : Tables} {r : ℕ} where
+  pub meets-answered : {G : Graph} → Answered G Everywhere v w r → (r ≡ 0 → ⊥) → Meets G v w (record { number = 10; line = 0; length = r })
+  meets-answered a e = record { number = refl; line = refl; some = omega arith; witness = a .witness (omega arith); lengths = a .lengths }
 
-  pub free-answered : Fits A → v ≡ clearedTables v → r ≡ 0 → ChecksCleared A v w Accepted
-  free-answered f zeros e = (f, a .free e, a .kept e ∙ zeros)
+  pub free-answered : {A : Automaton} → Fits A → Answered (graphOf A) Everywhere v w r → v ≡ clearedTables v → r ≡ 0 → ChecksCleared A v w Accepted
+  free-answered f a zeros e = (f, a .free e, a .kept e ∙ zeros)

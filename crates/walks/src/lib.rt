@@ -2,10 +2,12 @@
 ghost use mathlib.Core.Path.{_≡_};
 ghost use Rattle.gate.specs.Gate.{Decides};
 ghost use Rattle.automaton.specs.Automaton.{automaton};
+ghost use Rattle.automaton.specs.Graph.{graph};
 ghost use Rattle.automaton.specs.Meeting.{Everywhere};
 ghost use Rattle.automaton.specs.Lent.{tables, Lengths, clearedTables};
 ghost use Rattle.meeting.specs.Answer.{Asked, Answered};
 ghost use Rattle.walks.specs.Check.{Checks, ChecksCleared};
+use automaton::GraphNumbers;
 use automaton::Numbers;
 use gate::Refusal;
 
@@ -17,11 +19,17 @@ pub enum Checked {
 
 // Question 10, for callers that have asked the questions before it and cleared the tables:
 // 0 for yes, or the length of a shortest word with meeting walks, with the word and two such walks in the tables.
-pub fn ask(a: Numbers, table: &[u16], word: &mut [u16], one: &mut [u16], other: &mut [u16]) -> usize
-    requires { ⌜ Asked (automaton a (now table)) (tables (now word) (now one) (now other)) ⌝ }
-    ensures { λ r. ⌜ Answered (automaton a (now (table .entry))) Everywhere (tables (now (word .entry)) (now (one .entry)) (now (other .entry))) (tables (now (word .exit)) (now (one .exit)) (now (other .exit))) r ⌝ }
+pub fn ask(
+    g: GraphNumbers,
+    table: &[u16],
+    word: &mut [u16],
+    one: &mut [u16],
+    other: &mut [u16],
+) -> usize
+    requires { ⌜ Asked (graph g (now table)) (tables (now word) (now one) (now other)) ⌝ }
+    ensures { λ r. ⌜ Answered (graph g (now (table .entry))) Everywhere (tables (now (word .entry)) (now (one .entry)) (now (other .entry))) (tables (now (word .exit)) (now (one .exit)) (now (other .exit))) r ⌝ }
 {
-    meeting::search(a, table, 65535, word, one, other)
+    meeting::search(g, table, 65535, word, one, other)
 }
 
 // Question 1 of a call that takes a sheet.
@@ -62,7 +70,7 @@ fn check_cleared(
             length: 0,
         });
     }
-    let length = ask(a, table, word, one, other);
+    let length = ask(automaton::graph_of(a), table, word, one, other);
     if length == 0 {
         return Checked::Accepted;
     }

@@ -8,8 +8,10 @@ use Rattle.names.specs.Name.{compose}
 use Rattle.names.specs.NameLaws.{composed-name, compose-idempotent}
 use Rattle.sets.specs.Sets.{bit, Member}
 use Rattle.sets.specs.SetLaws.{bit-lt}
-use Rattle.automaton.specs.Automaton.{Automaton, Fits}
+use Rattle.automaton.specs.Automaton.{Automaton, graphOf, Fits}
+use Rattle.automaton.specs.Graph.{Graph, GraphFits}
 use Rattle.automaton.specs.EdgeLaws.{edge-of, edge-state}
+use Rattle.automaton.specs.QuestionLaws.{fits-graph}
 use Rattle.format.specs.Format.{Distinct, NamesRight, StatesRight, TransitionRight, TransitionsRight, Right, place, FileIs, nameLines}
 use Rattle.format.specs.Written.{statesOf, places, placed, whereMember, transitionsOf, sheetOf, writtenSheet, written}
 use Rattle.format.specs.FormatLaws.{name-length}
@@ -47,28 +49,28 @@ states-right initial recurring (suc n) q = ((omega (arith, bit-lt initial q), om
 
 -- The transitions
 
-module _ (A : Automaton) (fits : Fits A) where
+module _ (G : Graph) (fits : GraphFits G) where
   -- a member of a cell lies in range
-  right : (i least : ℕ) → least ≤ i → Member (getD (A .table) (i / 16) 0) (i % 16) → TransitionRight (A .n) (A .k) least (placed i)
+  right : (i least : ℕ) → least ≤ i → Member (getD (G .table) (i / 16) 0) (i % 16) → TransitionRight (G .n) (G .k) least (placed i)
   right i least h m =
       let e : 8 * (i / 128) + i / 16 % 8 ≡ i / 16 = omega arith in
-      let edge = edge-of A fits (i / 16 % 8) (i / 128) (i % 16) (omega arith) (rw e m) in
-      record { from = edge .from; letter = edge .letter; to = edge-state A fits (i / 16 % 8) (i / 128) (i % 16) edge; order = omega arith }
+      let edge = edge-of G fits (i / 16 % 8) (i / 128) (i % 16) (omega arith) (rw e m) in
+      record { from = edge .from; letter = edge .letter; to = edge-state G fits (i / 16 % 8) (i / 128) (i % 16) edge; order = omega arith }
 
-  transitions-right : (left i least : ℕ) → least ≤ i → TransitionsRight (A .n) (A .k) least (transitionsOf (A .table) i left)
+  transitions-right : (left i least : ℕ) → least ≤ i → TransitionsRight (G .n) (G .k) least (transitionsOf (G .table) i left)
   unfolding transitionsOf
   transitions-right zero i least h = tt
   transitions-right (suc left) i least h =
-      by (bit (getD (A .table) (i / 16) 0) (i % 16)) refl
+      by (bit (getD (G .table) (i / 16) 0) (i % 16)) refl
       (transitions-right left (suc i) least (omega arith))
       (transitions-right left (suc i) (place (placed i) + 1) (omega arith))
     where
-      by : (b : ℕ) → bit (getD (A .table) (i / 16) 0) (i % 16) ≡ b
-          → TransitionsRight (A .n) (A .k) least (transitionsOf (A .table) (suc i) left)
-          → TransitionsRight (A .n) (A .k) (place (placed i) + 1) (transitionsOf (A .table) (suc i) left)
-          → TransitionsRight (A .n) (A .k) least (whereMember b (placed i) (transitionsOf (A .table) (suc i) left))
+      by : (b : ℕ) → bit (getD (G .table) (i / 16) 0) (i % 16) ≡ b
+          → TransitionsRight (G .n) (G .k) least (transitionsOf (G .table) (suc i) left)
+          → TransitionsRight (G .n) (G .k) (place (placed i) + 1) (transitionsOf (G .table) (suc i) left)
+          → TransitionsRight (G .n) (G .k) least (whereMember b (placed i) (transitionsOf (G .table) (suc i) left))
       by zero e same after = same
-      by (suc b) e same after = (right i least h (omega (arith, bit-lt (getD (A .table) (i / 16) 0) (i % 16))), after)
+      by (suc b) e same after = (right i least h (omega (arith, bit-lt (getD (G .table) (i / 16) 0) (i % 16))), after)
 
 -- The file
 
@@ -79,7 +81,7 @@ module _ (A : Automaton) (fits : Fits A) (names : List (List ℕ)) (right : Name
     range = fits .range;
     names = names-composed names [] right;
     states = states-right (A .initial) (A .recurring) (A .n) 0;
-    transitions = transitions-right A fits places 0 0 (omega arith);
+    transitions = transitions-right (graphOf A) (fits-graph fits) places 0 0 (omega arith);
   }
 
   -- 12 for the first line, 8 names of 30, 16 states and 2048 transitions of 11, 4 for END

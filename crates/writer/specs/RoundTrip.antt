@@ -6,7 +6,7 @@ use native.Mathlib.Omega.{arith}
 use lib.ListN.{length}
 use Rattle.names.specs.Name.{compose}
 use Rattle.names.specs.NameLaws.{compose-idempotent}
-use Rattle.automaton.specs.Automaton.{Automaton, Fits}
+use Rattle.automaton.specs.Automaton.{Automaton, graphOf, Fits}
 use Rattle.automaton.specs.Meeting.{Free, Everywhere}
 use Rattle.format.specs.Format.{Sheet, NamesRight, FileIs, lines, endLine}
 use Rattle.format.specs.Numbers.{numbers}
@@ -41,10 +41,10 @@ names-written A names = composed-twice names
 -- FROM NUMBERS with names
 module _ (A : Automaton) (fits : Fits A) (long : 128 ≤ length (A .table)) (names : List (List ℕ)) (right : NamesRight [] names) (all : length names ≡ A .k) where
   -- what is written is accepted, where no walks meet
-  pub numbers-accepted : Free A Everywhere → Accepted (written A names) (writtenSheet A names)
+  pub numbers-accepted : Free (graphOf A) Everywhere → Accepted (written A names) (writtenSheet A names)
   numbers-accepted free = record {
     file = written-file A fits names right all;
-    free = subst (λ (B : Automaton). Free B Everywhere) (sym (numbers-written A names fits long)) (free-trimmed A fits free);
+    free = subst (λ (B : Automaton). Free (graphOf B) Everywhere) (sym (numbers-written A names fits long)) (free-trimmed A fits free);
   }
 
   module _ (τ : Sheet) (file : FileIs (written A names) τ) where
@@ -82,7 +82,7 @@ module _ (s : List ℕ) (σ : Sheet) (file : FileIs s σ) where
   writing-most = longest (numbers σ) fits (σ .names) (file .right .names) all
 
   -- and is accepted if the file was
-  pub accepted-back : Free (numbers σ) Everywhere → Accepted (writing σ) (writtenSheet (numbers σ) (σ .names))
+  pub accepted-back : Free (graphOf (numbers σ)) Everywhere → Accepted (writing σ) (writtenSheet (numbers σ) (σ .names))
   accepted-back free = numbers-accepted (numbers σ) fits long (σ .names) (file .right .names) all free
 
   module _ (τ : Sheet) (back : FileIs (writing σ) τ) where

@@ -7,7 +7,8 @@ use lib.ListN.{take}
 use lib.Seq.{getD-take, take-all}
 use Rattle.names.specs.Name.{compose}
 use Rattle.sets.specs.Sets.{bit, Member}
-use Rattle.automaton.specs.Automaton.{Automaton, Edge, Fits}
+use Rattle.automaton.specs.Automaton.{Automaton, graphOf, Fits}
+use Rattle.automaton.specs.Graph.{Edge}
 use Rattle.automaton.specs.Meeting.{Walk, Free, Everywhere}
 use Rattle.format.specs.Format.{Sheet, lines, endLine}
 use Rattle.format.specs.Numbers.{numbers}
@@ -21,17 +22,17 @@ transitions-trimmed T zero i h = refl
 transitions-trimmed T (suc left) i h =
     ap₂ (λ x ts. whereMember (bit x (i % 16)) (placed i) ts) (getD-take 128 T (i / 16) 0 (omega arith)) (transitions-trimmed T left (suc i) (omega arith))
 
-edge-trimmed : (A : Automaton) → Fits A → (l q r : ℕ) → Edge (trimmed A) l q r → Edge A l q r
+edge-trimmed : (A : Automaton) → Fits A → (l q r : ℕ) → Edge (graphOf (trimmed A)) l q r → Edge (graphOf A) l q r
 edge-trimmed A fits l q r e = record {
   letter = e .letter;
   from = e .from;
   to = subst (λ (x : ℕ). Member x r) (getD-take 128 (A .table) (8 * q + l) 0 (omega (arith, e .letter, e .from, fits .range))) (e .to);
 }
 
-walk-trimmed : (A : Automaton) → Fits A → (w : ℕ → ℕ) (t : ℕ) (x : ℕ → ℕ) → Walk (trimmed A) w t x → Walk A w t x
+walk-trimmed : (A : Automaton) → Fits A → (w : ℕ → ℕ) (t : ℕ) (x : ℕ → ℕ) → Walk (graphOf (trimmed A)) w t x → Walk (graphOf A) w t x
 walk-trimmed A fits w t x h = record { starts = h .starts; goes = λ s l. edge-trimmed A fits (w s) (x s) (x (suc s)) (h .goes s l) }
 
-pub free-trimmed : (A : Automaton) → Fits A → Free A Everywhere → Free (trimmed A) Everywhere
+pub free-trimmed : (A : Automaton) → Fits A → Free (graphOf A) Everywhere → Free (graphOf (trimmed A)) Everywhere
 free-trimmed A fits free w t x y m = free w t x y (record {
   one = walk-trimmed A fits w t x (m .one);
   other = walk-trimmed A fits w t y (m .other);

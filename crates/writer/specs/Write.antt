@@ -4,7 +4,7 @@ use mathlib.Core.Path.{_≡_}
 use mathlib.Core.List.{List}
 use Rattle.gate.specs.Gate.{refusal, cleared, Put}
 use Rattle.gate.specs.declared.Refusal.{Refusal}
-use Rattle.automaton.specs.Automaton.{Automaton, Fits}
+use Rattle.automaton.specs.Automaton.{Automaton, graphOf, Fits}
 use Rattle.automaton.specs.Meeting.{Free, Everywhere}
 use Rattle.automaton.specs.Lent.{Tables, Long, clearedTables, NumbersRefuse, Lengths}
 use Rattle.format.specs.Format.{Sheet}
@@ -35,7 +35,7 @@ pub record NamedAccepted (A : Automaton) (s : List ℕ) (σ : Sheet) : Type 0 wh
   pub names : Accepted s σ
   pub letters : σ .k ≡ A .k
   pub fits : Fits A
-  pub free : Free A Everywhere
+  pub free : Free (graphOf A) Everywhere
 
 pub data WritesNumbers (A : Automaton) (s : List ℕ) (v w : Tables) (b c : List ℕ) (r : Written) : Type 0 where
   -- 1, asked first, "touches nothing"

@@ -2,7 +2,7 @@
 use Prim.Native.Nat.{_-_, _≤_}
 use mathlib.Core.Path.{_≡_, subst}
 use native.Mathlib.Omega.{arith}
-use Rattle.automaton.specs.Automaton.{automaton}
+use Rattle.automaton.specs.Graph.{graph}
 use Rattle.meeting.specs.Search.{Started}
 use Rattle.meeting.specs.StartLaws.{start-empty, start-open, start-more}
 use borrow.Author.Needs.{needs}
@@ -10,10 +10,10 @@ use Rattle.meeting.proofs.begin.Statement.{statement}
 use Rattle.meeting.proofs.begin.Tie as tie
 
 abbrev Inv-loop : tie.InvT-loop
-Inv-loop a table queue₀ count₀ p₀ queue count p = (p ≤ 16) × Started (automaton a table) queue count p
+Inv-loop g table queue₀ count₀ p₀ queue count p = (p ≤ 16) × Started (graph g table) queue count p
 
 abbrev μ-loop : tie.MeasureT-loop
-μ-loop a table queue₀ count₀ p₀ queue count p = 16 - p
+μ-loop g table queue₀ count₀ p₀ queue count p = 16 - p
 
 loop-holds : tie.Need-loop-holds Inv-loop μ-loop
 loop-holds c = (omega arith, start-empty (c .before .before .pre .1))
@@ -48,7 +48,7 @@ returns c =
     let a = c .before .before .before .before .args in
     let l = c .before .loop in
     let e : l .p ≡ 16 = omega arith in
-    subst (Started (automaton (a .a) (a .table .now)) (l .queue) (l .count)) e (l .inv .1)
+    subst (Started (graph (a .g) (a .table .now)) (l .queue) (l .count)) e (l .inv .1)
 
 pub begin-spec : {M : Type 1} → statement M
 begin-spec =

@@ -3,7 +3,7 @@ use Prim.Native.Nat.{ℕ}
 use mathlib.Core.Path.{_≡_, sym, ap, subst, _∙_}
 use Rattle.sets.specs.Sets.{interOf}
 use Rattle.sets.specs.SetLaws.{inter-both}
-use Rattle.automaton.specs.Automaton.{successorSet}
+use Rattle.automaton.specs.Graph.{successorSet}
 use Rattle.meeting.specs.Search.{Common}
 use borrow.Author.Needs.{needs}
 use Rattle.meeting.proofs.common.Statement.{statement}

@@ -2,7 +2,7 @@
 use Prim.Native.Nat.{_+_, _*_, _/_, _-_, _≤_}
 use mathlib.Core.Path.{refl}
 use native.Mathlib.Omega.{arith}
-use Rattle.automaton.specs.Automaton.{automaton}
+use Rattle.automaton.specs.Graph.{graph}
 use Rattle.queue.specs.Queue.{AtMost, one, other}
 use Rattle.meeting.specs.Search.{Grown, Stepped}
 use Rattle.meeting.specs.StepLaws.{grown-none, step-open, step-taken, all-taken}
@@ -11,11 +11,11 @@ use Rattle.meeting.proofs.expand.Statement.{statement}
 use Rattle.meeting.proofs.expand.Tie as tie
 
 abbrev Inv-loop : tie.InvT-loop
-Inv-loop a table queue₀ count head e d p q reached₀ j₀ queue reached j =
-    (j ≤ 16 * a .k) × Grown (automaton a table) queue₀ count d queue reached × Stepped (automaton a table) (one e) (other e) d queue reached j
+Inv-loop g table queue₀ count head e d p q reached₀ j₀ queue reached j =
+    (j ≤ 16 * g .k) × Grown (graph g table) queue₀ count d queue reached × Stepped (graph g table) (one e) (other e) d queue reached j
 
 abbrev μ-loop : tie.MeasureT-loop
-μ-loop a table queue₀ count head e d p q reached₀ j₀ queue reached j = 16 * a .k - j
+μ-loop g table queue₀ count head e d p q reached₀ j₀ queue reached j = 16 * g .k - j
 
 abbrev start : tie.At-loop Inv-loop μ-loop → tie.Start Inv-loop μ-loop
 start t = t .before .before .before .before .before

@@ -1,7 +1,7 @@
 -- The invariant is Search: the pairs before head are done, and none of them joins. The measure: there are at most 256 pairs. Assumes nothing.
 use Prim.Native.Nat.{_-_}
 use native.Mathlib.Omega.{arith}
-use Rattle.automaton.specs.Automaton.{automaton}
+use Rattle.automaton.specs.Graph.{graph}
 use Rattle.meeting.specs.Search.{Search}
 use Rattle.meeting.specs.SearchLaws.{search-start, search-ready, search-more}
 use Rattle.meeting.specs.FoundLaws.{search-found, search-free}
@@ -10,10 +10,10 @@ use Rattle.meeting.proofs.explore.Statement.{statement}
 use Rattle.meeting.proofs.explore.Tie as tie
 
 abbrev Inv-loop : tie.InvT-loop
-Inv-loop a table counts queue₀ count₀ head₀ queue count head = Search (automaton a table) counts queue count head
+Inv-loop g table counts queue₀ count₀ head₀ queue count head = Search (graph g table) counts queue count head
 
 abbrev μ-loop : tie.MeasureT-loop
-μ-loop a table counts queue₀ count₀ head₀ queue count head = 256 - head
+μ-loop g table counts queue₀ count₀ head₀ queue count head = 256 - head
 
 abbrev start : tie.At-loop Inv-loop μ-loop → tie.Start Inv-loop μ-loop
 start t = t .before .before .before .before .before .before .before

@@ -31,7 +31,7 @@ back c =
 loop-holds : tie.Need-loop-holds Inv-loop μ-loop
 loop-holds c =
     let p = c .before .before .before .before .pre in
-    (omega arith, omega arith, p .deep, refl, refl, refl, λ A counts s x. x)
+    (omega arith, omega arith, p .deep, refl, refl, refl, λ G counts s x. x)
 
 add-number : tie.Need-add-number Inv-loop μ-loop
 add-number c = search needs

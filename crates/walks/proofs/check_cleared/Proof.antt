@@ -1,7 +1,11 @@
 -- The questions in their order; each answer is what its call ensures. Assumes nothing.
-use mathlib.Core.Path.{refl}
-use Rattle.automaton.specs.Automaton.{automaton, Fits}
-use Rattle.automaton.specs.Lent.{NumbersRefuse}
+use mathlib.Core.Path.{_≡_, refl, sym, subst}
+use Rattle.automaton.specs.Automaton.{automaton, graphOf, Fits}
+use Rattle.automaton.specs.Graph.{Graph, graph}
+use Rattle.automaton.specs.QuestionLaws.{same-graph, fits-graph}
+use Rattle.automaton.specs.Meeting.{Everywhere}
+use Rattle.automaton.specs.Lent.{Tables, tables, NumbersRefuse}
+use Rattle.meeting.specs.Answer.{Asked, Answered}
 use Rattle.walks.specs.CheckLaws.{free-answered, meets-answered}
 use borrow.Author.Needs.{needs}
 use Rattle.walks.proofs.check_cleared.Statement.{statement}
@@ -9,6 +13,9 @@ use Rattle.walks.proofs.check_cleared.Tie as tie
 
 abbrev start : tie.After-first-no → tie.Start
 start c = c .before .before .before .before .before
+
+abbrev lent : tie.Start → Tables
+lent s = tables (s .args .word .now) (s .args .one .now) (s .args .other .now)
 
 -- behind questions 4, 7 and 8 the numbers fit
 fits : (c : tie.Else1) →
@@ -20,6 +27,23 @@ fits c = c .before .first-no .ensures .0 (c .if1 .left)
 abbrev asked : tie.After-slice-known6 → tie.After-ask
 asked c = c .before .before .before .before .before .before
 
+-- the graph that is asked is the automaton's
+same : (c : tie.After-graph-of) →
+    let a = start (c .before .before) .args in
+    graph (c .graph-of .result) (a .table .now) ≡ graphOf (automaton (a .a) (a .table .now))
+same c = let a = start (c .before .before) .args in same-graph (a .a) (a .table .now) (c .graph-of .ensures)
+
+-- its answer
+answer : (c : tie.After-ask) →
+    let s = start (c .before .before .before .before .before .before) in
+    let l = c .ask .last .1 .1 in
+    Answered (graphOf (automaton (s .args .a) (s .args .table .now))) Everywhere (lent s) (tables (l .0) (l .1 .0) (l .1 .1 .0)) (c .ask .result)
+answer c =
+    let s = start (c .before .before .before .before .before .before) in
+    let l = c .ask .last .1 .1 in
+    subst (λ (G : Graph). Answered G Everywhere (lent s) (tables (l .0) (l .1 .0) (l .1 .1 .0)) (c .ask .result))
+    (same (c .before .before .before .before)) (c .ask .ensures)
+
 first-no-requires : tie.Need-first-no-requires
 first-no-requires c κs = search needs
 
@@ -28,11 +52,15 @@ returns c =
     let g = c .before .first-no in
     NumbersRefuse.unfit (g .result) (g .ensures .1 (c .if1 .taken)) refl (start (c .before) .pre .1)
 
+graph-of-requires : tie.Need-graph-of-requires
+graph-of-requires c κs = search needs
+
 ask-requires : tie.Need-ask-requires
 ask-requires c κs =
-    let passed = c .before .before .before in
+    let passed = c .before .before .before .before in
     let p = start (passed .before) .pre in
-    record { fits = fits passed; lengths = p .0; zeros = p .1 }
+    subst (λ (G : Graph). Asked G (lent (start (passed .before)))) (sym (same (c .before .before .before)))
+    (record { fits = fits-graph (fits passed); lengths = p .0; zeros = p .1 })
 
 same-length : tie.Need-same-length
 same-length c = search needs
@@ -46,8 +74,8 @@ same-length-3 c = search needs
 returns-2 : tie.Need-returns-2
 returns-2 c =
     let g = asked (c .before) in
-    let passed = g .before .before .before .before in
-    free-answered (g .ask .ensures) (fits passed) (start (passed .before) .pre .1) (c .if2 .taken)
+    let passed = g .before .before .before .before .before in
+    free-answered (fits passed) (answer g) (start (passed .before) .pre .1) (c .if2 .taken)
 
 same-length-4 : tie.Need-same-length-4
 same-length-4 c = search needs
@@ -61,7 +89,7 @@ same-length-6 c = search needs
 returns-3 : tie.Need-returns-3
 returns-3 c =
     let g = asked (c .before) in
-    NumbersRefuse.meeting (fits (g .before .before .before .before)) (meets-answered (g .ask .ensures) (c .if2 .left))
+    NumbersRefuse.meeting (fits (g .before .before .before .before .before)) (meets-answered (answer g) (c .if2 .left))
 
 pub check-cleared-spec : {M : Type 1} → statement M
 check-cleared-spec =
@@ -69,6 +97,7 @@ check-cleared-spec =
     (tie.spec
     first-no-requires
     returns
+    graph-of-requires
     ask-requires
     same-length
     same-length-2

@@ -7,7 +7,7 @@ use lib.ListN.{length, replicate}
 use Rattle.gate.specs.Gate.{cleared}
 use Rattle.gate.specs.GateLaws.{same-cleared}
 use Rattle.text.specs.Pair.{wordAndPair}
-use Rattle.automaton.specs.Automaton.{InRange}
+use Rattle.automaton.specs.Graph.{InRange}
 use Rattle.format.specs.Format.{sheetWord}
 use Rattle.parser.specs.Parse.{sizes, sheetBounds, headOf, namesAt, statesAt, transitionsAt, afterNames, parse}
 use Rattle.parser.specs.Phase.{Phase, passed}

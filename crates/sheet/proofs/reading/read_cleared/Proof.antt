@@ -28,7 +28,10 @@ abbrev read : tie.After-known-told2 → tie.After-read-file
 read c = c .before .before .before .before .before .before
 
 abbrev told : tie.After-ask → tie.After-known-told2
-told c = c .before .before .before .before .before
+told c = c .before .before .before .before .before .before
+
+abbrev graphed : tie.After-ask → tie.After-graph-of
+graphed c = c .before .before .before .before .before
 
 zeros : (c : tie.After-read-file) → lent (start c) ≡ clearedTables (lent (start c))
 zeros c = start c .pre .2
@@ -67,17 +70,21 @@ enum-known-r c = search needs
 enum-known-a : tie.Need-enum-known-a
 enum-known-a c = search needs
 
+graph-of-requires : tie.Need-graph-of-requires
+graph-of-requires c κs = search needs
+
 slice-reshare-prefix-ask : tie.Need-slice-reshare-prefix-ask
-slice-reshare-prefix-ask c = cells (read c)
+slice-reshare-prefix-ask c = cells (read (c .before))
 
 slice-aggregate-ask : tie.Need-slice-aggregate-ask
 slice-aggregate-ask c =
-    sym (length-take-le 128 (read (c .before) .read-file .last .1 .0) (cells (read (c .before))))
+    sym (length-take-le 128 (read (c .before .before) .read-file .last .1 .0) (cells (read (c .before .before))))
 
 ask-requires : tie.Need-ask-requires
 ask-requires c κs =
-    let k = c .before .before .before .before in
-    asked (reads-file k) (zeros (read k)) (start (read k) .pre .0 .long)
+    let g = c .before .before .before .before in
+    let k = g .before in
+    asked (reads-file k) (g .graph-of .ensures) (zeros (read k)) (start (read k) .pre .0 .long)
 
 same-length : tie.Need-same-length
 same-length c = search needs
@@ -94,7 +101,7 @@ same-length-4 c = search needs
 returns : tie.Need-returns
 returns c =
     let g = c .before .before .before .before .before .before .before in
-    free-accepts (reads-file (told g)) (zeros (read (told g))) (g .ask .ensures) (c .if1 .taken)
+    free-accepts (reads-file (told g)) (graphed g .graph-of .ensures) (zeros (read (told g))) (g .ask .ensures) (c .if1 .taken)
 
 clear-requires : tie.Need-clear-requires
 clear-requires c κs = search needs
@@ -126,7 +133,7 @@ returns-3 c =
     let k = c .before .before in
     let e = k .before .before in
     let g = e .before .before .before .before .before .before .before in
-    meeting-refuses (reads-file (told g)) (zeros (read (told g))) (g .ask .ensures) (e .if1 .left)
+    meeting-refuses (reads-file (told g)) (graphed g .graph-of .ensures) (zeros (read (told g))) (g .ask .ensures) (e .if1 .left)
     (k .clear .ensures ∙ ap (λ (n : ℕ). replicate {A = ℕ} n 0) (kept (read (told g))))
 
 pub read-cleared-spec : {M : Type 1} → statement M
@@ -137,6 +144,7 @@ read-cleared-spec =
     read-file-requires
     enum-known-r
     enum-known-a
+    graph-of-requires
     slice-reshare-prefix-ask
     slice-aggregate-ask
     ask-requires
