@@ -5,8 +5,8 @@ ghost use Rattle.answers.specs.Answer.{into, nameCells, numberCells, ref
 ghost use Rattle.answers.specs.Answer.{foundCells, builtCells, answerCell, outcomeCells};
 use gate::Refusal;
 use gate::Written;
-use judge::Answer;
 use judge::Outcome;
+use passes::Answer;
 use sheet::Found;
 use sheet::Read;
 use tracker::Built;

@@ -4,8 +4,8 @@ ghost use Prim.Native.Nat.{_<_, _≤_};
 ghost use lib.ListN.{length};
 use gate::Written;
 use judge::Outcome;
-use judge::Verdict;
 use libc::STDOUT_FILENO;
+use passes::Verdict;
 
 fn say(text: &[u8]) {
     io::write_all(STDOUT_FILENO, text);
@@ -34,7 +34,7 @@ fn say_line(line: [u8; 12]) {
 
 fn say_verdict(v: Verdict) {
     let answer = v.answer;
-    say_line(report::verdict_line(judge::is_yes(answer), v.least as usize, v.passes));
+    say_line(report::verdict_line(passes::is_yes(answer), v.least as usize, v.passes));
 }
 
 // One more byte of a sum that tells a text from its neighbours.
@@ -98,7 +98,7 @@ fn say_judgement(sheet: &[u8], plan: &[u8], room: usize) {
     let mut word = [0u16; 136];
     let mut one = [0u16; 137];
     let mut other = [0u16; 137];
-    match judge::files::verdict(
+    match judge::verdict(
         sheet,
         plan,
         room,

@@ -1,6 +1,7 @@
 // The calls that build a tracker and list it.
 ghost use Rattle.automaton.specs.Lent.{tables};
-ghost use Rattle.tracker.specs.Build.{store, Builds, BuildsNumbers};
+ghost use Rattle.filling.specs.Store.{store};
+ghost use Rattle.tracker.specs.Build.{Builds, BuildsNumbers};
 ghost use Rattle.listing.specs.List.{Lists, ListsNumbers};
 ghost use Rattle.answers.specs.Answer.{InNumbers, asNumbers, builtCells, writtenCells};
 use automaton::Numbers;

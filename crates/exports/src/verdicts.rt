@@ -1,10 +1,10 @@
 // The call that judges a plan.
 ghost use Rattle.automaton.specs.Lent.{tables};
-ghost use Rattle.tracker.specs.Build.{store};
+ghost use Rattle.filling.specs.Store.{store};
 ghost use Rattle.judge.specs.Verdict.{Judgement};
 ghost use Rattle.answers.specs.Answer.{InNumbers, outcomeCells};
 
-// `judge::files::verdict`
+// `judge::verdict`
 #[no_mangle]
 pub extern "C" fn lunthomi_verdict(
     sheet: &[u8],
@@ -23,6 +23,6 @@ pub extern "C" fn lunthomi_verdict(
         (store (now (tuples .entry)) (now (nexts .entry))) (store (now (tuples .exit)) (now (nexts .exit))))
         outcomeCells (now (answer .entry)) (now (answer .exit)) ⌝ }
 {
-    let r = judge::files::verdict(sheet, plan, room, table, tuples, nexts, word, one, other);
+    let r = judge::verdict(sheet, plan, room, table, tuples, nexts, word, one, other);
     answers::put_outcome(r, answer);
 }

@@ -7,7 +7,7 @@ use lib.ListN.{length, getD}
 use Rattle.text.specs.Bytes.{lf, space}
 pub use Rattle.text.specs.Bytes.{endLine}
 use Rattle.text.specs.Column.{column}
-use Rattle.text.specs.Pair.{firstLine, threeNumbers}
+use Rattle.text.specs.Line.{numbersLine}
 use Rattle.names.specs.Name.{IsName, compose}
 use Rattle.automaton.specs.Graph.{InRange}
 
@@ -37,7 +37,7 @@ abbrev pub sheetWord : List ℕ
 sheetWord = 83 ∷ 72 ∷ 69 ∷ 69 ∷ 84 ∷ []
 
 unfoldable pub headLine : ℕ → ℕ → List ℕ
-headLine n k = firstLine sheetWord n k
+headLine n k = numbersLine sheetWord (n ∷ k ∷ [])
 
 -- "`N`, letter number in order (3), one space, the name to the line's end"
 unfoldable pub nameLine : ℕ → List ℕ → List ℕ
@@ -45,11 +45,11 @@ nameLine l name = 78 ∷ (column 3 l ++ (space ∷ (name ++ (lf ∷ []))))
 
 -- "`S`, state number in order (3), initial 0 or 1 (3), must-recur 0 or 1 (3)"
 unfoldable pub stateLine : ℕ → State → List ℕ
-stateLine q z = threeNumbers 83 q (z .initial) (z .recurring) []
+stateLine q z = numbersLine (83 ∷ []) (q ∷ z .initial ∷ z .recurring ∷ [])
 
 -- "`T`, from (3), letter (3), to (3)"
 unfoldable pub transitionLine : Transition → List ℕ
-transitionLine t = threeNumbers 84 (t .from) (t .letter) (t .to) []
+transitionLine t = numbersLine (84 ∷ []) (t .from ∷ t .letter ∷ t .to ∷ [])
 
 -- the lines of names, from letter l on
 unfoldable pub nameLines : ℕ → List (List ℕ) → List ℕ

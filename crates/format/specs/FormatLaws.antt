@@ -1,6 +1,6 @@
 -- The lines of a sheet: how long they are, what stands behind them, the order of transitions, and the numbers of faults. Assumes nothing.
-use Prim.Native.Nat.{ℕ, suc, _+_, _*_, _≤_, _<_}
-use mathlib.Core.Path.{_≡_, refl, _∙_}
+use Prim.Native.Nat.{ℕ, suc, _+_, _≤_, _<_}
+use mathlib.Core.Path.{_≡_, _∙_}
 use mathlib.Core.Logic.{inl, inr, _↔_}
 use mathlib.Core.List.{List, [], _∷_, _++_, append-assoc}
 use lib.ListN.{length, drop, length-append}
@@ -9,34 +9,41 @@ use native.Mathlib.Decide.{decLt}
 use Rattle.text.specs.Bytes.{lf, space}
 use Rattle.text.specs.BytesLaws.{stretch-rest}
 use Rattle.text.specs.Column.{column}
-use Rattle.text.specs.PairLaws.{first-length}
+use Rattle.text.specs.LineLaws.{numbers-length}
 use Rattle.format.specs.Format.{State, Transition, Sheet, sheetWord, headLine, nameLine, stateLine, transitionLine, nameLines, stateLines, transitionLines, lines, place, Before, Faulty, wrong-name, name-twice, wrong-transition, no-end, not-last}
 
 pub head-length : (n k : ℕ) → length (headLine n k) ≡ 12
 unfolding headLine
-head-length n k = first-length sheetWord n k
+head-length n k = numbers-length sheetWord (n ∷ k ∷ [])
 
 pub name-length : (l : ℕ) (x : List ℕ) → length (nameLine l x) ≡ 6 + length x
 unfolding nameLine column
 name-length l x = simp length-append (omega arith)
 
 pub state-length : (q : ℕ) (z : State) → length (stateLine q z) ≡ 11
-unfolding stateLine column
-state-length q z = refl
+unfolding stateLine
+state-length q z = numbers-length (83 ∷ []) (q ∷ z .initial ∷ z .recurring ∷ [])
 
 pub transition-length : (t : Transition) → length (transitionLine t) ≡ 11
-unfolding transitionLine column
-transition-length t = refl
+unfolding transitionLine
+transition-length t = numbers-length (84 ∷ []) (t .from ∷ t .letter ∷ t .to ∷ [])
 
-pub states-length : (q : ℕ) (zs : List State) → length (stateLines q zs) ≡ 11 * length zs
-unfolding stateLines
-states-length q [] = refl
-states-length q (z ∷ zs) = simp (length-append, state-length, states-length (suc q) zs) (omega arith)
+-- behind a line, the others begin where it ends
+module _ (at q : ℕ) (z : State) (zs : List State) where
+  pub state-behind : at + 11 + length (stateLines (suc q) zs) ≡ at + length (stateLines q (z ∷ zs))
+  unfolding stateLines
+  state-behind = omega (arith, length-append (stateLine q z) (stateLines (suc q) zs), state-length q z)
 
-pub transitions-length : (ts : List Transition) → length (transitionLines ts) ≡ 11 * length ts
+module _ (at : ℕ) (t : Transition) (ts : List Transition) where
+  pub transition-behind : at + 11 + length (transitionLines ts) ≡ at + length (transitionLines (t ∷ ts))
+  unfolding transitionLines
+  transition-behind = omega (arith, length-append (transitionLine t) (transitionLines ts), transition-length t)
+
+-- there are no more transitions than their lines have bytes
+pub transitions-few : (ts : List Transition) → length ts ≤ length (transitionLines ts)
 unfolding transitionLines
-transitions-length [] = refl
-transitions-length (t ∷ ts) = simp (length-append, transition-length, transitions-length ts) (omega arith)
+transitions-few [] = omega arith
+transitions-few (t ∷ ts) = omega (arith, transition-behind 0 t ts, transitions-few ts)
 
 -- the lines kind by kind, and what stands behind them
 pub lines-parted :

@@ -1,13 +1,4 @@
-pub mod Passes
 pub mod Verdict
-pub mod TableRun
 pub mod Parts
-pub mod LeastLaws
-pub mod UniqueLaws
-pub mod TableRunLaws
-pub mod EndLaws
-pub mod PassLaws
-pub mod FollowLaws
-pub mod SoundLaws
 pub mod PlanLaws
 pub mod VerdictLaws

@@ -3,34 +3,16 @@ use Prim.Native.Nat.{ℕ, _+_, _-_, _≤_, _<_}
 use mathlib.Core.Path.{_≡_, sym, ap, _∙_}
 use mathlib.Core.List.{List, _++_, append-assoc}
 use Rattle.gate.specs.GateLaws.{zeros}
-use lib.ListN.{length, getD, take, drop, replicate, length-append, length-map, List·getD-append}
+use lib.ListN.{length, getD, take, drop, replicate, length-append, List·getD-append}
 use lib.Seq.{take-at, drop-at, getD-append-add, getD-drop}
 use native.Mathlib.Omega.{arith}
 use native.Mathlib.Decide.{decLt}
-use Rattle.names.specs.Name.{compose}
-use Rattle.automaton.specs.declared.Numbers.{Numbers}
 use Rattle.format.specs.Format.{Sheet}
-use Rattle.format.specs.Numbers.{numbers}
-use Rattle.sheet.specs.Answers.{LettersOf}
-use Rattle.plan.specs.Letter.{letterAt}
+use Rattle.passes.specs.Letter.{letterAt}
 use Rattle.plan.specs.Plan.{PlanIs}
-use Rattle.plan.specs.Read.{NamesIn}
 use Rattle.plan.specs.KnownLaws.{known-below}
-use Rattle.judge.specs.declared.Verdict.{Verdict}
-use Rattle.judge.specs.TableRun.{LettersFit, wordOf, TableJudges}
-
--- the rows of a sheet file whose letters are read
-pub names-in : (s rows : List ℕ) (a : Numbers) (z : LettersOf s rows a) → NamesIn (z .sheet) (a .k) rows
-unfolding numbers
-names-in s rows a z = record {
-  letters = sym (z .are .k);
-  all-names = sym (length-map (z .sheet .names) compose) ∙ z .all;
-  holds = z .holds;
-}
-
--- a sheet has at most 8 letters
-pub few-letters : (s rows : List ℕ) (a : Numbers) (z : LettersOf s rows a) → z .sheet .k ≤ 8
-few-letters s rows a z = omega (arith, z .range .3, names-in s rows a z .letters)
+use Rattle.passes.specs.declared.Verdict.{Verdict}
+use Rattle.passes.specs.TableRun.{LettersFit, wordOf, TableJudges}
 
 -- a buffer that was all zero, with the letters of a plan in front
 module _ (σ : Sheet) (k : σ .k ≤ 8) (p lead cycle : List ℕ) (plan : PlanIs σ p lead cycle) (n m c : ℕ) (u : List ℕ)

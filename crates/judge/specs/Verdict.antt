@@ -5,32 +5,24 @@ use mathlib.Core.List.{List}
 use lib.ListN.{length}
 use Rattle.gate.specs.Gate.{refusal, cleared}
 use Rattle.gate.specs.declared.Refusal.{Refusal}
-use Rattle.automaton.specs.Automaton.{Automaton}
-use Rattle.automaton.specs.Reading.{Passes}
 use Rattle.automaton.specs.Lent.{Tables, clearedTables, lentTable}
 use Rattle.format.specs.Format.{Sheet, mostSheet}
 use Rattle.format.specs.Numbers.{numbers}
 use Rattle.sheet.specs.Read.{Accepted, Refuses}
-use Rattle.plan.specs.Letter.{letterAt}
+use Rattle.passes.specs.Letter.{letterAt}
 use Rattle.plan.specs.Plan.{PlanIs, Faulty, mostPlan}
-use Rattle.tracker.specs.Numbering.{MoreThan}
-use Rattle.tracker.specs.Build.{Store, Lent, Fitted, clearedStore}
-use Rattle.judge.specs.declared.Answer.{Answer}
-use Rattle.judge.specs.declared.Answer.the-variants.{Yes, No}
+use Rattle.numbering.specs.Numbering.{MoreThan}
+use Rattle.filling.specs.Store.{Store, Fitted, clearedStore}
+use Rattle.tracker.specs.Build.{Lent}
 use Rattle.judge.specs.declared.Outcome.{Outcome}
 use Rattle.judge.specs.declared.Outcome.the-variants.{Refused, Judged}
-use Rattle.judge.specs.declared.Verdict.{Verdict}
-use Rattle.judge.specs.Passes.{Judges}
+use Rattle.passes.specs.declared.Verdict.{Verdict}
+use Rattle.passes.specs.Passes.{Judges, Sound}
 
 -- "Is the sheet at most 24,576 bytes, the plan at most 12,288?": one question, asked of both before question 3
 pub record SizesFit (s p : List ℕ) : Type 0 where
   pub sheet : length s ≤ mostSheet
   pub plan : length p ≤ mostPlan
-
--- DEMAND 3. The answer is yes exactly if the sheet passes the plan: some endless reading visits must-recur states without end.
-abbrev pub Sound : Automaton → (ℕ → ℕ) → Answer → Type 0
-Sound A w Yes = Passes A w
-Sound A w No = Passes A w → ⊥
 
 -- a judged plan of lead-in and cycle on an accepted sheet σ, whose tracker has `count` tuples
 pub record Verdicts (σ : Sheet) (p lead cycle : List ℕ) (count : ℕ) (z : Verdict) : Type 0 where

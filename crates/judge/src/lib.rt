@@ -1,33 +1,25 @@
-// The verdict on a plan.
+// The verdict from two files: a plan judged on the tracker of a sheet.
 ghost use mathlib.Core.Path.{_≡_};
-ghost use Rattle.judge.specs.Passes.{isYes};
-
-pub mod files;
-mod table;
-
+ghost use Prim.Native.Nat.{_≤_};
+ghost use lib.ListN.{length};
+ghost use Rattle.gate.specs.Gate.{Decides, cleared};
+ghost use Rattle.automaton.specs.Lent.{tables, clearedTables};
+ghost use Rattle.format.specs.Format.{Sheet};
+ghost use Rattle.sheet.specs.Answers.{NamesIn};
+ghost use Rattle.plan.specs.Plan.{mostPlan};
+ghost use Rattle.filling.specs.Store.{store, clearedStore};
+ghost use Rattle.tracker.specs.Build.{Lent};
+ghost use Rattle.passes.specs.TableRun.{TablesFit};
+ghost use Rattle.judge.specs.Parts.{PlanJudged};
+ghost use Rattle.judge.specs.Verdict.{SizesFit, Judgement};
 use gate::Refusal;
-
-pub enum Answer {
-    Yes,
-    No,
-}
-
-// Whether the answer is yes.
-pub fn is_yes(answer: Answer) -> bool
-    ensures { λ r. ⌜ r ≡ isYes answer ⌝ }
-{
-    match answer {
-        Answer::Yes => true,
-        Answer::No => false,
-    }
-}
-
-// "yes or no with least colour and passes"
-pub struct Verdict {
-    pub answer: Answer,
-    pub least: u16,
-    pub passes: usize,
-}
+use passes::Verdict;
+use passes::judge_letters;
+use plan::Planned;
+use plan::whole_file::read_plan;
+use sheet::Read;
+use sheet::reading::read_long;
+use tracker::Built;
 
 // "The outcome is either a refusal or yes or no with least colour and passes."
 pub enum Outcome {
@@ -35,8 +27,139 @@ pub enum Outcome {
     Judged(Verdict),
 }
 
-// Where a pass of some letters ends, and the least colour that it entered.
-pub struct Pass {
-    pub at: usize,
-    pub least: u16,
+// Question 2, of both files.
+fn sizes_fit(sheet: &[u8], plan: &[u8]) -> bool
+    ensures { λ r. ⌜ Decides r (SizesFit (now (sheet .entry)) (now (plan .entry))) ⌝ }
+{
+    if 24576 < sheet.len() {
+        return false;
+    }
+    if 12288 < plan.len() {
+        return false;
+    }
+    true
+}
+
+// Every lent table all zero.
+fn clear_all(
+    table: &mut [u16],
+    tuples: &mut [u16],
+    nexts: &mut [u16],
+    word: &mut [u16],
+    one: &mut [u16],
+    other: &mut [u16],
+)
+    ensures { λ _. ⌜ (now (table .exit) ≡ cleared (now (table .entry)))
+        × (tables (now (word .exit)) (now (one .exit)) (now (other .exit)) ≡ clearedTables (tables (now (word .entry)) (now (one .entry)) (now (other .entry))))
+        × (store (now (tuples .exit)) (now (nexts .exit)) ≡ clearedStore (store (now (tuples .entry)) (now (nexts .entry)))) ⌝ }
+{
+    gate::clear(table);
+    gate::clear(tuples);
+    gate::clear(nexts);
+    gate::clear(word);
+    gate::clear(one);
+    gate::clear(other);
+}
+
+// Questions 12 to 14 on a plan over the sheet whose k names the rows hold, and the verdict.
+fn judge_plan(
+    plan: &[u8],
+    rows: &mut [u8],
+    k: usize,
+    tuples: &[u16],
+    nexts: &[u16],
+    count: usize,
+) -> Outcome
+    requires { ⌜ (length (now plan) ≤ mostPlan) × TablesFit (now tuples) (now nexts) count ⌝ }
+    requires { ⌜ (216 ≤ length (now rows)) × (k ≤ 8) × ((σ : Sheet) × NamesIn σ k (now rows)) ⌝ }
+    ensures { λ r. ⌜ ((σ : Sheet) → NamesIn σ k (now (rows .entry))
+        → PlanJudged σ (now (plan .entry)) (now (tuples .entry)) (now (nexts .entry)) count r) ⌝ }
+{
+    let mut letters = [0u8; 400];
+    match read_plan(plan, rows, k, &mut letters) {
+        Planned::Refused(r) => Outcome::Refused(r),
+        Planned::Is(z) => {
+            let v = judge_letters(tuples, nexts, count, &letters, z.lead, z.cycle);
+            Outcome::Judged(v)
+        }
+    }
+}
+
+// Questions 3 to 14, and the verdict, in tables that are long enough and on files that are not too long.
+fn judge_long(
+    sheet: &[u8],
+    plan: &[u8],
+    room: usize,
+    table: &mut [u16],
+    tuples: &mut [u16],
+    nexts: &mut [u16],
+    word: &mut [u16],
+    one: &mut [u16],
+    other: &mut [u16],
+) -> Outcome
+    requires { ⌜ Lent room (now table) (tables (now word) (now one) (now other)) (store (now tuples) (now nexts)) × SizesFit (now sheet) (now plan) ⌝ }
+    ensures { λ r. ⌜ Judgement (now (sheet .entry)) (now (plan .entry)) room (now (table .entry)) (now (table .exit))
+        (tables (now (word .entry)) (now (one .entry)) (now (other .entry))) (tables (now (word .exit)) (now (one .exit)) (now (other .exit)))
+        (store (now (tuples .entry)) (now (nexts .entry))) (store (now (tuples .exit)) (now (nexts .exit))) r ⌝ }
+{
+    let mut rows = [0u8; 216];
+    match read_long(sheet, table, &mut rows, word, one, other) {
+        Read::Refused(r) => {
+            gate::clear(tuples);
+            gate::clear(nexts);
+            Outcome::Refused(r)
+        }
+        Read::Is(a) => match tracker::track(a, &table[..128], room, tuples, nexts) {
+            Built::Refused(r) => {
+                gate::clear(table);
+                Outcome::Refused(r)
+            }
+            Built::Is(x) => match judge_plan(plan, &mut rows, a.k, tuples, nexts, x.tuples) {
+                Outcome::Refused(r) => {
+                    gate::clear(table);
+                    gate::clear(tuples);
+                    gate::clear(nexts);
+                    Outcome::Refused(r)
+                }
+                Outcome::Judged(v) => Outcome::Judged(v),
+            },
+        },
+    }
+}
+
+// The verdict on a plan file, from a sheet file: all questions in their order, then the passes of the cycle on the sheet's tracker.
+// Lent are 128 successor sets, for the room R 17 * R tuple numbers and 8 * R next numbers, and a witness of 136 letters and two walks of 137 states.
+pub fn verdict(
+    sheet: &[u8],
+    plan: &[u8],
+    room: usize,
+    table: &mut [u16],
+    tuples: &mut [u16],
+    nexts: &mut [u16],
+    word: &mut [u16],
+    one: &mut [u16],
+    other: &mut [u16],
+) -> Outcome
+    ensures { λ r. ⌜ Judgement (now (sheet .entry)) (now (plan .entry)) room (now (table .entry)) (now (table .exit))
+        (tables (now (word .entry)) (now (one .entry)) (now (other .entry))) (tables (now (word .exit)) (now (one .exit)) (now (other .exit)))
+        (store (now (tuples .entry)) (now (nexts .entry))) (store (now (tuples .exit)) (now (nexts .exit))) r ⌝ }
+{
+    let long = tracker::enough(room, table, tuples, nexts, word, one, other);
+    let fit = sizes_fit(sheet, plan);
+    if !long {
+        return Outcome::Refused(Refusal {
+            number: 1,
+            line: 0,
+            length: 0,
+        });
+    }
+    if !fit {
+        clear_all(table, tuples, nexts, word, one, other);
+        return Outcome::Refused(Refusal {
+            number: 2,
+            line: 0,
+            length: 0,
+        });
+    }
+    judge_long(sheet, plan, room, table, tuples, nexts, word, one, other)
 }

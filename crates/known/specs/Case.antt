@@ -14,10 +14,11 @@ use Rattle.tuple.specs.Step.{Tuple}
 use Rattle.tracker.specs.declared.Tracker.{Tracker}
 use Rattle.tracker.specs.declared.Built.{Built}
 use Rattle.tracker.specs.declared.Built.the-variants as B
-use Rattle.tracker.specs.Build.{Store, Lent, Holds, Builds}
+use Rattle.filling.specs.Store.{Store, Holds}
+use Rattle.tracker.specs.Build.{Lent, Builds}
 use Rattle.judge.specs.declared.Outcome.{Outcome}
 use Rattle.judge.specs.declared.Outcome.the-variants as O
-use Rattle.judge.specs.declared.Verdict.{Verdict}
+use Rattle.passes.specs.declared.Verdict.{Verdict}
 use Rattle.judge.specs.Verdict.{Judgement}
 
 -- what is expected of a case

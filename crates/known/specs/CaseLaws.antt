@@ -13,14 +13,14 @@ use Rattle.automaton.specs.Automaton.{Automaton}
 use Rattle.format.specs.Format.{Sheet, FileIs, mostSheet}
 use Rattle.format.specs.Numbers.{numbers}
 use Rattle.parser.specs.Parse.{Contents}
-use Rattle.parser.specs.Phase.{Phase, refused, passed}
+use Rattle.frame.specs.Phase.{Phase, refused, passed}
 use Rattle.lists.specs.SearchLaws.{same-is}
 use Rattle.parser.specs.ParseLaws.{AreContents}
 use Rattle.tuple.specs.Step.{Tuple}
 use Rattle.tracker.specs.declared.Built.{Built}
 use Rattle.tracker.specs.declared.Built.the-variants as B
-use Rattle.tracker.specs.Build.{Store, Holds}
-use Rattle.plan.specs.Letter.{letterAt}
+use Rattle.filling.specs.Store.{Store, Holds}
+use Rattle.passes.specs.Letter.{letterAt}
 use Rattle.plan.specs.Plan.{mostPlan}
 use Rattle.plan.specs.Plan as Plan
 use Rattle.plan.specs.Parse.{planOf}
@@ -30,10 +30,10 @@ use Rattle.plan.specs.ParseLaws as L
 use Rattle.plan.specs.CompleteLaws.{fault-read, plan-read}
 use Rattle.judge.specs.declared.Outcome.{Outcome}
 use Rattle.judge.specs.declared.Outcome.the-variants as O
-use Rattle.judge.specs.declared.Verdict.{Verdict}
-use Rattle.judge.specs.Passes.{Judges}
+use Rattle.passes.specs.declared.Verdict.{Verdict}
+use Rattle.passes.specs.Passes.{Judges}
 use Rattle.judge.specs.Verdict.{SizesFit}
-use Rattle.judge.specs.UniqueLaws.{one-verdict}
+use Rattle.passes.specs.UniqueLaws.{one-verdict}
 use Rattle.known.specs.Case.{Expected, judged, meeting, Case, Tracked, VerdictIs, BuiltIs, Forced}
 use Rattle.known.specs.Case as E
 use Rattle.known.specs.VerdictTest.{isVerdict}

@@ -9,12 +9,12 @@ use Rattle.lists.specs.Choice.{choose}
 use Rattle.automaton.specs.Automaton.{Automaton, graphOf}
 use Rattle.format.specs.Format.{mostSheet}
 use Rattle.parser.specs.Parse.{parse}
-use Rattle.parser.specs.Phase.{Phase, refused, passed}
+use Rattle.frame.specs.Phase.{Phase, refused, passed}
 use Rattle.parser.specs.Parse as S
 use Rattle.tuple.specs.Step.{Tuple}
-use Rattle.tracker.specs.Explore.{found}
+use Rattle.numbering.specs.Explore.{found}
 use Rattle.plan.specs.Plan.{mostPlan}
-use Rattle.plan.specs.Letter.{letterAt}
+use Rattle.passes.specs.Letter.{letterAt}
 use Rattle.plan.specs.Parse.{planOf}
 use Rattle.plan.specs.Parse as P
 use Rattle.known.specs.Case.{Expected, judged, meeting, Case}

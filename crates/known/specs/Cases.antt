@@ -4,9 +4,9 @@ use Prim.Native.String.{String}
 use Prim.Native.String as T
 use Prim.Native.Char.{code}
 use mathlib.Core.List.{List, [], _∷_, _++_}
-use Rattle.judge.specs.declared.Answer.{Answer}
-use Rattle.judge.specs.declared.Answer.the-variants.{Yes, No}
-use Rattle.judge.specs.declared.Verdict.{Verdict}
+use Rattle.passes.specs.declared.Answer.{Answer}
+use Rattle.passes.specs.declared.Answer.the-variants.{Yes, No}
+use Rattle.passes.specs.declared.Verdict.{Verdict}
 use Rattle.known.specs.Case.{Expected, judged, refused, meeting, Case}
 
 -- the bytes of a text of ASCII

@@ -17,15 +17,16 @@ use Rattle.tuple.specs.Step.{Tuple}
 use Rattle.tracker.specs.declared.Tracker.{Tracker}
 use Rattle.tracker.specs.declared.Built.{Built}
 use Rattle.tracker.specs.declared.Built.the-variants as B
-use Rattle.tracker.specs.Numbering.{Numbering, MoreThan}
-use Rattle.tracker.specs.Build.{Store, Lent, Holds, Fitted, Builds}
-use Rattle.plan.specs.Letter.{letterAt}
+use Rattle.numbering.specs.Numbering.{Numbering, MoreThan}
+use Rattle.filling.specs.Store.{Store, Holds, Fitted}
+use Rattle.tracker.specs.Build.{Lent, Builds}
+use Rattle.passes.specs.Letter.{letterAt}
 use Rattle.plan.specs.Plan.{PlanIs}
 use Rattle.plan.specs.Plan as Plan
 use Rattle.judge.specs.declared.Outcome.{Outcome}
 use Rattle.judge.specs.declared.Outcome.the-variants as O
-use Rattle.judge.specs.declared.Verdict.{Verdict}
-use Rattle.judge.specs.Passes.{Judges}
+use Rattle.passes.specs.declared.Verdict.{Verdict}
+use Rattle.passes.specs.Passes.{Judges}
 use Rattle.judge.specs.Verdict.{SizesFit, Refusing, Judgement}
 use Rattle.known.specs.Case.{met}
 

@@ -11,3 +11,4 @@ pub mod CauseLaws
 pub mod SheetLaws
 pub mod CaseLaws
 pub mod Known
+pub mod Unfold

@@ -19,13 +19,13 @@ use Rattle.format.specs.Numbers.{numbers}
 use Rattle.format.specs.NumbersLaws.{sheet-fits}
 use Rattle.sheet.specs.Read.{Accepted}
 use Rattle.parser.specs.Parse.{parse, Contents}
-use Rattle.parser.specs.Phase.{Phase, refused, passed}
+use Rattle.frame.specs.Phase.{Phase, refused, passed}
 use Rattle.parser.specs.ParseLaws.{AreContents}
 use Rattle.parser.specs.CompleteLaws.{faulty-parse}
 use Rattle.parser.specs.UniqueLaws.{accepts-parse}
 use Rattle.tuple.specs.Step.{Tuple}
-use Rattle.tracker.specs.Numbering.{Numbering, MoreThan}
-use Rattle.tracker.specs.NumberingLaws.{found-all, found-more, more-excludes, numbering-unique}
+use Rattle.numbering.specs.Numbering.{Numbering, MoreThan}
+use Rattle.numbering.specs.NumberingLaws.{found-all, found-more, more-excludes, numbering-unique}
 use Rattle.plan.specs.Parse.{planOf}
 use Rattle.known.specs.Case.{Expected, judged, meeting, Shortest, met}
 use Rattle.known.specs.Case as E
@@ -87,8 +87,7 @@ module _ (s p : List ℕ) (room : ℕ) (Outcomes : Type 0) (refuse : Refusal →
     module _ (word one other : List ℕ) (test : isShortest (graphOf A) word one other ≡ true) where
       witness : (σ : Sheet) → FileIs s σ → Witness (graphOf (numbers σ)) Everywhere (length word) word one other
       witness σ file =
-          subst (λ (B : Automaton). Witness (graphOf B) Everywhere (length word) word one other) (sym (same-numbers σ file))
-          (shortest-is (graphOf A) (fits-graph (fits σ file)) word one other test)
+          subst (λ (B : Automaton). Witness (graphOf B) Everywhere (length word) word one other) (sym (same-numbers σ file)) (shortest-is (graphOf A) (fits-graph (fits σ file)) word one other test)
 
       not-free : (σ : Sheet) → Accepted s σ → ⊥
       not-free σ accepted = accepted .free _ _ _ _ (witness σ (accepted .file) .meets)
@@ -105,8 +104,7 @@ module _ (s p : List ℕ) (room : ℕ) (Outcomes : Type 0) (refuse : Refusal →
     module _ (free : isFree (graphOf A) ≡ true) where
       no-walks : (σ : Sheet) → FileIs s σ → (m : ℕ) (word one other : List ℕ) → Witness (graphOf (numbers σ)) Everywhere m word one other → ⊥
       no-walks σ file m word one other h =
-          free-is (graphOf A) (fits-graph (fits σ file)) free _ _ _ _
-          (subst (λ (B : Automaton). Witness (graphOf B) Everywhere m word one other) (same-numbers σ file) h .meets)
+          free-is (graphOf A) (fits-graph (fits σ file)) free _ _ _ _ (subst (λ (B : Automaton). Witness (graphOf B) Everywhere m word one other) (same-numbers σ file) h .meets)
 
       renumbered : (σ : Sheet) → FileIs s σ → (ts : List Tuple) → Numbering (numbers σ) ts → Numbering A ts
       renumbered σ file ts n = subst (λ (B : Automaton). Numbering B ts) (same-numbers σ file) n

@@ -6,11 +6,11 @@ use lib.Dec.{eqb, ltb}
 use Rattle.finite.specs.Least.{lowest}
 use Rattle.automaton.specs.Automaton.{Automaton}
 use Rattle.tuple.specs.Step.{Tuple, colourEntered}
-use Rattle.tracker.specs.Explore.{tupleNumber}
-use Rattle.judge.specs.declared.Answer.{Answer}
-use Rattle.judge.specs.declared.Answer.the-variants.{Yes, No}
-use Rattle.judge.specs.declared.Verdict.{Verdict}
-use Rattle.judge.specs.Passes.{passEnd}
+use Rattle.numbering.specs.Explore.{tupleNumber}
+use Rattle.passes.specs.declared.Answer.{Answer}
+use Rattle.passes.specs.declared.Answer.the-variants.{Yes, No}
+use Rattle.passes.specs.declared.Verdict.{Verdict}
+use Rattle.passes.specs.Passes.{passEnd}
 use Rattle.known.specs.Below.{all}
 
 -- the tuples at the ends of the first b passes, the lead-in's end first

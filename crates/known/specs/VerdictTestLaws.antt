@@ -13,14 +13,14 @@ use Rattle.lists.specs.AppendLaws.{length-more}
 use Rattle.finite.specs.Least.{lowest}
 use Rattle.automaton.specs.Automaton.{Automaton}
 use Rattle.tuple.specs.Step.{Tuple, colourEntered}
-use Rattle.tracker.specs.Numbering.{tupleAt}
-use Rattle.tracker.specs.Explore.{tupleNumber}
-use Rattle.tracker.specs.ExploreLaws.{Listed, number-is, agree-more, last-is}
-use Rattle.judge.specs.declared.Answer.{Answer}
-use Rattle.judge.specs.declared.Answer.the-variants.{Yes, No}
-use Rattle.judge.specs.declared.Verdict.{Verdict}
-use Rattle.judge.specs.LeastLaws.{least-lowest}
-use Rattle.judge.specs.Passes.{passEnd, FirstRepeat, LeastColour, AnswerIs, Judges}
+use Rattle.numbering.specs.Numbering.{tupleAt}
+use Rattle.numbering.specs.Explore.{tupleNumber}
+use Rattle.numbering.specs.ExploreLaws.{Listed, number-is, agree-more, last-is}
+use Rattle.passes.specs.declared.Answer.{Answer}
+use Rattle.passes.specs.declared.Answer.the-variants.{Yes, No}
+use Rattle.passes.specs.declared.Verdict.{Verdict}
+use Rattle.passes.specs.LeastLaws.{least-lowest}
+use Rattle.passes.specs.Passes.{passEnd, FirstRepeat, LeastColour, AnswerIs, Judges}
 use Rattle.known.specs.BelowLaws.{all-at}
 use Rattle.known.specs.VerdictTest.{ends, earlierOf, isRepeat, leastEntered, isAnswer, isLeast, isVerdict}
 

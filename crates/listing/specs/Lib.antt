@@ -1,6 +1,3 @@
-pub mod Listing
 pub mod List
-pub mod Put
-pub mod PutLaws
+pub mod Finish
 pub mod ListLaws
-pub mod ListingLaws

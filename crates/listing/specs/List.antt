@@ -7,12 +7,13 @@ use Rattle.gate.specs.Gate.{refusal, cleared, Put}
 use Rattle.gate.specs.declared.Refusal.{Refusal}
 use Rattle.automaton.specs.Automaton.{Automaton}
 use Rattle.automaton.specs.Lent.{Tables}
-use Rattle.tracker.specs.Build.{Store, clearedStore, Lent, BuildsNumbers, Builds}
+use Rattle.filling.specs.Store.{Store, clearedStore}
+use Rattle.tracker.specs.Build.{Lent, BuildsNumbers, Builds}
 use Rattle.tracker.specs.declared.Tracker.{Tracker}
 use Rattle.tracker.specs.declared.Built.the-variants.{Refused as BuildRefused, Is}
 use Rattle.gate.specs.declared.Written.{Written}
 use Rattle.gate.specs.declared.Written.the-variants.{Refused, Bytes}
-use Rattle.listing.specs.Listing.{listing}
+use Rattle.listing_text.specs.Listing.{listing}
 
 -- the listing of a tracker that is built in g
 abbrev pub listingOf : Tracker → Store → List ℕ

@@ -12,16 +12,18 @@ use Rattle.format.specs.Numbers.{numbers}
 use Rattle.format.specs.NumbersLaws.{sheet-fits}
 use Rattle.automaton.specs.QuestionLaws.{numbers-number}
 use Rattle.sheet.specs.ReadLaws.{refuses-number}
-use Rattle.tracker.specs.Build.{Store, RoomFits, Fitted, BuildsNumbers, Builds}
+use Rattle.filling.specs.Store.{Store, RoomFits, Fitted}
+use Rattle.tracker.specs.Build.{BuildsNumbers, Builds}
 use Rattle.tracker.specs.BuildLaws.{numbers-built, file-built}
-use Rattle.tracker.specs.FittedLaws.{fitted-room, fitted-cleared}
+use Rattle.filling.specs.FittedLaws.{fitted-room, fitted-cleared}
 use Rattle.tracker.specs.declared.Tracker.{Tracker}
 use Rattle.tracker.specs.declared.Built.{Built}
 use Rattle.tracker.specs.declared.Built.the-variants.{Refused as BuildRefused, Is}
 use Rattle.gate.specs.declared.Written.{Written}
 use Rattle.gate.specs.declared.Written.the-variants.{Refused, Bytes}
 use Rattle.listing.specs.List.{listingOf, Left, ListsNumbers, Lists}
-use Rattle.listing.specs.Put.{Sized, Finishes}
+use Rattle.listing_text.specs.Put.{Sized}
+use Rattle.listing.specs.Finish.{Finishes}
 
 -- what writing asks of a tracker that was built
 sized : {A : Automaton} {room : ℕ} {f h : Store} (x : Tracker) → Fits A → RoomFits room f → AreNumbers A (x .numbers)

@@ -1,16 +1,15 @@
 // The listing of a tracker.
-mod writing;
-
 use automaton::Numbers;
 use gate::Refusal;
 use gate::Written;
 use tracker::Built;
 ghost use Rattle.automaton.specs.Automaton.{automaton};
 ghost use Rattle.automaton.specs.Lent.{tables};
-ghost use Rattle.tracker.specs.Build.{store};
-ghost use Rattle.listing.specs.Listing.{listing};
+ghost use Rattle.filling.specs.Store.{store};
+ghost use Rattle.listing_text.specs.Listing.{listing};
 ghost use Rattle.listing.specs.List.{ListsNumbers, Lists};
-ghost use Rattle.listing.specs.Put.{Sized, Finishes};
+ghost use Rattle.listing_text.specs.Put.{Sized};
+ghost use Rattle.listing.specs.Finish.{Finishes};
 
 // The last question, whether the buffer is long enough, and the listing with zeros behind it.
 fn finish(
@@ -25,7 +24,7 @@ fn finish(
     ensures { λ l. ⌜ Finishes (listing n k count (now (tuples .entry)) (now (nexts .entry)))
         (store (now (tuples .entry)) (now (nexts .entry))) (store (now (tuples .exit)) (now (nexts .exit))) (now (out .entry)) (now (out .exit)) l ⌝ }
 {
-    let bytes = writing::listing_length(n, k, count);
+    let bytes = listing_text::listing_length(n, k, count);
     if out.len() < bytes {
         gate::clear(tuples);
         gate::clear(nexts);
@@ -36,7 +35,7 @@ fn finish(
             length: 0,
         });
     }
-    writing::write(out, n, k, count, tuples, nexts);
+    listing_text::write(out, n, k, count, tuples, nexts);
     Written::Bytes(bytes)
 }
 

@@ -1,6 +1,7 @@
 -- Document 01, question 10, "Is the sheet free of meeting walks? No: 10, with the walks", and how its answer is handed over.
 use Prim.Native.Nat.{ℕ, _<_}
 use mathlib.Core.Path.{_≡_}
+use lib.ListN.{length}
 use Rattle.automaton.specs.Graph.{Graph, GraphFits}
 use Rattle.automaton.specs.Meeting.{Free, Witness}
 use Rattle.automaton.specs.Lent.{Tables, Lengths, clearedTables, SameLengths}

@@ -8,3 +8,5 @@ pub mod NameLaws
 pub mod ScanLaws
 pub mod RowLaws
 pub mod RowsLaws
+pub mod LetterLaws
+pub mod Unfold

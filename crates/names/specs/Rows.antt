@@ -3,7 +3,7 @@ use Prim.Native.Nat.{ℕ, _+_, _*_, _≤_, _<_}
 use mathlib.Core.Path.{_≡_}
 use mathlib.Core.List.{List, []}
 use lib.ListN.{length, getD, take, drop}
-use Rattle.lists.specs.Search.{First}
+use Rattle.lists.specs.Search.{First, same, firstThat}
 use Rattle.names.specs.Name.{IsName}
 use Rattle.gate.specs.Gate.{padded}
 use Rattle.names.specs.Row.{row}
@@ -31,3 +31,7 @@ pub record FirstLike (rows : List ℕ) (count l : ℕ) : Type 0 where
 -- the first of some composed names that is x; their count where none is
 abbrev pub FirstName : List (List ℕ) → List ℕ → ℕ → Type 0
 FirstName = First []
+
+-- its number, by a search
+abbrev pub letterOf : List (List ℕ) → List ℕ → ℕ
+letterOf names x = firstThat (λ y. same y x) names

@@ -30,6 +30,11 @@ nameEndAt s start =
     choose (eqb (partsEnd s start 25) start) Bad
     (choose (ltb (start + 24) (partsEnd s start 25)) Bad (choose (eqb (getD s (partsEnd s start 25) 0) lf) (At (partsEnd s start 25)) Bad))
 
+-- what to do with the LF of a name that was read, and what where there is none
+abbrev pub withEnding : {A : Type 0} → Ending → (ℕ → A) → A → A
+withEnding (At e) go bad = go e
+withEnding Bad go bad = bad
+
 -- a name that ends has 1 to 24 bytes, and its LF stands within so many bytes
 abbrev pub nameFits : ℕ → ℕ → Ending → Type 0
 nameFits n start (At e) = (start < e) × (e ≤ start + 24) × (e < n)

@@ -1,13 +1,14 @@
 // The names of letters: where one ends, and the bytes that it composes to.
 ghost use mathlib.Core.Path.{_≡_};
-ghost use Prim.Native.Nat.{_+_, _-_, _*_, _<_, _≤_, _^_};
+ghost use Prim.Native.Nat.{ℕ, _+_, _-_, _*_, _<_, _≤_, _^_};
+ghost use mathlib.Core.List.{List};
 ghost use lib.ListN.{length};
 ghost use lib.Seq.{sets};
 ghost use Rattle.gate.specs.Gate.{Decides, padded};
 ghost use Rattle.text.specs.Bytes.{stretch};
 ghost use Rattle.names.specs.Name.{oneOf, isUmlaut, isVowel, isDecomposed, umlautOf, IsName, compose};
 ghost use Rattle.names.specs.Scan.{widthOf, partsEnd, nameEndAt, nameFits};
-ghost use Rattle.names.specs.Rows.{FirstLike};
+ghost use Rattle.names.specs.Rows.{HoldNames, FirstLike, FirstName};
 ghost use Rattle.names.specs.Row.{diaeresisAt, row, Stretches};
 
 // Where a name ends: the position of the LF behind it.
@@ -225,4 +226,16 @@ pub fn first_like(rows: &[u8], count: usize) -> usize
         l += 1;
     }
     count
+}
+
+// The letter whose name, in one of `count` rows, is that of a stretch after composing; `count` where there is none.
+// The row behind holds that stretch then.
+pub fn letter_of(rows: &mut [u8], count: usize, s: &[u8], start: usize, end: usize) -> usize
+    requires { ⌜ (count ≤ 8) × (24 * count + 24 ≤ length (now rows)) × Stretches (now s) start end × (end - start ≤ 24) ⌝ }
+    ensures { λ r. ⌜ (now (rows .exit) ≡ sets (now (rows .entry)) (24 * count) (padded 24 (compose (stretch (now (s .entry)) start end))))
+        × ((names : List (List ℕ)) → length names ≡ count → HoldNames names (now (rows .entry)) → IsName (stretch (now (s .entry)) start end)
+        → FirstName names (compose (stretch (now (s .entry)) start end)) r × HoldNames names (now (rows .exit))) ⌝ }
+{
+    compose_into(s, start, end, rows, 24 * count);
+    first_like(rows, count)
 }

@@ -1,5 +1,5 @@
 -- The other way round: the lines of a sheet's upper part are read through, and behind them its fault is met, or its end. Assumes nothing.
-use Prim.Native.Nat.{ℕ, suc, _+_, _-_, _*_, _≤_, _<_}
+use Prim.Native.Nat.{ℕ, suc, _+_, _-_, _≤_, _<_}
 use mathlib.Core.Path.{_≡_, refl, ap, _∙_}
 use mathlib.Core.List.{List, [], _++_, map}
 use lib.ListN.{length, drop, replicate, length-append, length-drop}
@@ -9,12 +9,12 @@ use native.Mathlib.Nat.{zero-add}
 use Rattle.names.specs.Name.{compose}
 use Rattle.format.specs.Format.{State, Sheet, headLine, nameLines, stateLines, transitionLines, endLine, FlagsRight, stateLine, leastAfter, mostSheet, FileIs, Above, NameDue, StateDue, lineDue, NameFault, EndFault, Faulty}
 use Rattle.format.specs.Numbers.{flagSet, tableOf}
-use Rattle.format.specs.FormatLaws.{head-length, states-length, transitions-length, lines-parted}
+use Rattle.format.specs.FormatLaws.{head-length, transitions-few, lines-parted}
 use Rattle.parser.specs.declared.Sizes.{Sizes}
 use Rattle.parser.specs.declared.Sets.{Sets}
 use Rattle.parser.specs.declared.StateLine.the-variants as S
 use Rattle.parser.specs.Parse.{stateLineAt, Named, namesAt, statesAt, transitionsAt, Contents, contents, afterHead, afterNames, afterStates, parse}
-use Rattle.parser.specs.Phase.{Phase, refused, passed, andThen}
+use Rattle.frame.specs.Phase.{Phase, refused, passed, andThen}
 use Rattle.text.specs.BytesLaws.{stretch-rest}
 use Rattle.parser.specs.HeadLaws.{head-right, head-range, head-form}
 use Rattle.parser.specs.NameLaws.{NamesAlong, names-along, names-fault}
@@ -87,12 +87,12 @@ module _ (s : List ℕ) (σ : Sheet) (rest : List ℕ) (above : Above s σ rest)
     -- behind the states
     abbrev states-here : ℕ → Phase Sets
     states-here todo =
-        statesAt s (2 + length (σ .names) + length (σ .states)) (along .behind + 11 * length (σ .states)) (0 + length (σ .states))
+        statesAt s (2 + length (σ .names) + length (σ .states)) (along .behind + length (stateLines 0 (σ .states))) (0 + length (σ .states))
         (0 + flagSet (λ z. z .initial) 0 (σ .states)) (0 + flagSet (λ z. z .recurring) 0 (σ .states)) todo
 
-    from-states : drop (along .behind + 11 * length (σ .states)) s ≡ behind-states
+    from-states : drop (along .behind + length (stateLines 0 (σ .states))) s ≡ behind-states
     unfolding behind-names
-    from-states = rw states-length at (stretch-rest s (along .behind) (stateLines 0 (σ .states)) behind-states (along .text))
+    from-states = stretch-rest s (along .behind) (stateLines 0 (σ .states)) behind-states (along .text)
 
     states-goes : (todo : ℕ) → length (σ .states) ≤ σ .n → statesAt s (named .line) (named .at) 0 0 0 (length (σ .states) + todo) ≡ states-here todo
     unfolding named behind-names
@@ -107,9 +107,9 @@ module _ (s : List ℕ) (σ : Sheet) (rest : List ℕ) (above : Above s σ rest)
         let m : ℕ = σ .n - suc (length (σ .states)) in
         let few : length (σ .states) < σ .n = due .states in
         let n : σ .n ≡ length (σ .states) + suc m = omega arith in
-        let t : drop (along .behind + 11 * length (σ .states)) s ≡ rest = from-states ∙ rw (due .transitions) in
-        let bad : stateLineAt s (along .behind + 11 * length (σ .states)) (0 + length (σ .states)) ≡ S.Bad =
-        state-none s (along .behind + 11 * length (σ .states)) (0 + length (σ .states)) (rw (t, zero-add) none) in
+        let t : drop (along .behind + length (stateLines 0 (σ .states))) s ≡ rest = from-states ∙ rw (due .transitions) in
+        let bad : stateLineAt s (along .behind + length (stateLines 0 (σ .states))) (0 + length (σ .states)) ≡ S.Bad =
+        state-none s (along .behind + length (stateLines 0 (σ .states))) (0 + length (σ .states)) (rw (t, zero-add) none) in
         let phase : statesAt s (named .line) (named .at) 0 0 0 (σ .n) ≡ refused 7 (2 + length (σ .names) + length (σ .states)) =
         ap (statesAt s (named .line) (named .at) 0 0 0) n ∙ (states-goes (suc m) (omega arith) ∙ simp bad) in
         let y : length (σ .transitions) ≡ 0 = ap length (due .transitions) in
@@ -121,7 +121,7 @@ module _ (s : List ℕ) (σ : Sheet) (rest : List ℕ) (above : Above s σ rest)
       sets = record {
         initial = 0 + flagSet (λ z. z .initial) 0 (σ .states);
         recurring = 0 + flagSet (λ z. z .recurring) 0 (σ .states);
-        at = along .behind + 11 * length (σ .states);
+        at = along .behind + length (stateLines 0 (σ .states));
         line = 2 + length (σ .names) + length (σ .states);
       }
 
@@ -134,11 +134,11 @@ module _ (s : List ℕ) (σ : Sheet) (rest : List ℕ) (above : Above s σ rest)
 
       -- behind the transitions
       end : ℕ
-      end = sets .at + 11 * length (σ .transitions)
+      end = sets .at + length (transitionLines (σ .transitions))
 
       from-end : drop end s ≡ rest
       unfolding end sets behind-states
-      from-end = rw transitions-length at (stretch-rest s (along .behind + 11 * length (σ .states)) (transitionLines (σ .transitions)) rest from-states)
+      from-end = stretch-rest s (along .behind + length (stateLines 0 (σ .states))) (transitionLines (σ .transitions)) rest from-states
 
       abbrev table : List ℕ
       table = tableOf (replicate 128 0) (σ .transitions)
@@ -146,23 +146,23 @@ module _ (s : List ℕ) (σ : Sheet) (rest : List ℕ) (above : Above s σ rest)
       abbrev transitions-here : ℕ → Phase (List ℕ)
       transitions-here fuel = transitionsAt s (σ .n) (σ .k) (lineDue σ) end (leastAfter 0 (σ .transitions)) table fuel
 
-      transitions-few : length (σ .transitions) ≤ length s
+      all-few : length (σ .transitions) ≤ length s
       unfolding sets behind-states
-      transitions-few =
-          let e : length (drop (along .behind + 11 * length (σ .states)) s) ≡ 11 * length (σ .transitions) + length rest =
-          ap length from-states ∙ simp (length-append, transitions-length) in
-          omega (arith, length-drop (along .behind + 11 * length (σ .states)) s)
+      all-few =
+          let e : length (drop (along .behind + length (stateLines 0 (σ .states))) s) ≡ length (transitionLines (σ .transitions)) + length rest =
+          ap length from-states ∙ length-append (transitionLines (σ .transitions)) rest in
+          omega (arith, length-drop (along .behind + length (stateLines 0 (σ .states))) s, transitions-few (σ .transitions))
 
       parse-transitions : parse s ≡ andThen (transitions-here (suc (length s - length (σ .transitions)))) (λ t. passed (contents sizes named sets t))
       unfolding sizes sets end behind-states
       parse-transitions =
-          let few = transitions-few in
+          let few = all-few in
           let n : σ .n ≤ 1000 = omega (arith, above .right .range .1) in
           let k : σ .k ≤ 1000 = omega (arith, above .right .range .3) in
           let f : length s + 1 ≡ length (σ .transitions) + suc (length s - length (σ .transitions)) = omega arith in
           let l : 2 + length (σ .names) + length (σ .states) + length (σ .transitions) ≡ lineDue σ = omega arith in
           let go = transitions-along s rest (σ .n) (σ .k) n k (σ .transitions) (suc (length s - length (σ .transitions)))
-          (2 + length (σ .names) + length (σ .states)) (along .behind + 11 * length (σ .states)) 0 (replicate 128 0) (above .right .transitions) from-states in
+          (2 + length (σ .names) + length (σ .states)) (along .behind + length (stateLines 0 (σ .states))) 0 (replicate 128 0) (above .right .transitions) from-states in
           let phase : transitionsAt s (σ .n) (σ .k) (sets .line) (sets .at) 0 (replicate 128 0) (length s + 1) ≡ transitions-here (suc (length s - length (σ .transitions))) =
           ap (transitionsAt s (σ .n) (σ .k) (sets .line) (sets .at) 0 (replicate 128 0)) f
           ∙ (go ∙ ap (λ (m : ℕ). transitionsAt s (σ .n) (σ .k) m end (leastAfter 0 (σ .transitions)) table (suc (length s - length (σ .transitions)))) l) in

@@ -8,8 +8,8 @@ use Rattle.automaton.specs.Graph.{InRange}
 use Rattle.format.specs.Format.{sheetWord, headLine, mostSheet, Faulty, head, range}
 use Rattle.parser.specs.declared.Sizes.{Sizes}
 use Rattle.parser.specs.Parse.{sizes, sheetBounds, headOf}
-use Rattle.parser.specs.Phase.{Phase, refused, passed}
-use Rattle.parser.specs.FirstLaws.{Kind, line-outcome, line-form, line-right, line-range}
+use Rattle.frame.specs.Phase.{Phase, refused, passed}
+use Rattle.frame.specs.FirstLaws.{Kind, line-outcome, line-form, line-right, line-range}
 
 abbrev sheetFirst : Kind
 sheetFirst = record {

@@ -1,10 +1,5 @@
-pub mod Phase
 pub mod Parse
 pub mod PhaseAnswers
-pub mod FieldLaws
-pub mod EndLaws
-pub mod LetterLaws
-pub mod FirstLaws
 pub mod HeadLaws
 pub mod NameLaws
 pub mod StateLaws
@@ -12,3 +7,6 @@ pub mod TransitionLaws
 pub mod ParseLaws
 pub mod CompleteLaws
 pub mod UniqueLaws
+pub mod StepLaws
+pub mod FileLaws
+pub mod Unfold

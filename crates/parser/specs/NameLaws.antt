@@ -22,10 +22,12 @@ use Rattle.names.specs.declared.Ending.the-variants as E
 use Rattle.format.specs.Format.{nameLine, nameLines, Distinct, NamesRight, NameFault, wrong-name, name-twice}
 use Rattle.format.specs.FormatLaws.{name-parted, name-behind, name-rest}
 use Rattle.parser.specs.Parse.{Named, nameLineAt, namesAt}
-use Rattle.parser.specs.Phase.{Phase, refused, passed, withEnding, letterOf}
+use Rattle.frame.specs.Phase.{Phase, refused, passed}
+use Rattle.names.specs.Scan.{withEnding}
+use Rattle.names.specs.Rows.{letterOf}
 use Rattle.lists.specs.AppendLaws.{length-more}
 use Rattle.text.specs.BytesLaws.{stretch-is}
-use Rattle.parser.specs.LetterLaws.{distinct-letter, letter-distinct}
+use Rattle.format.specs.DistinctLaws.{distinct-letter, letter-distinct}
 use Rattle.lists.specs.ChoiceLaws.{test-true}
 
 -- ONE LINE

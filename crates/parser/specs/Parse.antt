@@ -16,8 +16,10 @@ use Rattle.names.specs.declared.Ending.the-variants as E
 use Rattle.automaton.specs.Automaton.{Automaton}
 use Rattle.format.specs.Format.{Transition, sheetWord, mostSheet, place}
 use Rattle.format.specs.Numbers.{inserted}
-use Rattle.parser.specs.Phase.{Phase, refused, passed, andThen, firstPhase, withEnding, letterOf, endAt}
-use Rattle.parser.specs.declared.Bounds.{Bounds}
+use Rattle.frame.specs.Phase.{Phase, refused, passed, andThen, firstPhase, endAt}
+use Rattle.names.specs.Scan.{withEnding}
+use Rattle.names.specs.Rows.{letterOf}
+use Rattle.frame.specs.declared.Bounds.{Bounds}
 use Rattle.parser.specs.declared.Sizes.{Sizes}
 use Rattle.parser.specs.declared.Sets.{Sets}
 use Rattle.parser.specs.declared.StateLine.{StateLine}

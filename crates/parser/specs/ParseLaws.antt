@@ -17,7 +17,7 @@ use Rattle.format.specs.FormatLaws.{lines-parted}
 use Rattle.parser.specs.declared.Sizes.{Sizes}
 use Rattle.parser.specs.declared.Sets.{Sets}
 use Rattle.parser.specs.Parse.{headOf, Named, namesAt, statesAt, transitionsAt, Contents, contents, afterHead, afterNames, afterStates, parse}
-use Rattle.parser.specs.Phase.{Phase, refused, passed, andThen}
+use Rattle.frame.specs.Phase.{Phase, refused, passed, andThen}
 use Rattle.parser.specs.HeadLaws.{HeadOutcome, head-outcome}
 use Rattle.parser.specs.NameLaws.{NamesOutcome, NamesRefused, NamesPassed, names-outcome}
 use Rattle.parser.specs.StateLaws.{StatesOutcome, StatesRefused, StatesPassed, states-outcome}

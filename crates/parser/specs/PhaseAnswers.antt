@@ -7,10 +7,7 @@ use Rattle.gate.specs.Gate.{refusal, cleared}
 use Rattle.automaton.specs.declared.Numbers.{Numbers}
 use Rattle.automaton.specs.Automaton.{Automaton}
 use Rattle.automaton.specs.Graph.{InRange}
-use Rattle.parser.specs.declared.Bounds.{Bounds}
 use Rattle.parser.specs.declared.Sets.{Sets}
-use Rattle.parser.specs.declared.First.{First}
-use Rattle.parser.specs.declared.First.the-variants as R
 use Rattle.parser.specs.declared.File.{File}
 use Rattle.parser.specs.declared.File.the-variants as F
 use Rattle.parser.specs.declared.Names.{Names}
@@ -21,26 +18,12 @@ use Rattle.parser.specs.declared.States.{States}
 use Rattle.parser.specs.declared.States.the-variants as Q
 use Rattle.parser.specs.declared.TransitionLine.{TransitionLine}
 use Rattle.parser.specs.declared.TransitionLine.the-variants as T
-use Rattle.parser.specs.declared.End.{End}
-use Rattle.parser.specs.declared.End.the-variants as E
+use Rattle.frame.specs.declared.End.{End}
+use Rattle.frame.specs.declared.End.the-variants as E
 use Rattle.parser.specs.Parse.{Named, Contents}
-use Rattle.parser.specs.Phase.{Phase, refused, passed}
+use Rattle.frame.specs.Phase.{Phase, refused, passed}
 use Rattle.names.specs.Rows.{HoldNames}
 use Rattle.automaton.specs.Lent.{lentTable}
-
--- a first line
-abbrev pub firstAnswer : Phase (ℕ × ℕ) → First
-firstAnswer (refused number line) = R.Refused (refusal number line)
-firstAnswer (passed (a, b)) = R.Are a b
-
--- two numbers are within bounds
-abbrev pub WithinBounds : Bounds → ℕ → ℕ → Type 0
-WithinBounds β a b = (β .least ≤ a) × (a ≤ β .most) × (β .low ≤ b) × (b ≤ β .high)
-
--- the numbers of a first line that is read are within its bounds
-abbrev pub FirstFits : Bounds → First → Type 0
-FirstFits β (R.Refused r) = Unit
-FirstFits β (R.Are a b) = WithinBounds β a b
 
 -- the answer of k name lines, and the rows, which were `old` and are `rows` then: all zero, or the names, and behind them what was there
 abbrev pub NamesRead : ℕ → Phase Named → List ℕ → List ℕ → Names → Type 0
@@ -68,11 +51,6 @@ SetsFit (Q.Are q) = (q .line ≤ 26) × (q .at ≤ 500)
 abbrev pub TransitionFits : TransitionLine → Type 0
 TransitionFits (T.Is from letter to) = (from < 16) × (letter < 8) × (to < 16)
 TransitionFits T.Bad = Unit
-
--- the last line
-abbrev pub endAnswer : Phase (List ℕ) → End
-endAnswer (refused number line) = E.Refused (refusal number line)
-endAnswer (passed done) = E.Reached
 
 -- the answer of the transition lines, and the table, which was t and is u then: all zero, or their sets, and behind them what was there
 abbrev pub FillsTable : Phase (List ℕ) → List ℕ → List ℕ → End → Type 0

@@ -7,22 +7,20 @@ use lib.ListN.{length, drop}
 use native.Mathlib.Omega.{arith}
 use native.Mathlib.Numerals.{add-one}
 use native.Mathlib.Nat.{zero-add, add-zero, suc-add}
-use Rattle.text.specs.Column.{column}
 use Rattle.text.specs.Number.{isNumbered, isBetween}
 use Rattle.format.specs.Format.{State, stateLine, stateLines, FlagsRight, StatesRight}
 use Rattle.format.specs.Numbers.{flagSet}
-use Rattle.format.specs.FormatLaws.{state-length}
+use Rattle.format.specs.FormatLaws.{state-length, state-behind}
 use Rattle.parser.specs.declared.Sets.{Sets}
 use Rattle.parser.specs.declared.StateLine.{StateLine}
 use Rattle.parser.specs.declared.StateLine.the-variants as S
 use Rattle.parser.specs.Parse.{withFlags, stateLineAt, statesAt}
-use Rattle.parser.specs.Phase.{Phase, refused, passed}
+use Rattle.frame.specs.Phase.{Phase, refused, passed}
 use Rattle.text.specs.BytesLaws.{stretch-rest}
 use Rattle.text.specs.Pair.{pairAt}
 use Rattle.lists.specs.ChoiceLaws.{test-true}
-use Rattle.text.specs.NumberLaws.{between-is, between-of}
-use Rattle.text.specs.PairLaws.{some-pair}
-use Rattle.parser.specs.FieldLaws.{fields-of, fields-is}
+use Rattle.text.specs.NumberLaws.{numbered-by, numbered-parts, between-is, between-of}
+use Rattle.text.specs.PairLaws.{some-pair, three-of, three-is}
 
 abbrev flags : ℕ → ℕ → State
 flags i r = record { initial = i; recurring = r }
@@ -34,13 +32,13 @@ bad-is-not i r e = let z : _≡_ {A = ℕ} 0 1 = cc in omega arith
 
 module _ (s : List ℕ) (at q : ℕ) where
   pub state-line-of : (z : State) (rest : List ℕ) → q < 1000 → FlagsRight z → drop at s ≡ stateLine q z ++ rest → stateLineAt s at q ≡ S.Is (z .initial) (z .recurring)
-  unfolding stateLineAt stateLine column
+  unfolding stateLineAt stateLine
   state-line-of z rest hq h e =
-      let f = fields-of s at 83 q (z .initial) (z .recurring) rest hq (omega arith) (omega arith) e in
-      simp (f .opening, f .two, between-of (z .initial) (z .recurring) {least = 0} {most = 1} {least′ = 0} {most′ = 1} (omega arith, h .0, omega arith, h .1))
+      let (first, one, two) = three-of s at 83 q (z .initial) (z .recurring) rest (hq, (omega arith, (omega arith, tt))) e in
+      simp (numbered-by s at 83 q first one, two, between-of (z .initial) (z .recurring) {least = 0} {most = 1} {least′ = 0} {most′ = 1} (omega arith, h .0, omega arith, h .1))
 
   state-line-is : (i r : ℕ) → stateLineAt s at q ≡ S.Is i r → FlagsRight (flags i r) × (drop at s ≡ stateLine q (flags i r) ++ drop (at + 11) s)
-  unfolding stateLineAt stateLine column
+  unfolding stateLineAt stateLine
   state-line-is i r e =
       let n = bad-is-not i r in
       let e1 = test-true n (isNumbered s at 83 q) _ e in
@@ -50,7 +48,8 @@ module _ (s : List ℕ) (at q : ℕ) where
       let a : e2 .0 ≡ i = cc in
       let b : e2 .1 ≡ r = cc in
       let h = between-is (e2 .0) (e2 .1) {least = 0} {most = 1} {least′ = 0} {most′ = 1} (e3 .0) in
-      ((omega arith, omega arith), fields-is s at 83 q i r (omega arith) (record { opening = e1 .0; two = e2 .2 ∙ rw (a, b) }))
+      let (first, one) = numbered-parts s at 83 q (e1 .0) in
+      ((omega arith, omega arith), three-is s at 83 q i r refl first one (e2 .2 ∙ rw (a, b)))
 
 -- THE PHASE, from state q on: the states of the lines that it read
 
@@ -163,7 +162,7 @@ state-none s at q none = by (stateLineAt s at q) refl
 pub states-along :
     (s rest : List ℕ) (zs : List State) (todo line at q initial recurring : ℕ) → q + length zs ≤ 1000 → StatesRight zs → drop at s ≡ stateLines q zs ++ rest →
     statesAt s line at q initial recurring (length zs + todo) ≡
-    statesAt s (line + length zs) (at + 11 * length zs) (q + length zs) (initial + flagSet (λ z. z .initial) q zs) (recurring + flagSet (λ z. z .recurring) q zs) todo
+    statesAt s (line + length zs) (at + length (stateLines q zs)) (q + length zs) (initial + flagSet (λ z. z .initial) q zs) (recurring + flagSet (λ z. z .recurring) q zs) todo
 unfolding statesAt stateLines flagSet
 states-along s rest [] todo line at q initial recurring h f e =
     simp (zero-add, add-zero)
@@ -172,10 +171,10 @@ states-along s rest (z ∷ zs) todo line at q initial recurring h f e =
     let w : stateLineAt s at q ≡ S.Is (z .initial) (z .recurring) = state-line-of s at q z (stateLines (suc q) zs ++ rest) (omega arith) (f .0) e1 in
     let e2 : drop (at + 11) s ≡ stateLines (q + 1) zs ++ rest = rw (state-length, ← add-one q) at (stretch-rest s at (stateLine q z) (stateLines (suc q) zs ++ rest) e1) in
     let go = states-along s rest zs todo (line + 1) (at + 11) (q + 1) (initial + z .initial * 2 ^ q) (recurring + z .recurring * 2 ^ q) (omega arith) (f .1) e2 in
-    let a1 : line + 1 + length zs ≡ line + suc (length zs) = omega arith in
-    let a2 : at + 11 + 11 * length zs ≡ at + 11 * suc (length zs) = omega arith in
-    let a3 : q + 1 + length zs ≡ q + suc (length zs) = omega arith in
-    let a4 : q + 1 ≡ suc q = omega arith in
+    let a1 : q + 1 ≡ suc q = omega arith in
+    let a2 : line + 1 + length zs ≡ line + suc (length zs) = omega arith in
+    let a3 = state-behind at q z zs in
+    let a4 : suc q + length zs ≡ q + suc (length zs) = omega arith in
     let a5 : initial + z .initial * 2 ^ q + flagSet (λ y. y .initial) (suc q) zs ≡ initial + (z .initial * 2 ^ q + flagSet (λ y. y .initial) (suc q) zs) = omega arith in
     let a6 : recurring + z .recurring * 2 ^ q + flagSet (λ y. y .recurring) (suc q) zs ≡ recurring + (z .recurring * 2 ^ q + flagSet (λ y. y .recurring) (suc q) zs) = omega arith in
     rw suc-add (simp w (go ∙ (rw (a1, a2, a3, a4, a5, a6))))

@@ -1,6 +1,6 @@
 -- The transition lines and END: the phase that reads them passes or refuses as Format says, by induction along the lines.
 -- Fuel never runs out before the file does. Assumes nothing.
-use Prim.Native.Nat.{ℕ, zero, suc, _+_, _*_, _≤_}
+use Prim.Native.Nat.{ℕ, zero, suc, _+_, _≤_}
 use mathlib.Core.Path.{_≡_, refl, sym, ap, subst, _∙_}
 use mathlib.Core.Bool.{Bool, true, false, and-eq-true-iff}
 use mathlib.Core.List.{List, [], _∷_, _++_, append-assoc}
@@ -11,25 +11,24 @@ use native.Mathlib.Omega.{arith}
 use native.Mathlib.Numerals.{add-one}
 use native.Mathlib.Nat.{zero-add, add-zero, suc-add}
 use Rattle.lists.specs.Choice.{choose}
-use Rattle.text.specs.Column.{column}
 use Rattle.text.specs.Number.{numberAt}
 use Rattle.text.specs.declared.Number.the-variants as N
 use Rattle.format.specs.Format.{Transition, transitionLine, transitionLines, endLine, place, TransitionRight, TransitionsRight, leastAfter, EndFault, wrong-transition, no-end, not-last}
 use Rattle.format.specs.Numbers.{inserted, tableOf}
-use Rattle.format.specs.FormatLaws.{transition-length}
+use Rattle.format.specs.FormatLaws.{transition-length, transition-behind}
 use Rattle.format.specs.NumbersLaws.{transition}
 use Rattle.parser.specs.declared.TransitionLine.{TransitionLine}
 use Rattle.parser.specs.declared.TransitionLine.the-variants as T
 use Rattle.parser.specs.Parse.{withTransition, transitionOf, transitionLineAt, transitionsAt}
-use Rattle.parser.specs.Phase.{Phase, refused, passed, endAt}
+use Rattle.frame.specs.Phase.{Phase, refused, passed, endAt}
 use Rattle.text.specs.BytesLaws.{stretch-rest}
+use Rattle.text.specs.Line.{Narrow}
 use Rattle.text.specs.Pair.{pairAt}
 use Rattle.lists.specs.ChoiceLaws.{test-true}
-use Rattle.text.specs.NumberLaws.{some-number, numbered-by, numbered-parts}
-use Rattle.text.specs.PairLaws.{some-pair}
+use Rattle.text.specs.NumberLaws.{some-number}
+use Rattle.text.specs.PairLaws.{some-pair, three-of, three-is}
 use Rattle.text.specs.WordLaws.{first-byte}
-use Rattle.parser.specs.FieldLaws.{Fields, fields-of, fields-is}
-use Rattle.parser.specs.EndLaws.{end-outcome, end-read, end-missing, end-behind}
+use Rattle.frame.specs.EndLaws.{end-outcome, end-read, end-missing, end-behind}
 
 -- ONE LINE
 
@@ -63,22 +62,21 @@ module _ (n k least : ℕ) where
   module _ (s : List ℕ) (at : ℕ) where
     pub transition-line-of : (t : Transition) (rest : List ℕ) → n ≤ 1000 → k ≤ 1000 → TransitionRight n k least t → drop at s ≡ transitionLine t ++ rest →
         (getD s at 0 ≡ 84) × (transitionLineAt s at n k least ≡ T.Is (t .from) (t .letter) (t .to))
-    unfolding transitionLineAt transitionLine column
+    unfolding transitionLineAt transitionLine
     transition-line-of t rest hn hk h e =
-        let f = fields-of s at 84 (t .from) (t .letter) (t .to) rest (omega (arith, h .from)) (omega (arith, h .letter)) (omega (arith, h .to)) e in
-        let (first, one) = numbered-parts s at 84 (t .from) (f .opening) in
-        (first, simp (one, f .two) (right-of t h))
+        let narrow : Narrow (t .from ∷ t .letter ∷ t .to ∷ []) = (omega (arith, h .from), (omega (arith, h .letter), (omega (arith, h .to), tt))) in
+        let (first, one, two) = three-of s at 84 (t .from) (t .letter) (t .to) rest narrow e in
+        (first, simp (one, two) (right-of t h))
 
     transition-line-is : (f l t : ℕ) → getD s at 0 ≡ 84 → transitionLineAt s at n k least ≡ T.Is f l t →
         TransitionRight n k least (transition f l t) × (drop at s ≡ transitionLine (transition f l t) ++ drop (at + 11) s)
-    unfolding transitionLineAt transitionLine column
+    unfolding transitionLineAt transitionLine
     transition-line-is f l t first e =
         let no-bad = bad-is-not f l t in
         let e1 = some-number no-bad (numberAt s (at + 1)) _ e in
         let e2 = some-pair no-bad (pairAt s (at + 4)) _ (e1 .2) in
         let h = right-is (e1 .0) (e2 .0) (e2 .1) f l t (e2 .3) in
-        let g : Fields s at 84 f l t = record { opening = numbered-by s at 84 f first (e1 .1 ∙ ap N.Is (h .1)); two = e2 .2 ∙ rw (h .2, h .3) } in
-        (h .0, fields-is s at 84 f l t (omega arith) g)
+        (h .0, three-is s at 84 f l t refl first (e1 .1 ∙ ap N.Is (h .1)) (e2 .2 ∙ rw (h .2, h .3)))
 
 -- THE PHASE: the transitions of the lines that it read
 
@@ -161,7 +159,7 @@ pub transitions-along :
     (s rest : List ℕ) (n k : ℕ) → n ≤ 1000 → k ≤ 1000 → (ts : List Transition) (fuel line at least : ℕ) (table : List ℕ) →
     TransitionsRight n k least ts → drop at s ≡ transitionLines ts ++ rest →
     transitionsAt s n k line at least table (length ts + fuel) ≡
-    transitionsAt s n k (line + length ts) (at + 11 * length ts) (leastAfter least ts) (tableOf table ts) fuel
+    transitionsAt s n k (line + length ts) (at + length (transitionLines ts)) (leastAfter least ts) (tableOf table ts) fuel
 unfolding transitionsAt transitionLines tableOf
 transitions-along s rest n k hn hk [] fuel line at least table h e = simp (zero-add, add-zero)
 transitions-along s rest n k hn hk (t ∷ ts) fuel line at least table h e =
@@ -170,7 +168,7 @@ transitions-along s rest n k hn hk (t ∷ ts) fuel line at least table h e =
     let e2 : drop (at + 11) s ≡ transitionLines ts ++ rest = rw transition-length at (stretch-rest s at (transitionLine t) (transitionLines ts ++ rest) e1) in
     let go = transitions-along s rest n k hn hk ts fuel (line + 1) (at + 11) (place t + 1) (inserted table t) (h .1) e2 in
     let a1 : line + 1 + length ts ≡ line + suc (length ts) = omega arith in
-    let a2 : at + 11 + 11 * length ts ≡ at + 11 * suc (length ts) = omega arith in
+    let a2 = transition-behind at t ts in
     rw suc-add (simp (eq-eqb _ _ (w .0), w .1) (go ∙ rw (a1, a2)))
 
 module _ (s : List ℕ) (n k fuel line at least : ℕ) (table : List ℕ) where

@@ -17,7 +17,7 @@ use Rattle.parser.specs.declared.Sizes.{Sizes}
 use Rattle.parser.specs.declared.StateLine.the-variants as S
 use Rattle.parser.specs.declared.TransitionLine.the-variants as T
 use Rattle.parser.specs.Parse.{sizes, headOf, stateLineAt, transitionLineAt, Contents, parse}
-use Rattle.parser.specs.Phase.{Phase, refused, passed}
+use Rattle.frame.specs.Phase.{Phase, refused, passed}
 use Rattle.parser.specs.HeadLaws.{head-right}
 use Rattle.parser.specs.NameLaws.{name-line-of}
 use Rattle.parser.specs.StateLaws.{state-line-of}

@@ -1,38 +1,20 @@
-// The lines of a sheet file, read from the top: questions 2 to 9; the first and the last line also of a plan.
-pub mod first_line;
-pub mod last_line;
+// The lines of a sheet file, read from the top: questions 2 to 9.
 mod name_lines;
 mod state_lines;
 mod transition_lines;
 pub mod whole_file;
 
 use automaton::Numbers;
+use frame::Place;
 use gate::Refusal;
 
-// What the two numbers of a first line may be: the first from `least` to `most`, the second from `low` to `high`.
-pub struct Bounds {
-    pub least: usize,
-    pub most: usize,
-    pub low: usize,
-    pub high: usize,
-}
-
-// The answer of a first line, of a sheet or of a plan.
-pub enum First {
-    Refused(Refusal),
-    Are(usize, usize),
-}
+// The most bytes that a sheet may have.
+pub const MOST: usize = 24576;
 
 // n and k of a sheet.
 pub struct Sizes {
     pub n: usize,
     pub k: usize,
-}
-
-// The next line's position and number.
-pub struct Place {
-    pub at: usize,
-    pub line: usize,
 }
 
 // The answer of the name lines.
@@ -65,12 +47,6 @@ pub enum States {
 pub enum TransitionLine {
     Is(usize, usize, usize),
     Bad,
-}
-
-// The answer of a sheet's transition lines and END, and of a plan's END.
-pub enum End {
-    Refused(Refusal),
-    Reached,
 }
 
 // The answer of a whole file on the questions 2 to 9.

@@ -7,7 +7,7 @@ ghost use Rattle.names.specs.Scan.{nameFits};
 ghost use Rattle.parser.specs.Parse.{nameLineAt, namesAt};
 ghost use Rattle.parser.specs.PhaseAnswers.{NamesRead};
 use super::Names;
-use super::Place;
+use frame::Place;
 use gate::Refusal;
 use names::Ending;
 

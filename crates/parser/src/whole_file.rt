@@ -7,19 +7,20 @@ ghost use Rattle.automaton.specs.Graph.{InRange};
 ghost use Rattle.format.specs.Format.{mostSheet};
 ghost use Rattle.parser.specs.Parse.{Named, parse, afterNames};
 ghost use Rattle.parser.specs.PhaseAnswers.{NumbersRead, FileRead};
-use super::Bounds;
-use super::End;
 use super::File;
-use super::First;
+use super::MOST;
 use super::Names;
-use super::Place;
 use super::Sizes;
 use super::States;
-use super::first_line::first_line;
 use super::name_lines::read_names;
 use super::state_lines::read_states;
 use super::transition_lines::read_transitions;
 use automaton::Numbers;
+use frame::Bounds;
+use frame::End;
+use frame::First;
+use frame::Place;
+use frame::first_line;
 use gate::Refusal;
 
 // The state lines and what follows, behind the name lines. A refusal leaves the table all zero.
@@ -52,7 +53,7 @@ pub fn read_file(s: &[u8], table: &mut [u16], rows: &mut [u8]) -> File
     ensures { λ r. ⌜ FileRead (parse (now (s .entry))) (now (table .entry)) (now (table .exit)) (now (rows .entry)) (now (rows .exit)) r ⌝ }
 {
     gate::clear_bytes(rows);
-    if 24576 < s.len() {
+    if MOST < s.len() {
         return File::Refused(Refusal {
             number: 2,
             line: 0,

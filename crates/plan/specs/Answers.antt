@@ -4,9 +4,9 @@ use mathlib.Core.Path.{_≡_}
 use mathlib.Core.List.{List, _++_}
 use lib.ListN.{drop}
 use Rattle.gate.specs.Gate.{refusal, cleared}
-use Rattle.parser.specs.Phase.{Phase, refused, passed}
-use Rattle.parser.specs.declared.End.{End}
-use Rattle.parser.specs.declared.End.the-variants as E
+use Rattle.frame.specs.Phase.{Phase, refused, passed}
+use Rattle.frame.specs.declared.End.{End}
+use Rattle.frame.specs.declared.End.the-variants as E
 use Rattle.plan.specs.declared.Lengths.{Lengths}
 use Rattle.plan.specs.declared.LetterLine.{LetterLine}
 use Rattle.plan.specs.declared.LetterLine.the-variants as L

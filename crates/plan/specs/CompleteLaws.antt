@@ -2,16 +2,16 @@
 -- reading is a plan's letters exactly if the file is that plan, and a refusal exactly if the file has that fault. Assumes nothing.
 use Prim.Native.Nat.{ℕ, suc, _+_, _-_, _<_}
 use mathlib.Core.Path.{_≡_, refl, sym, ap, subst, _∙_}
-use mathlib.Core.List.{List, [], _++_, map}
+use mathlib.Core.List.{List, [], _∷_, _++_, map}
 use lib.ListN.{length, take, drop, length-append}
 use lib.Seq.{take-append-seam, drop-append-seam}
 use native.Mathlib.Omega.{arith}
 use Rattle.text.specs.BytesLaws.{stretch-rest}
-use Rattle.text.specs.PairLaws.{first-length}
+use Rattle.text.specs.LineLaws.{numbers-length}
 use Rattle.names.specs.Name.{compose}
 use Rattle.format.specs.Format.{Sheet, NamesRight, endLine}
-use Rattle.parser.specs.Phase.{refused, passed, andThen}
-use Rattle.parser.specs.EndLaws.{end-missing, end-behind, end-read}
+use Rattle.frame.specs.Phase.{refused, passed, andThen}
+use Rattle.frame.specs.EndLaws.{end-missing, end-behind, end-read}
 use Rattle.plan.specs.Plan.{planWord, planHead, nameLines, PlanIs, Above, NameFault, Faulty}
 use Rattle.plan.specs.Parse.{lengths, lettered, lettersAt, endOf, contents, afterHead, planOf}
 use Rattle.plan.specs.HeadLaws.{head-right, head-range, head-form}
@@ -20,7 +20,7 @@ use Rattle.plan.specs.KnownLaws.{known-length}
 
 head-length : (lead cycle : ℕ) → length (planHead lead cycle) ≡ 11
 unfolding planHead
-head-length lead cycle = first-length planWord lead cycle
+head-length lead cycle = numbers-length planWord (lead ∷ cycle ∷ [])
 
 module _ (σ : Sheet) (all : length (σ .names) ≡ σ .k) (right : NamesRight [] (σ .names)) where
   abbrev composed : List (List ℕ)

@@ -5,8 +5,8 @@ use mathlib.Core.List.{List, _++_}
 use lib.ListN.{drop}
 use native.Mathlib.Omega.{arith}
 use Rattle.format.specs.Format.{Sheet}
-use Rattle.parser.specs.Phase.{Phase, refused, passed}
-use Rattle.parser.specs.FirstLaws.{Kind, line-outcome, line-form, line-right, line-range}
+use Rattle.frame.specs.Phase.{Phase, refused, passed}
+use Rattle.frame.specs.FirstLaws.{Kind, line-outcome, line-form, line-right, line-range}
 use Rattle.plan.specs.declared.Lengths.{Lengths}
 use Rattle.plan.specs.Plan.{planWord, planHead, LengthsRight, Faulty}
 use Rattle.plan.specs.Parse.{lengths, planBounds, headOf}

@@ -8,8 +8,9 @@ use Rattle.names.specs.Name.{IsName, compose}
 use Rattle.format.specs.Format.{Sheet, NamesRight}
 use Rattle.sheet.specs.Letters.{StandsFor}
 use Rattle.sheet.specs.LettersLaws.{stands-for, stands-none}
-use Rattle.parser.specs.Phase.{letterOf}
-use Rattle.parser.specs.LetterLaws.{letter-first, letter-is, composed-at, distinct-at}
+use Rattle.names.specs.Rows.{letterOf}
+use Rattle.names.specs.LetterLaws.{letter-first, letter-is, composed-at}
+use Rattle.format.specs.DistinctLaws.{distinct-at}
 use Rattle.plan.specs.Plan.{Known, none, more}
 
 -- names that are right are distinct after composing, by their letters

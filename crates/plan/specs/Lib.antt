@@ -1,6 +1,4 @@
 pub mod Plan
-pub mod Letter
-pub mod LetterLaws
 pub mod Parse
 pub mod Answers
 pub mod Read
@@ -10,3 +8,5 @@ pub mod LineLaws
 pub mod ParseLaws
 pub mod CompleteLaws
 pub mod ReadLaws
+pub mod StepLaws
+pub mod Unfold

@@ -20,7 +20,9 @@ use Rattle.names.specs.declared.Ending.{Ending}
 use Rattle.names.specs.declared.Ending.the-variants as E
 use Rattle.format.specs.Format.{Sheet, NamesRight}
 use Rattle.sheet.specs.Letters.{StandsFor}
-use Rattle.parser.specs.Phase.{Phase, refused, passed, withEnding, letterOf}
+use Rattle.frame.specs.Phase.{Phase, refused, passed}
+use Rattle.names.specs.Scan.{withEnding}
+use Rattle.names.specs.Rows.{letterOf}
 use Rattle.plan.specs.Plan.{nameLines, Known, none, more, NameFault, wrong-name, unknown-name}
 use Rattle.plan.specs.declared.LetterLine.{LetterLine}
 use Rattle.plan.specs.declared.LetterLine.the-variants as L

@@ -9,8 +9,10 @@ use Rattle.text.specs.Bytes.{stretch}
 use Rattle.names.specs.Name.{compose}
 use Rattle.names.specs.Scan.{nameEndAt}
 use Rattle.text.specs.Pair.{wordAndPair}
-use Rattle.parser.specs.declared.Bounds.{Bounds}
-use Rattle.parser.specs.Phase.{Phase, refused, passed, andThen, firstPhase, withEnding, letterOf, endAt}
+use Rattle.frame.specs.declared.Bounds.{Bounds}
+use Rattle.frame.specs.Phase.{Phase, refused, passed, andThen, firstPhase, endAt}
+use Rattle.names.specs.Scan.{withEnding}
+use Rattle.names.specs.Rows.{letterOf}
 use Rattle.plan.specs.declared.Lengths.{Lengths}
 use Rattle.plan.specs.declared.LetterLine.{LetterLine}
 use Rattle.plan.specs.declared.LetterLine.the-variants as L

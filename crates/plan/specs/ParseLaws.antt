@@ -6,8 +6,8 @@ use lib.ListN.{length, take, drop, length-take, length-drop, take-append-drop}
 use native.Mathlib.Omega.{arith}
 use Rattle.names.specs.Name.{compose}
 use Rattle.format.specs.Format.{Sheet, endLine}
-use Rattle.parser.specs.Phase.{Phase, refused, passed, andThen}
-use Rattle.parser.specs.EndLaws.{end-outcome}
+use Rattle.frame.specs.Phase.{Phase, refused, passed, andThen}
+use Rattle.frame.specs.EndLaws.{end-outcome}
 use Rattle.plan.specs.declared.Lengths.{Lengths}
 use Rattle.plan.specs.Plan.{planHead, nameLines, mostPlan, LengthsRight, Known, PlanIs, Above, Faulty}
 use Rattle.plan.specs.Parse.{Lettered, lettersAt, endOf, Contents, contents, headOf, afterHead, planOf}

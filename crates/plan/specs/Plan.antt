@@ -4,7 +4,7 @@ use mathlib.Core.Path.{_≡_}
 use mathlib.Core.List.{List, [], _∷_, _++_}
 use lib.ListN.{length}
 use Rattle.text.specs.Bytes.{lf}
-use Rattle.text.specs.Pair.{firstLine}
+use Rattle.text.specs.Line.{numbersLine}
 use Rattle.names.specs.Name.{IsName}
 use Rattle.format.specs.Format.{Sheet, endLine}
 use Rattle.sheet.specs.Letters.{StandsFor}
@@ -16,7 +16,7 @@ abbrev pub planWord : List ℕ
 planWord = 80 ∷ 76 ∷ 65 ∷ 78 ∷ []
 
 unfoldable pub planHead : ℕ → ℕ → List ℕ
-planHead lead cycle = firstLine planWord lead cycle
+planHead lead cycle = numbersLine planWord (lead ∷ cycle ∷ [])
 
 -- "one name a line, lead-in first"
 unfoldable pub nameLines : List (List ℕ) → List ℕ

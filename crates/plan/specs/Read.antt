@@ -1,21 +1,13 @@
 -- What reading a plan file answers, and what the lent buffer holds then.
 use Prim.Native.Nat.{ℕ, _+_}
 use mathlib.Core.Path.{_≡_}
-use mathlib.Core.List.{List, _++_, map}
+use mathlib.Core.List.{List, _++_}
 use lib.ListN.{length, drop}
 use Rattle.gate.specs.Gate.{RefusedBy, cleared}
-use Rattle.names.specs.Name.{compose}
 use Rattle.format.specs.Format.{Sheet}
-use Rattle.names.specs.Rows.{HoldNames}
 use Rattle.plan.specs.declared.Planned.{Planned}
 use Rattle.plan.specs.declared.Planned.the-variants.{Refused, Is}
 use Rattle.plan.specs.Plan.{PlanIs, Faulty}
-
--- the rows hold the composed names of the k letters of a sheet
-pub record NamesIn (σ : Sheet) (k : ℕ) (rows : List ℕ) : Type 0 where
-  pub letters : σ .k ≡ k
-  pub all-names : length (σ .names) ≡ k
-  pub holds : HoldNames (map compose (σ .names)) rows
 
 -- QUESTIONS 12 TO 14 on a plan file over the sheet σ. The buffer was t and is u then: all zero, or the lead-in's letters, the cycle's, and
 -- behind them what was there.

@@ -6,7 +6,7 @@ use lib.ListN.{length, drop, length-take, length-drop, take-append-drop}
 use native.Mathlib.Omega.{arith}
 use Rattle.names.specs.Name.{compose}
 use Rattle.format.specs.Format.{Sheet}
-use Rattle.parser.specs.Phase.{Phase, refused, passed}
+use Rattle.frame.specs.Phase.{Phase, refused, passed}
 use Rattle.plan.specs.declared.Planned.{Planned}
 use Rattle.plan.specs.declared.Planned.the-variants.{Refused, Is}
 use Rattle.plan.specs.Plan.{mostPlan}

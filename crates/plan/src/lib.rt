@@ -2,8 +2,11 @@
 mod name_lines;
 pub mod whole_file;
 
+use frame::Place;
 use gate::Refusal;
-use parser::Place;
+
+// The most bytes that a plan may have.
+pub const MOST: usize = 12288;
 
 // How many letters a plan's lead-in and cycle have.
 pub struct Lengths {

@@ -9,10 +9,10 @@ ghost use Rattle.plan.specs.Parse.{letterLineAt, lettersAt};
 ghost use Rattle.plan.specs.Answers.{LineFits, LettersRead, PlaceFits};
 use super::LetterLine;
 use super::Letters;
+use frame::Place;
 use gate::Refusal;
 use names::Ending;
-use parser::Place;
-use sheet::letters::letter_of;
+use names::letter_of;
 
 // The line at `at`. Where the first k rows hold the composed names of k letters, they hold them still; the line's own name goes into row k,
 // and no other byte of the rows changes, whatever they hold.

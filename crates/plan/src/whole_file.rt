@@ -5,16 +5,17 @@ ghost use Rattle.names.specs.Rows.{OnlyRow};
 ghost use Rattle.format.specs.Format.{Sheet};
 ghost use Rattle.plan.specs.Plan.{mostPlan};
 ghost use Rattle.plan.specs.Answers.{LengthsFit};
-ghost use Rattle.plan.specs.Read.{NamesIn, Reads};
+ghost use Rattle.sheet.specs.Answers.{NamesIn};
+ghost use Rattle.plan.specs.Read.{Reads};
 use super::Lengths;
 use super::Letters;
 use super::Planned;
 use super::name_lines::read_letters;
-use parser::Bounds;
-use parser::End;
-use parser::First;
-use parser::first_line::first_line;
-use parser::last_line::end_line;
+use frame::Bounds;
+use frame::End;
+use frame::First;
+use frame::end_line;
+use frame::first_line;
 
 // The plan, over the letters whose composed names the first k rows hold: they hold them still. Only row k is written, whatever the rows
 // hold. A refusal leaves the letters all zero.

@@ -64,12 +64,12 @@ cells-most : (table : List ℕ) (count : ℕ) → length (spacedCells table coun
 cells-most table count = pieces-most (λ i. spaced (getD table i 0)) 3 (λ i. spaced-most (getD table i 0)) 0 count
 
 module _ (name table : List ℕ) (count : ℕ) where
-  pub line-length : length (cellsLine name table count) ≡ length name + (length (spacedCells table count) + 1)
+  pub cells-line-length : length (cellsLine name table count) ≡ length name + (length (spacedCells table count) + 1)
   unfolding cellsLine
-  line-length = simp length-append
+  cells-line-length = simp length-append
 
   line-most : length (cellsLine name table count) ≤ length name + (count * 3 + 1)
-  line-most = omega (arith, line-length, cells-most table count)
+  line-most = omega (arith, cells-line-length, cells-most table count)
 
 module _ (w : Tables) (t : ℕ) where
   -- its three lines

@@ -8,7 +8,7 @@ use lib.ListN.{length, getD, set, replicate, length-set, length-replicate}
 use lib.Seq.{getD-set-same, getD-set-other, sets, length-sets}
 use Rattle.gate.specs.GateLaws.{zeros}
 use Rattle.lists.specs.StoreLaws.{part-stored, part-kept}
-use Rattle.rows.specs.Rows.{rowAt, digestOf, Index, Indexed, Sought, Found, Added}
+use Rattle.rows.specs.Rows.{rowAt, digestOf, Index, Indexed, Sought, Found, Added, FoundOrAdded}
 
 -- Place p of the walk: one more than a row with digest h, or 0. No row that is looked for stands at p or behind.
 pub record ChainWalk (table : List ℕ) (m : ℕ) (row : List ℕ) (h p : ℕ) : Type 0 where
@@ -166,3 +166,19 @@ module _ {table : List ℕ} {m : ℕ} {row : List ℕ} {h : ℕ} {head link : Li
               (omega arith) (omega arith);
         };
       }
+
+-- The number of a row, found or added
+
+module _ {table : List ℕ} {m : ℕ} {row : List ℕ} {r : ℕ} (f : Found table m row r) where
+  pub number-found : {room : ℕ} {head link : List ℕ} → Indexed table m head link → r < m → FoundOrAdded table table m room row head link r
+  number-found i k = record { found = f; kept = λ l. (refl, i); added = λ l. absurd (omega arith) }
+
+  module _ (k : m ≤ r) where
+    none-found : Found table m row m
+    none-found = let l = f .most in record { most = omega arith; is = λ j. absurd (omega arith); none = λ e. f .none (omega arith) }
+
+    pub number-added : {room : ℕ} {table' head link : List ℕ} → Added table table' m row head link → FoundOrAdded table table' m room row head link m
+    number-added a = record { found = none-found; kept = λ l. absurd (omega arith); added = λ j l. a }
+
+    pub number-over : {room : ℕ} {table' head link : List ℕ} → room ≤ m → FoundOrAdded table table' m room row head link m
+    number-over l = record { found = none-found; kept = λ j. absurd (omega arith); added = λ i j. absurd (omega arith) }

@@ -4,7 +4,7 @@ ghost use Prim.Native.Nat.{_<_, _≤_, _*_, _+_};
 ghost use lib.ListN.{length, take, drop};
 ghost use lib.Seq.{sets};
 ghost use Rattle.gate.specs.Gate.{Decides};
-ghost use Rattle.rows.specs.Rows.{rowAt, mix, mixFrom, digestOf, Indexed, Sought, Added, Found};
+ghost use Rattle.rows.specs.Rows.{rowAt, mix, mixFrom, digestOf, Indexed, Sought, Added, Found, FoundOrAdded};
 
 // The cells of a row.
 pub const CELLS: usize = 17;
@@ -40,7 +40,7 @@ fn mixed_sets(row: &[u16]) -> usize
 }
 
 // The digest of a row: of its sets and its colour.
-pub fn digest(row: &[u16]) -> usize
+fn digest(row: &[u16]) -> usize
     requires { ⌜ length (now row) ≡ 17 ⌝ }
     ensures { λ r. ⌜ (r ≡ digestOf (now (row .entry))) × (r < 1024) ⌝ }
 {
@@ -63,7 +63,7 @@ fn same(table: &[u16], at: usize, row: &[u16]) -> bool
 }
 
 // The number of a row of digest h among the table's m rows, and m where it is none of them: the chain of the digest is walked.
-pub fn find(table: &[u16], m: usize, row: &[u16], h: usize, head: &[u16], link: &[u16]) -> usize
+fn find(table: &[u16], m: usize, row: &[u16], h: usize, head: &[u16], link: &[u16]) -> usize
     requires { ⌜ Indexed (now table) m (now head) (now link) × Sought (now row) h ⌝ }
     ensures { λ r. ⌜ Found (now (table .entry)) m (now (row .entry)) r ⌝ }
 {
@@ -91,13 +91,37 @@ fn put(table: &mut [u16], at: usize, row: &[u16])
 }
 
 // A row of digest h becomes row m of the table, behind its m rows, and is the last of its digest.
-pub fn add(table: &mut [u16], m: usize, row: &[u16], h: usize, head: &mut [u16], link: &mut [u16])
+fn add(table: &mut [u16], m: usize, row: &[u16], h: usize, head: &mut [u16], link: &mut [u16])
     requires { ⌜ Indexed (now table) m (now head) (now link) × Sought (now row) h × (m < 1024) × (17 * m + 17 ≤ length (now table)) ⌝ }
     ensures { λ _. ⌜ Added (now (table .entry)) (now (table .exit)) m (now (row .entry)) (now (head .exit)) (now (link .exit)) ⌝ }
 {
     put(table, CELLS * m, row);
     link[m] = head[h];
     head[h] = (m + 1) as u16;
+}
+
+// The number of a row among the table's m rows. One that is none of them has number m, and is added where there is room for it.
+pub fn find_or_add(
+    table: &mut [u16],
+    m: usize,
+    room: usize,
+    row: &[u16],
+    head: &mut [u16],
+    link: &mut [u16],
+) -> usize
+    requires { ⌜ Indexed (now table) m (now head) (now link) × (length (now row) ≡ 17) × (room ≤ 1024) × (17 * room ≤ length (now table)) ⌝ }
+    ensures { λ r. ⌜ FoundOrAdded (now (table .entry)) (now (table .exit)) m room (now (row .entry)) (now (head .exit)) (now (link .exit)) r ⌝ }
+{
+    let h = digest(row);
+    let t = find(table, m, row, h, head, link);
+    if t < m {
+        return t;
+    }
+    if m < room {
+        add(table, m, row, h, head, link);
+        return m;
+    }
+    m
 }
 
 // Row t of a table, copied.

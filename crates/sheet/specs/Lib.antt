@@ -2,6 +2,7 @@ pub mod Read
 pub mod Letters
 pub mod Spelling
 pub mod Answers
+pub mod AnswersLaws
 pub mod LettersLaws
 pub mod FindLaws
 pub mod ReadLaws

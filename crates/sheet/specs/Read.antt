@@ -1,10 +1,12 @@
 -- What reading a sheet file answers, and what the lent tables hold then.
-use Prim.Native.Nat.{ℕ}
+use Prim.Native.Nat.{ℕ, _*_}
 use mathlib.Core.Path.{_≡_}
 use mathlib.Core.List.{List}
 use mathlib.Core.Logic.{_⊎_}
+use lib.ListN.{drop}
 use Rattle.gate.specs.Gate.{refusal, cleared}
 use Rattle.gate.specs.declared.Refusal.{Refusal}
+use Rattle.automaton.specs.declared.Numbers.{Numbers}
 use Rattle.automaton.specs.Automaton.{graphOf, AreNumbers}
 use Rattle.automaton.specs.Meeting.{Free, Everywhere}
 use Rattle.automaton.specs.Lent.{Tables, Lengths, clearedTables, lentTable, Meets}
@@ -12,6 +14,7 @@ use Rattle.sheet.specs.declared.Read.{Read}
 use Rattle.sheet.specs.declared.Read.the-variants.{Refused, Is}
 use Rattle.format.specs.Format.{Sheet, FileIs, Faulty}
 use Rattle.format.specs.Numbers.{numbers}
+use Rattle.sheet.specs.Answers.{NamesIn}
 
 -- QUESTIONS 2 TO 10 on a sheet file: s is the file of σ, and no two walks meet
 pub record Accepted (s : List ℕ) (σ : Sheet) : Type 0 where
@@ -35,3 +38,31 @@ Reads s t u v w (Refused r) =
     ((Lengths t v → ⊥) × (r ≡ refusal 1 0) × (u ≡ t) × (w ≡ v))
     ⊎ (Lengths t v × ReadsLong s t u v w (Refused r))
 Reads s t u v w (Is a) = Lengths t v × ReadsLong s t u v w (Is a)
+
+-- THE SAME WITH THE NAMES, for the calls that go on with a sheet once it is read: all that is read of it
+pub record ReadTables : Type 0 where
+  -- the lent table of successor sets
+  pub successors : List ℕ
+  -- the composed names
+  pub rows : List ℕ
+  -- the lent witness
+  pub witness : Tables
+
+abbrev pub readTables : List ℕ → List ℕ → Tables → ReadTables
+readTables successors rows witness = record { successors = successors; rows = rows; witness = witness }
+
+-- an accepted sheet file, its numbers a and what the tables hold then: "On success every cell of these tables without a meaning is zero"
+pub record SheetRead (s : List ℕ) (before after : ReadTables) (a : Numbers) : Type 0 where
+  pub sheet : Sheet
+  pub accepted : Accepted s sheet
+  pub are : AreNumbers (numbers sheet) a
+  pub successors : after .successors ≡ lentTable (numbers sheet .table) (before .successors)
+  pub witness : after .witness ≡ clearedTables (before .witness)
+  pub names : NamesIn sheet (a .k) (after .rows)
+  pub behind : drop (24 * a .k) (after .rows) ≡ drop (24 * a .k) (cleared (before .rows))
+
+-- the answer of questions 2 to 10, in tables that are long enough
+abbrev pub ReadsNamed : List ℕ → ReadTables → ReadTables → Read → Type 0
+ReadsNamed s before after (Refused r) =
+    Refuses s (before .witness) (after .witness) r × (after .successors ≡ cleared (before .successors)) × (after .rows ≡ cleared (before .rows))
+ReadsNamed s before after (Is a) = SheetRead s before after a

@@ -3,7 +3,7 @@ use Prim.Native.Nat.{ℕ, zero, suc, _+_}
 use mathlib.Core.List.{List, []}
 use Rattle.text.specs.Bytes.{stretch}
 use Rattle.names.specs.Scan.{nameEndAt}
-use Rattle.parser.specs.Phase.{withEnding}
+use Rattle.names.specs.Scan.{withEnding}
 
 -- the position of the name line l lines below the one at `at`
 unfoldable pub lineBelow : List ℕ → ℕ → ℕ → ℕ

@@ -53,15 +53,3 @@ pub fn spelled(s: &[u8], letter: usize) -> &[u8]
     };
     &s[start..end]
 }
-
-// The letter whose name, in one of `count` rows, is that of a stretch after composing; `count` where there is none.
-// The row behind holds that stretch then.
-pub fn letter_of(rows: &mut [u8], count: usize, s: &[u8], start: usize, end: usize) -> usize
-    requires { ⌜ (count ≤ 8) × (24 * count + 24 ≤ length (now rows)) × Stretches (now s) start end × (end - start ≤ 24) ⌝ }
-    ensures { λ r. ⌜ (now (rows .exit) ≡ sets (now (rows .entry)) (24 * count) (padded 24 (compose (stretch (now (s .entry)) start end))))
-        × ((names : List (List ℕ)) → length names ≡ count → HoldNames names (now (rows .entry)) → IsName (stretch (now (s .entry)) start end)
-        → FirstName names (compose (stretch (now (s .entry)) start end)) r × HoldNames names (now (rows .exit))) ⌝ }
-{
-    names::compose_into(s, start, end, rows, 24 * count);
-    names::first_like(rows, count)
-}

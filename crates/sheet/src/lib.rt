@@ -1,7 +1,7 @@
 // The sheet file: read, its names given and found.
 mod finding;
 pub mod letters;
-mod reading;
+pub mod reading;
 
 ghost use Rattle.automaton.specs.Lent.{tables};
 ghost use Rattle.sheet.specs.Read.{Reads};
@@ -41,11 +41,8 @@ pub fn read_sheet(
             length: 0,
         });
     }
-    gate::clear(table);
-    gate::clear(word);
-    gate::clear(one);
-    gate::clear(other);
-    reading::read_cleared(sheet, table, word, one, other)
+    let mut rows = [0u8; 192];
+    reading::read_long(sheet, table, &mut rows, word, one, other)
 }
 
 // The name of a letter, as that very stretch of the sheet file, in the spelling found there; empty where there is none.
@@ -103,8 +100,16 @@ pub fn find(
         (tables (now (word .exit)) (now (one .exit)) (now (other .exit))) r ⌝ }
 {
     let mut table = [0u16; 128];
-    match read_sheet(sheet, &mut table, word, one, other) {
+    if !walks::long_enough(&table, word, one, other) {
+        return Found::Refused(Refusal {
+            number: 1,
+            line: 0,
+            length: 0,
+        });
+    }
+    let mut rows = [0u8; 216];
+    match reading::read_long(sheet, &mut table, &mut rows, word, one, other) {
         Read::Refused(r) => Found::Refused(r),
-        Read::Is(_) => finding::letter_named(sheet, name),
+        Read::Is(a) => finding::letter_named(name, &mut rows, a.k),
     }
 }

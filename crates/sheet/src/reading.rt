@@ -1,28 +1,32 @@
-// Questions 2 to 10 on a sheet file.
+// Questions 2 to 10 on a sheet file, which is read once: its numbers, its successor sets and its composed names.
 ghost use mathlib.Core.Path.{_≡_};
+ghost use Prim.Native.Nat.{_≤_};
+ghost use lib.ListN.{length};
 ghost use Rattle.gate.specs.Gate.{cleared};
 ghost use Rattle.automaton.specs.Lent.{tables, Lengths, clearedTables};
-ghost use Rattle.sheet.specs.Read.{ReadsLong};
+ghost use Rattle.sheet.specs.Read.{readTables, ReadsNamed};
 use super::Read;
 use gate::Refusal;
 use parser::File;
 use parser::whole_file::read_file;
 
-// The questions in tables that are long enough and all zero. With 10 the successor sets are cleared again.
-pub fn read_cleared(
+// The questions in tables that are long enough, with the successor sets' and the witness all zero. With 10 the successor sets and the
+// names are cleared again.
+fn read_cleared(
     sheet: &[u8],
     table: &mut [u16],
+    rows: &mut [u8],
     word: &mut [u16],
     one: &mut [u16],
     other: &mut [u16],
 ) -> Read
-    requires { ⌜ Lengths (now table) (tables (now word) (now one) (now other)) × (now table ≡ cleared (now table))
+    requires { ⌜ Lengths (now table) (tables (now word) (now one) (now other)) × (192 ≤ length (now rows)) × (now table ≡ cleared (now table))
         × (tables (now word) (now one) (now other) ≡ clearedTables (tables (now word) (now one) (now other))) ⌝ }
-    ensures { λ r. ⌜ ReadsLong (now (sheet .entry)) (now (table .entry)) (now (table .exit))
-        (tables (now (word .entry)) (now (one .entry)) (now (other .entry))) (tables (now (word .exit)) (now (one .exit)) (now (other .exit))) r ⌝ }
+    ensures { λ r. ⌜ ReadsNamed (now (sheet .entry))
+        (readTables (now (table .entry)) (now (rows .entry)) (tables (now (word .entry)) (now (one .entry)) (now (other .entry))))
+        (readTables (now (table .exit)) (now (rows .exit)) (tables (now (word .exit)) (now (one .exit)) (now (other .exit)))) r ⌝ }
 {
-    let mut rows = [0u8; 192];
-    match read_file(sheet, table, &mut rows) {
+    match read_file(sheet, table, rows) {
         File::Refused(r) => Read::Refused(r),
         File::Is(a) => {
             let length = walks::ask(automaton::graph_of(a), &table[..128], word, one, other);
@@ -30,6 +34,7 @@ pub fn read_cleared(
                 return Read::Is(a);
             }
             gate::clear(table);
+            gate::clear_bytes(rows);
             Read::Refused(Refusal {
                 number: 10,
                 line: 0,
@@ -37,4 +42,25 @@ pub fn read_cleared(
             })
         }
     }
+}
+
+// The questions in tables that are long enough. The composed names go into rows, with zeros behind; a refusal leaves the rows all zero.
+pub fn read_long(
+    sheet: &[u8],
+    table: &mut [u16],
+    rows: &mut [u8],
+    word: &mut [u16],
+    one: &mut [u16],
+    other: &mut [u16],
+) -> Read
+    requires { ⌜ Lengths (now table) (tables (now word) (now one) (now other)) × (192 ≤ length (now rows)) ⌝ }
+    ensures { λ r. ⌜ ReadsNamed (now (sheet .entry))
+        (readTables (now (table .entry)) (now (rows .entry)) (tables (now (word .entry)) (now (one .entry)) (now (other .entry))))
+        (readTables (now (table .exit)) (now (rows .exit)) (tables (now (word .exit)) (now (one .exit)) (now (other .exit)))) r ⌝ }
+{
+    gate::clear(table);
+    gate::clear(word);
+    gate::clear(one);
+    gate::clear(other);
+    read_cleared(sheet, table, rows, word, one, other)
 }

@@ -26,8 +26,8 @@ module _ {X : ℕ → ℕ → Type 0} {rank : ℕ → ℕ} (dec : (j : ℕ) → 
 module _ {n : ℕ} {E M S U W : ℕ → ℕ → ℕ → Type 0} {K : ℕ → ℕ → Type 0} {p col : ℕ → ℕ} {rank : ℕ → ℕ → ℕ}
     (R : Run n E M S U W K p col rank) where
   -- where a state comes from
-  pub origin : (t j r : ℕ) → U t j r → ((q : ℕ) × S t j q × E t q r) ⊎ ((q : ℕ) × S t 0 q × M t q r)
-  origin t j r u = by (decLt j (p t))
+  pub has-origin : (t j r : ℕ) → U t j r → ((q : ℕ) × S t j q × E t q r) ⊎ ((q : ℕ) × S t 0 q × M t q r)
+  has-origin t j r u = by (decLt j (p t))
     where
       by : Dec (j < p t) → ((q : ℕ) × S t j q × E t q r) ⊎ ((q : ℕ) × S t 0 q × M t q r)
       by (yes l) = inl (R .old⁻ t j r l u)
@@ -45,7 +45,7 @@ module _ {n : ℕ} {E M S U W : ℕ → ℕ → ℕ → Type 0} {K : ℕ → ℕ
   zero-step t q r s e = at-place S (R .rank-zero t) (R .move t 0 r (zero-kept t q r s e))
 
   pred-of : (t : ℕ) → ((k q : ℕ) → S t k q → S t 0 q) → (k r : ℕ) → S (suc t) k r → (q : ℕ) × S t 0 q × E t q r
-  pred-of t sub0 k r s = let (j, e, v) = R .move⁻ t k r s in by j (origin t j r (R .kept t j r v))
+  pred-of t sub0 k r s = let (j, e, v) = R .move⁻ t k r s in by j (has-origin t j r (R .kept t j r v))
     where
       by : (j : ℕ) → ((q : ℕ) × S t j q × E t q r) ⊎ ((q : ℕ) × S t 0 q × M t q r) → (q : ℕ) × S t 0 q × E t q r
       by j (inl (q, a, b)) = (q, sub0 j q a, b)

@@ -154,8 +154,8 @@ module _ (h : LPO) {n : ℕ} {E M S U W : ℕ → ℕ → ℕ → Type 0} {K : �
             let path : Path E S g = record { starts = first; goes = λ t. join (suc t) (λ s l m. goes s l) t (omega arith) } in
             (g, path, subst (S (suc t₀) i) (sym (same (suc t₀) (omega arith))) s)
 
-  pub through : Through E S K col
-  through i T c marked = let (t₀, l, k) = marked T in let (ξ, h, s) = exists i T c t₀ l k in (ξ, suc t₀, h, omega arith, s)
+  pub through-endless : Through E S K col
+  through-endless i T c marked = let (t₀, l, k) = marked T in let (ξ, h, s) = exists i T c t₀ l k in (ξ, suc t₀, h, omega arith, s)
 
   -- each colour is entered without end or no more from some time on, so there is a least one entered without end
   recurs? : (c : ℕ) → ((t : ℕ) → (u : ℕ) × (t ≤ u) × (col u ≡ c)) ⊎ ((T : ℕ) × ((t : ℕ) → T ≤ t → col t ≡ c → ⊥))

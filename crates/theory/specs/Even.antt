@@ -6,7 +6,7 @@ use native.Mathlib.Omega.{arith}
 use native.Mathlib.Decide.{decLt, ℕ-discrete, le-ind}
 use Rattle.finite.specs.Paths.{trace}
 use Rattle.theory.specs.Run.{Run, Path, Often}
-use Rattle.theory.specs.Basic.{at-place, origin, inside, rank-le, rank-full, Fulls, rank-ge, holds, keeps, p-keeps}
+use Rattle.theory.specs.Basic.{at-place, has-origin, inside, rank-le, rank-full, Fulls, rank-ge, holds, keeps, p-keeps}
 
 module _ {n : ℕ} {E M S U W : ℕ → ℕ → ℕ → Type 0} {K : ℕ → ℕ → Type 0} {p col : ℕ → ℕ} {rank : ℕ → ℕ → ℕ}
     (R : Run n E M S U W K p col rank) where
@@ -76,7 +76,7 @@ module _ {n : ℕ} {E M S U W : ℕ → ℕ → ℕ → Type 0} {K : ℕ → ℕ
     module _ (ξ : ℕ → ℕ) (h : Path E S ξ) (alone : (t q : ℕ) → S t 0 q → E t q (ξ (suc t)) → q ≡ ξ t) where
       -- L9: from a state in no place behind i, over a transition that is not recurrent, into no place behind i
       off-step : (t : ℕ) → Off t (ξ t) → (M t (ξ t) (ξ (suc t)) → ⊥) → (j : ℕ) → i < j → U t j (ξ (suc t)) → ⊥
-      off-step t off nm j l u = by (origin R t j (ξ (suc t)) u)
+      off-step t off nm j l u = by (has-origin R t j (ξ (suc t)) u)
         where
           by : ((q : ℕ) × S t j q × E t q (ξ (suc t))) ⊎ ((q : ℕ) × S t 0 q × M t q (ξ (suc t))) → ⊥
           by (inl (q, s, e)) = off j l (rw (alone t q (inside R t j q s) e) at s)

@@ -53,5 +53,5 @@ module _ {n : ℕ} {E M S U W : ℕ → ℕ → ℕ → Type 0} {K : ℕ → ℕ
     exists : (ξ : ℕ → ℕ) × (A : ℕ) × Path E S ξ × (T ≤ A) × S A i (ξ A)
     exists = let (f, sets, goes) = path-inside R i T c t₀ late k₀ (suc t₀ + n * P) (omega arith) in found f sets goes
 
-  pub through : (P B : ℕ) → 0 < P → ((s q r : ℕ) → B ≤ s → E s q r → E (s + P) q r) → Through E S K col
-  through P B pos again i T c marked = let (t₀, l, k) = marked (T + B) in exists i T c P B pos again t₀ (omega arith) (omega arith) k
+  pub through-repeating : (P B : ℕ) → 0 < P → ((s q r : ℕ) → B ≤ s → E s q r → E (s + P) q r) → Through E S K col
+  through-repeating P B pos again i T c marked = let (t₀, l, k) = marked (T + B) in exists i T c P B pos again t₀ (omega arith) (omega arith) k

@@ -8,8 +8,8 @@ use Rattle.finite.specs.Least.{lowest, low, often}
 use Rattle.theory.specs.Run.{Run, Path, Often, Alone, Through, Least}
 use Rattle.theory.specs.Odd.{never-odd}
 use Rattle.theory.specs.Even.{marks}
-use Rattle.theory.specs.Repeating.{through}
-use Rattle.theory.specs.Endless.{LPO, through as through-endless}
+use Rattle.theory.specs.Repeating.{through-repeating}
+use Rattle.theory.specs.Endless.{LPO, through-endless}
 
 -- a sequence of colours that repeats: the least of one repetition is the least entered without end
 least-repeating : (col : ℕ → ℕ) (T d : ℕ) → ((t : ℕ) → T ≤ t → col (t + suc d) ≡ col t) → Least col (lowest col T d)
@@ -42,7 +42,7 @@ module _ {n : ℕ} {E M S U W : ℕ → ℕ → ℕ → Type 0} {K : ℕ → ℕ
       → (lowest col T d % 2 ≡ 0) ↔ ((ξ : ℕ → ℕ) × Path E S ξ × Often M ξ)
   repeating alone T d edges cols =
       let least = least-repeating col T d cols in
-      (even-path (through R (suc d) T (omega arith) edges) alone (lowest col T d) least, λ (ξ, h, o). path-even (lowest col T d) least ξ h o)
+      (even-path (through-repeating R (suc d) T (omega arith) edges) alone (lowest col T d) least, λ (ξ, h, o). path-even (lowest col T d) least ξ h o)
 
   -- any endless word
   pub endless : LPO → ((t q r : ℕ) → Dec (E t q r)) → ((t j q : ℕ) → Dec (S t j q)) → Alone E S → (c : ℕ) → Least col c

@@ -7,9 +7,9 @@ use Rattle.automaton.specs.Lent.{Tables}
 use Rattle.format.specs.Format.{Sheet}
 use Rattle.format.specs.Numbers.{numbers}
 use Rattle.sheet.specs.Read.{Accepted, Refuses}
-use Rattle.tracker.specs.Numbering.{MoreThan}
-use Rattle.tracker.specs.Build.{Store, Fitted}
-use Rattle.listing.specs.Listing.{listing}
+use Rattle.numbering.specs.Numbering.{MoreThan}
+use Rattle.filling.specs.Store.{Store, Fitted}
+use Rattle.listing_text.specs.Listing.{listing}
 use Rattle.report.specs.Report.{refusalLine}
 use Rattle.report.specs.Output.{programRoom}
 

@@ -16,14 +16,15 @@ use Rattle.format.specs.Numbers.{numbers}
 use Rattle.format.specs.NumbersLaws.{sheet-fits}
 use Rattle.parser.specs.UniqueLaws.{fault-unique, file-or-fault}
 use Rattle.sheet.specs.Read.{Refuses}
-use Rattle.tracker.specs.Build.{Store, Lent, Builds}
+use Rattle.filling.specs.Store.{Store}
+use Rattle.tracker.specs.Build.{Lent, Builds}
 use Rattle.tracker.specs.BuildLaws.{file-built}
 use Rattle.tracker.specs.declared.Tracker.{Tracker}
 use Rattle.tracker.specs.declared.Built.the-variants.{Refused as BuildRefused, Is}
-use Rattle.listing.specs.Listing.{listing}
+use Rattle.listing_text.specs.Listing.{listing}
 use Rattle.listing.specs.List.{listingOf, Lists}
-use Rattle.listing.specs.PutLaws.{listing-length, listing-small}
-use Rattle.listing.specs.ListingLaws.{fitted-shown}
+use Rattle.listing_text.specs.PutLaws.{listing-length, listing-small}
+use Rattle.listing_text.specs.ListingLaws.{fitted-shown}
 use Rattle.report.specs.Report.{refusalLine, lineOf}
 use Rattle.report.specs.ReportLaws.{refusal-length}
 use Rattle.report.specs.Output.{programRoom, Prints, TooLong}

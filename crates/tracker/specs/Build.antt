@@ -1,8 +1,7 @@
 -- What building a tracker answers, and what the lent tables hold then.
-use Prim.Native.Nat.{ℕ, _-_, _*_, _≤_}
+use Prim.Native.Nat.{ℕ}
 use mathlib.Core.Path.{_≡_}
-use mathlib.Core.List.{List, _++_}
-use lib.ListN.{length, replicate}
+use mathlib.Core.List.{List}
 use Rattle.gate.specs.Gate.{refusal, cleared}
 use Rattle.gate.specs.declared.Refusal.{Refusal}
 use Rattle.automaton.specs.Automaton.{Automaton, graphOf, Fits, AreNumbers}
@@ -11,49 +10,16 @@ use Rattle.automaton.specs.Lent.{Tables, Lengths, clearedTables, NumbersRefuse,
 use Rattle.format.specs.Format.{Sheet}
 use Rattle.format.specs.Numbers.{numbers}
 use Rattle.sheet.specs.Read.{Accepted, Refuses}
-use Rattle.tuple.specs.Step.{Tuple}
+use Rattle.numbering.specs.Numbering.{MoreThan}
+use Rattle.filling.specs.Store.{Store, clearedStore, RoomFits, Fitted}
 use Rattle.tracker.specs.declared.Built.{Built}
 use Rattle.tracker.specs.declared.Built.the-variants.{Refused, Is}
-use Rattle.tracker.specs.Numbering.{Numbering, MoreThan, NextCells, rows}
-
--- the lent tuple table and next table
-pub record Store : Type 0 where
-  pub tuples : List ℕ
-  pub nexts : List ℕ
-
-abbrev pub store : List ℕ → List ℕ → Store
-store tuples nexts = record { tuples = tuples; nexts = nexts }
-
--- both tables cleared
-abbrev pub clearedStore : Store → Store
-clearedStore v = record { tuples = cleared (v .tuples); nexts = cleared (v .nexts) }
-
--- "for room R, 17·R tuple numbers and 8·R next numbers .. and is R 1 to 1,024?"
-pub record RoomFits (room : ℕ) (v : Store) : Type 0 where
-  pub some : 1 ≤ room
-  pub most : room ≤ 1024
-  pub tuples : 17 * room ≤ length (v .tuples)
-  pub nexts : 8 * room ≤ length (v .nexts)
 
 -- QUESTION 1: "Are the lent tables long enough (128 successor sets; a witness of 136 letters and two walks of 137 states; for room R, 17·R
 -- tuple numbers and 8·R next numbers ..), and is R 1 to 1,024?" The successor sets' table is t, the witness v, the tuples and nexts f.
 pub record Lent (room : ℕ) (t : List ℕ) (v : Tables) (f : Store) : Type 0 where
   pub lengths : Lengths t v
   pub store : RoomFits room f
-
--- the tracker of A in lent tables that were v and are w: every cell is given, and those without a meaning are zero
-pub record Holds (A : Automaton) (ts : List Tuple) (v w : Store) : Type 0 where
-  pub numbering : Numbering A ts
-  pub tuples : w .tuples ≡ rows ts ++ replicate (length (v .tuples) - 17 * length ts) 0
-  pub nexts : NextCells A ts (w .nexts)
-  pub same : length (w .nexts) ≡ length (v .nexts)
-
--- a tracker with all its tuples, for which there is room
-pub record Fitted (A : Automaton) (room : ℕ) (v w : Store) (count : ℕ) : Type 0 where
-  pub list : List Tuple
-  pub count-is : count ≡ length list
-  pub room-is : count ≤ room
-  pub holds : Holds A list v w
 
 -- QUESTION 11 on the automaton A, in tables that were f and are g: the tracker, or 11 with both all zero
 abbrev pub Tracks : Automaton → ℕ → Store → Store → Built → Type 0

@@ -1,10 +1,2 @@
-pub mod Numbering
-pub mod Explore
-pub mod ExploreLaws
-pub mod NumberingLaws
-pub mod RowsLaws
 pub mod Build
 pub mod BuildLaws
-pub mod Fill
-pub mod FillLaws
-pub mod FittedLaws

@@ -1,14 +1,14 @@
 // The tracker: every tuple that some word reaches, numbered as found, in lent tables.
-mod filling;
-
 use automaton::Numbers;
 use gate::Refusal;
 use sheet::Read;
+use sheet::reading::read_long;
 use walks::Checked;
 ghost use Rattle.automaton.specs.Automaton.{automaton, Fits};
 ghost use Rattle.gate.specs.Gate.{Decides};
 ghost use Rattle.automaton.specs.Lent.{tables};
-ghost use Rattle.tracker.specs.Build.{store, RoomFits, Lent, Tracks, BuildsNumbers, Builds};
+ghost use Rattle.filling.specs.Store.{store, RoomFits};
+ghost use Rattle.tracker.specs.Build.{Lent, Tracks, BuildsNumbers, Builds};
 
 // A tracker that was built: the sheet's numbers, and how many tuples the tables hold.
 pub struct Tracker {
@@ -50,7 +50,7 @@ pub fn enough(
 }
 
 // Question 11 on an automaton that fits, in tables with any contents.
-fn track(a: Numbers, table: &[u16], room: usize, tuples: &mut [u16], nexts: &mut [u16]) -> Built
+pub fn track(a: Numbers, table: &[u16], room: usize, tuples: &mut [u16], nexts: &mut [u16]) -> Built
     requires { ⌜ Fits (automaton a (now table)) × RoomFits room (store (now tuples) (now nexts)) ⌝ }
     ensures { λ r. ⌜ Tracks (automaton a (now (table .entry))) room
         (store (now (tuples .entry)) (now (nexts .entry))) (store (now (tuples .exit)) (now (nexts .exit))) r ⌝ }
@@ -86,18 +86,18 @@ pub fn build_numbers(
         (tables (now (word .entry)) (now (one .entry)) (now (other .entry))) (tables (now (word .exit)) (now (one .exit)) (now (other .exit)))
         (store (now (tuples .entry)) (now (nexts .entry))) (store (now (tuples .exit)) (now (nexts .exit))) r ⌝ }
 {
-    if enough(room, table, tuples, nexts, word, one, other) {
-        if let Checked::Refused(r) = walks::check(a, table, word, one, other) {
-            filling::clear(tuples, nexts);
-            return Built::Refused(r);
-        }
-        return track(a, table, room, tuples, nexts);
+    if !enough(room, table, tuples, nexts, word, one, other) {
+        return Built::Refused(Refusal {
+            number: 1,
+            line: 0,
+            length: 0,
+        });
     }
-    Built::Refused(Refusal {
-        number: 1,
-        line: 0,
-        length: 0,
-    })
+    if let Checked::Refused(r) = walks::check_long(a, table, word, one, other) {
+        filling::clear(tuples, nexts);
+        return Built::Refused(r);
+    }
+    track(a, table, room, tuples, nexts)
 }
 
 // A tracker from a sheet file.
@@ -115,24 +115,25 @@ pub fn build(
         (tables (now (word .entry)) (now (one .entry)) (now (other .entry))) (tables (now (word .exit)) (now (one .exit)) (now (other .exit)))
         (store (now (tuples .entry)) (now (nexts .entry))) (store (now (tuples .exit)) (now (nexts .exit))) r ⌝ }
 {
-    if enough(room, table, tuples, nexts, word, one, other) {
-        match sheet::read_sheet(sheet, table, word, one, other) {
-            Read::Refused(r) => {
-                filling::clear(tuples, nexts);
-                return Built::Refused(r);
+    if !enough(room, table, tuples, nexts, word, one, other) {
+        return Built::Refused(Refusal {
+            number: 1,
+            line: 0,
+            length: 0,
+        });
+    }
+    let mut rows = [0u8; 192];
+    match read_long(sheet, table, &mut rows, word, one, other) {
+        Read::Refused(r) => {
+            filling::clear(tuples, nexts);
+            Built::Refused(r)
+        }
+        Read::Is(a) => {
+            let built = track(a, &table[..128], room, tuples, nexts);
+            if let Built::Refused(_) = built {
+                gate::clear(table);
             }
-            Read::Is(a) => {
-                let built = track(a, &table[..128], room, tuples, nexts);
-                if let Built::Refused(_) = built {
-                    gate::clear(table);
-                }
-                return built;
-            }
+            built
         }
     }
-    Built::Refused(Refusal {
-        number: 1,
-        line: 0,
-        length: 0,
-    })
 }

@@ -1,10 +1,9 @@
 -- Document 01's Sheet B, "from some job on only a": the four tuples of its listing, by computation.
 use mathlib.Core.Path.{_≡_, refl}
 use mathlib.Core.List.{[], _∷_, _++_, map}
-use Rattle.sets.specs.Sets.{bit, unionOf, interOf, minusOf, isWithin}
 use Rattle.automaton.specs.Automaton.{Automaton}
-use Rattle.automaton.specs.Successors.{given, successorsBelow, successorsOf}
-use Rattle.tuple.specs.Step.{Tuple, places, unionAll, isMarked, removed, turns, pass, colourAt, least, deadOr, colourOf, unlessEmpty, closed, closeUp, first, next}
+use Rattle.tuple.specs.Step.{Tuple, first, next}
+use Rattle.tuple.specs.Unfold.{tuple·unfold}
 
 sheetB : Automaton
 sheetB = record { n = 2; k = 2; initial = 3; recurring = 2; table = 1 ∷ 3 ∷ 0 ∷ 0 ∷ 0 ∷ 0 ∷ 0 ∷ 0 ∷ 2 ∷ [] }
@@ -24,5 +23,5 @@ t3 = record { sets = 3 ∷ 2 ∷ []; colour = 3 }
 -- the first tuple, and the next ones on a and on b
 listing : (first sheetB ∷ map (next sheetB 0) (t0 ∷ t1 ∷ t2 ∷ t3 ∷ [])) ++ map (next sheetB 1) (t0 ∷ t1 ∷ t2 ∷ t3 ∷ [])
     ≡ t0 ∷ t1 ∷ t2 ∷ t2 ∷ t2 ∷ t1 ∷ t3 ∷ t3 ∷ t3 ∷ []
-unfolding sheetB t0 t1 t2 t3 first next places pass turns unionAll isMarked removed colourOf colourAt least deadOr closeUp closed unlessEmpty given successorsBelow successorsOf bit unionOf interOf minusOf isWithin
+unfolding tuple·unfold sheetB t0 t1 t2 t3
 listing = refl

@@ -17,3 +17,4 @@ pub mod GatherLaws
 pub mod SweepLaws
 pub mod StepLaws
 pub mod EmptyPlaces
+pub mod Unfold

@@ -1,8 +1,8 @@
 -- What the parts of `verdict` answer.
 use Prim.Native.Nat.{ℕ}
 use mathlib.Core.List.{List}
-use Rattle.judge.specs.Passes.{isYes}
-use Rattle.judge.specs.declared.Verdict.{Verdict}
+use Rattle.passes.specs.Passes.{isYes}
+use Rattle.passes.specs.declared.Verdict.{Verdict}
 use Rattle.judge.specs.declared.Outcome.{Outcome}
 use Rattle.judge.specs.declared.Outcome.the-variants.{Refused, Judged}
 use Rattle.report.specs.Report.{lineOf, verdictLine}

@@ -8,11 +8,11 @@ use Rattle.automaton.specs.Lent.{Tables}
 use Rattle.format.specs.Format.{Sheet, mostSheet}
 use Rattle.format.specs.Numbers.{numbers}
 use Rattle.sheet.specs.Read.{Accepted}
-use Rattle.tracker.specs.Build.{Store, Fitted}
+use Rattle.filling.specs.Store.{Store, Fitted}
 use Rattle.plan.specs.Plan.{mostPlan}
-use Rattle.judge.specs.Passes.{isYes}
+use Rattle.passes.specs.Passes.{isYes}
 use Rattle.judge.specs.Verdict.{SizesFit, Refusing, Verdicts}
-use Rattle.judge.specs.declared.Verdict.{Verdict}
+use Rattle.passes.specs.declared.Verdict.{Verdict}
 use Rattle.report.specs.Report.{refusalLine, verdictLine}
 use Rattle.report.specs.Split.{SheetEnds}
 use Rattle.report.specs.Output.{programRoom}

@@ -10,8 +10,9 @@ use Rattle.gate.specs.Gate.{refusal, lentText}
 use Rattle.automaton.specs.Lent.{Tables, tables}
 use Rattle.text.specs.Bytes.{stretch}
 use Rattle.text.specs.BytesLaws.{stretch-end}
-use Rattle.tracker.specs.Build.{Store, store, Lent}
-use Rattle.judge.specs.Passes.{isYes}
+use Rattle.filling.specs.Store.{Store, store}
+use Rattle.tracker.specs.Build.{Lent}
+use Rattle.passes.specs.Passes.{isYes}
 use Rattle.judge.specs.Verdict.{SizesFit, Refusing, Judgement}
 use Rattle.judge.specs.declared.Outcome.{Outcome}
 use Rattle.judge.specs.declared.Outcome.the-variants.{Refused, Judged}

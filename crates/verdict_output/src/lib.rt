@@ -1,6 +1,6 @@
 // The whole of program `verdict`: from the bytes of standard input to those of standard output.
 use judge::Outcome;
-use judge::Verdict;
+use passes::Verdict;
 ghost use mathlib.Core.Path.{_≡_};
 ghost use Prim.Native.Nat.{_+_};
 ghost use Rattle.report.specs.Output.{Prints};
@@ -18,7 +18,7 @@ fn judged_line(v: Verdict) -> [u8; 12]
     ensures { λ l. ⌜ l ≡ judgedLine v ⌝ }
 {
     let answer = v.answer;
-    report::verdict_line(judge::is_yes(answer), v.least as usize, v.passes)
+    report::verdict_line(passes::is_yes(answer), v.least as usize, v.passes)
 }
 
 // The line of an outcome.
@@ -42,7 +42,7 @@ fn judge_input(input: &[u8]) -> Outcome
     let mut word = [0u16; 136];
     let mut one = [0u16; 137];
     let mut other = [0u16; 137];
-    judge::files::verdict(
+    judge::verdict(
         &input[..e],
         &input[e..],
         1024,

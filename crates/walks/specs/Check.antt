@@ -14,7 +14,7 @@ abbrev pub Checks : Automaton → Tables → Tables → Checked → Type 0
 Checks A v w (Refused r) = ((Lengths (A .table) v → ⊥) × (r ≡ refusal 1 0) × (w ≡ v)) ⊎ (Lengths (A .table) v × NumbersRefuse A v w r)
 Checks A v w Accepted = Lengths (A .table) v × Fits A × Free (graphOf A) Everywhere × (w ≡ clearedTables v)
 
--- the same once the tables are long enough and cleared: v are the cleared tables
-abbrev pub ChecksCleared : Automaton → Tables → Tables → Checked → Type 0
-ChecksCleared A v w (Refused r) = NumbersRefuse A v w r
-ChecksCleared A v w Accepted = Fits A × Free (graphOf A) Everywhere × (w ≡ clearedTables v)
+-- the same once the tables are long enough
+abbrev pub ChecksLong : Automaton → Tables → Tables → Checked → Type 0
+ChecksLong A v w (Refused r) = NumbersRefuse A v w r
+ChecksLong A v w Accepted = Fits A × Free (graphOf A) Everywhere × (w ≡ clearedTables v)

@@ -6,7 +6,7 @@ ghost use Rattle.automaton.specs.Graph.{graph};
 ghost use Rattle.automaton.specs.Meeting.{Everywhere};
 ghost use Rattle.automaton.specs.Lent.{tables, Lengths, clearedTables};
 ghost use Rattle.meeting.specs.Answer.{Asked, Answered};
-ghost use Rattle.walks.specs.Check.{Checks, ChecksCleared};
+ghost use Rattle.walks.specs.Check.{Checks, ChecksLong};
 use automaton::GraphNumbers;
 use automaton::Numbers;
 use gate::Refusal;
@@ -60,7 +60,7 @@ fn check_cleared(
     other: &mut [u16],
 ) -> Checked
     requires { ⌜ Lengths (now table) (tables (now word) (now one) (now other)) × (tables (now word) (now one) (now other) ≡ clearedTables (tables (now word) (now one) (now other))) ⌝ }
-    ensures { λ r. ⌜ ChecksCleared (automaton a (now (table .entry))) (tables (now (word .entry)) (now (one .entry)) (now (other .entry))) (tables (now (word .exit)) (now (one .exit)) (now (other .exit))) r ⌝ }
+    ensures { λ r. ⌜ ChecksLong (automaton a (now (table .entry))) (tables (now (word .entry)) (now (one .entry)) (now (other .entry))) (tables (now (word .exit)) (now (one .exit)) (now (other .exit))) r ⌝ }
 {
     let number = automaton::first_no(a, table);
     if number != 0 {
@@ -81,6 +81,23 @@ fn check_cleared(
     })
 }
 
+// Questions 4, 7, 8 and 10 on a sheet as numbers, in tables that are long enough.
+pub fn check_long(
+    a: Numbers,
+    table: &[u16],
+    word: &mut [u16],
+    one: &mut [u16],
+    other: &mut [u16],
+) -> Checked
+    requires { ⌜ Lengths (now table) (tables (now word) (now one) (now other)) ⌝ }
+    ensures { λ r. ⌜ ChecksLong (automaton a (now (table .entry))) (tables (now (word .entry)) (now (one .entry)) (now (other .entry))) (tables (now (word .exit)) (now (one .exit)) (now (other .exit))) r ⌝ }
+{
+    gate::clear(word);
+    gate::clear(one);
+    gate::clear(other);
+    check_cleared(a, table, word, one, other)
+}
+
 // Questions 1, 4, 7, 8 and 10 on a sheet as numbers, with line 0. Question 1 touches nothing; with 10 the tables hold
 // a shortest word with meeting walks, with zeros behind, and with every other answer they are all zero.
 pub fn check(
@@ -99,8 +116,5 @@ pub fn check(
             length: 0,
         });
     }
-    gate::clear(word);
-    gate::clear(one);
-    gate::clear(other);
-    check_cleared(a, table, word, one, other)
+    check_long(a, table, word, one, other)
 }

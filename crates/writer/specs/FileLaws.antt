@@ -15,7 +15,7 @@ use Rattle.automaton.specs.QuestionLaws.{fits-graph}
 use Rattle.format.specs.Format.{Distinct, NamesRight, StatesRight, TransitionRight, TransitionsRight, Right, place, FileIs, nameLines}
 use Rattle.format.specs.Written.{statesOf, places, placed, whereMember, transitionsOf, sheetOf, writtenSheet, written}
 use Rattle.format.specs.FormatLaws.{name-length}
-use Rattle.writer.specs.LengthLaws.{statesOf-length, transitionsOf-most}
+use Rattle.writer.specs.LengthLaws.{statesOf-length, transitionsOf-most, states-length, transitions-length}
 use Rattle.writer.specs.TextLaws.{written-length}
 
 -- The names
@@ -89,7 +89,9 @@ module _ (A : Automaton) (fits : Fits A) (names : List (List ℕ)) (right : Name
   longest =
       let composed = names-composed names [] right in
       let k : length (map compose names) ≡ A .k = length-map names compose ∙ all in
-      omega (arith, written-length A names, names-most (map compose names) [] 0 composed, transitionsOf-most (A .table) places 0, fits .range)
+      let states = states-length 0 (statesOf (A .initial) (A .recurring) 0 (A .n)) in
+      let transitions = transitions-length (transitionsOf (A .table) 0 places) in
+      omega (arith, written-length A names, names-most (map compose names) [] 0 composed, statesOf-length (A .initial) (A .recurring) (A .n) 0, transitionsOf-most (A .table) places 0, fits .range)
 
   -- WHAT IS WRITTEN IS THE FILE of the sheet that is written
   pub written-file : FileIs (written A names) (writtenSheet A names)

@@ -7,7 +7,8 @@ use lib.ListN.{length, set}
 use lib.Seq.{sets}
 use Rattle.text.specs.Bytes.{lf, space}
 use Rattle.text.specs.Column.{column}
-use Rattle.text.specs.Pair.{threeNumbers}
+use Rattle.text.specs.Line.{numbersLine}
+use Rattle.text.specs.LineLaws.{numbers-stored}
 use Rattle.lists.specs.StoreLaws.{sets-append}
 use Rattle.format.specs.Format.{sheetWord, headLine, nameLine}
 
@@ -22,20 +23,17 @@ name-stored out at l name =
 
 pub head-stored : (out : List ℕ) (at n k : ℕ) →
     set (sets (sets (sets out at sheetWord) (at + 5) (column 3 n)) (at + 8) (column 3 k)) (at + 11) lf ≡ sets out at (headLine n k)
-unfolding headLine column
+unfolding headLine
 head-stored out at n k =
-    let five : at + 5 ≡ suc (suc (suc (suc (suc at)))) = omega arith in
-    let eight : at + 8 ≡ suc (suc (suc (suc (suc (suc (suc (suc at))))))) = omega arith in
-    let eleven : at + 11 ≡ suc (suc (suc (suc (suc (suc (suc (suc (suc (suc (suc at)))))))))) = omega arith in
-    rw (five, eight, eleven)
+    let eight : at + 5 + 3 ≡ at + 8 = omega arith in
+    let eleven : at + 8 + 3 ≡ at + 11 = omega arith in
+    rw (eight, eleven) at (numbers-stored out at sheetWord (n ∷ k ∷ []))
 
-pub columns-stored : (out : List ℕ) (at letter a b c : ℕ) {o₁ o₂ o₃ : List ℕ} →
-    o₁ ≡ sets (set out at letter) (at + 1) (column 3 a) → o₂ ≡ sets o₁ (at + 4) (column 3 b) → o₃ ≡ sets o₂ (at + 7) (column 3 c) →
-    set o₃ (at + 10) lf ≡ sets out at (threeNumbers letter a b c [])
-unfolding column
-columns-stored out at letter a b c e₁ e₂ e₃ =
-    let one : at + 1 ≡ suc at = omega arith in
-    let four : at + 4 ≡ suc (suc (suc (suc at))) = omega arith in
-    let seven : at + 7 ≡ suc (suc (suc (suc (suc (suc (suc at)))))) = omega arith in
-    let ten : at + 10 ≡ suc (suc (suc (suc (suc (suc (suc (suc (suc (suc at))))))))) = omega arith in
-    rw (e₃, e₂, e₁, one, four, seven, ten)
+pub columns-stored : (out : List ℕ) (at kind a b c : ℕ) {o₁ o₂ o₃ : List ℕ} →
+    o₁ ≡ sets (set out at kind) (at + 1) (column 3 a) → o₂ ≡ sets o₁ (at + 4) (column 3 b) → o₃ ≡ sets o₂ (at + 7) (column 3 c) →
+    set o₃ (at + 10) lf ≡ sets out at (numbersLine (kind ∷ []) (a ∷ b ∷ c ∷ []))
+columns-stored out at kind a b c e₁ e₂ e₃ =
+    let four : at + 1 + 3 ≡ at + 4 = omega arith in
+    let seven : at + 4 + 3 ≡ at + 7 = omega arith in
+    let ten : at + 7 + 3 ≡ at + 10 = omega arith in
+    rw (e₃, e₂, e₁) (rw (four, seven, ten) at (numbers-stored out at (kind ∷ []) (a ∷ b ∷ c ∷ [])))

@@ -11,9 +11,9 @@ use Rattle.lists.specs.LeftLaws.{left-more}
 use Rattle.lists.specs.StoreLaws.{sets-append}
 use Rattle.sets.specs.Sets.{bit}
 use Rattle.sets.specs.SetLaws.{bit-zero}
-use Rattle.format.specs.Format.{transitionLine, transitionLines}
+use Rattle.format.specs.Format.{Transition, transitionLine, transitionLines}
 use Rattle.format.specs.Written.{places, placed, whereMember, transitionsOf}
-use Rattle.format.specs.FormatLaws.{transition-length}
+use Rattle.format.specs.FormatLaws.{transition-length, transition-behind}
 use Rattle.writer.specs.Places.{transitionsFrom, At, Stop, NextPlace}
 
 module _ (T : List ℕ) where
@@ -49,12 +49,15 @@ module _ {T : List ℕ} {i : ℕ} (stop : Stop T i) where
       pub count-next : length (transitionsFrom T i) ≡ length (transitionsFrom T j) + 1
       count-next = ap length place-next ∙ sym (add-one _)
 
+      pub bytes-next : (at : ℕ) → at + 11 + length (transitionLines (transitionsFrom T j)) ≡ at + length (transitionLines (transitionsFrom T i))
+      bytes-next at = transition-behind at (placed i) (transitionsFrom T j) ∙ ap (λ (ts : List Transition). at + length (transitionLines ts)) (sym place-next)
+
       pub lines-next : (out : List ℕ) (at : ℕ) → sets out at (transitionLines (transitionsFrom T i)) ≡ sets (sets out at (transitionLine (placed i))) (at + 11) (transitionLines (transitionsFrom T j))
       unfolding transitionLines
       lines-next out at = rw (place-next, sets-append, transition-length)
 
-    pub count-here : 0 < length (transitionsFrom T i)
-    count-here = rw (place-here T i h (stop .there h)) (omega arith)
+    pub bytes-here : 11 ≤ length (transitionLines (transitionsFrom T i))
+    bytes-here = rw (place-here T i h (stop .there h)) (omega (arith, transition-behind 0 (placed i) (transitionsFrom T (i + 1))))
 
   module _ (h : places ≤ i) where
     place-last : transitionsFrom T i ≡ []
@@ -63,6 +66,10 @@ module _ {T : List ℕ} {i : ℕ} (stop : Stop T i) where
 
     pub count-last : length (transitionsFrom T i) ≡ 0
     count-last = ap length place-last
+
+    pub bytes-last : length (transitionLines (transitionsFrom T i)) ≡ 0
+    unfolding transitionLines
+    bytes-last = rw place-last
 
     pub lines-last : (out : List ℕ) (at : ℕ) → sets out at (transitionLines (transitionsFrom T i)) ≡ out
     unfolding transitionLines

@@ -2,17 +2,14 @@
 use Prim.Native.Nat.{ℕ, _≤_}
 use mathlib.Core.Path.{_≡_}
 use mathlib.Core.List.{List, _++_}
-use mathlib.Core.Logic.{_⊎_}
 use lib.ListN.{length}
-use Rattle.gate.specs.Gate.{refusal, Put}
 use Rattle.automaton.specs.Automaton.{Automaton}
-use Rattle.automaton.specs.Lent.{Tables, clearedTables, Lengths}
+use Rattle.automaton.specs.Lent.{Tables, clearedTables}
 use Rattle.walks.specs.declared.Checked.{Checked}
 use Rattle.walks.specs.declared.Checked.the-variants as K
-use Rattle.format.specs.Format.{Sheet, FileIs, lines, endLine}
-use Rattle.format.specs.Written.{sheetOf, written}
-use Rattle.gate.specs.declared.Written.{Written}
-use Rattle.gate.specs.declared.Written.the-variants.{Refused}
+use Rattle.format.specs.Format.{Sheet, lines, endLine}
+use Rattle.format.specs.Written.{sheetOf}
+use Rattle.sheet.specs.Answers.{NamesIn}
 use Rattle.writer.specs.RowNames.{rowNames}
 use Rattle.writer.specs.Write.{NamedRefuse, NamedAccepted}
 
@@ -29,11 +26,7 @@ pub record Writable (A : Automaton) : Type 0 where
   pub letters : A .k ≤ 8
   pub table : 128 ≤ length (A .table)
 
--- the last question, for the text with the names of the sheet file s
-abbrev pub PutNamed : Automaton → List ℕ → List ℕ → List ℕ → Written → Type 0
-PutNamed A s b c r = (σ : Sheet) → FileIs s σ → σ .k ≡ A .k → Put (written A (σ .names)) b c r
-
--- the questions before the last, on numbers with the names' file s
-abbrev pub Asks : Automaton → List ℕ → Tables → Tables → Checked → Type 0
-Asks A s v w (K.Refused x) = ((Lengths (A .table) v → ⊥) × (x ≡ refusal 1 0) × (w ≡ v)) ⊎ (Lengths (A .table) v × NamedRefuse A s v w x)
-Asks A s v w K.Accepted = Lengths (A .table) v × ((σ : Sheet) × NamedAccepted A s σ) × (w ≡ clearedTables v)
+-- the questions between the first and the last, on numbers with the names' file s: refused, or all answered yes, with the file's names in rows
+abbrev pub Asks : Automaton → List ℕ → List ℕ → Tables → Tables → Checked → Type 0
+Asks A s rows v w (K.Refused x) = NamedRefuse A s v w x
+Asks A s rows v w K.Accepted = (σ : Sheet) × NamedAccepted A s σ × NamesIn σ (A .k) rows × (w ≡ clearedTables v)

@@ -4,9 +4,10 @@ ghost use Prim.Native.Nat.{_≤_};
 ghost use lib.ListN.{length};
 ghost use lib.Seq.{sets};
 ghost use Rattle.automaton.specs.Automaton.{automaton};
-ghost use Rattle.automaton.specs.Lent.{tables};
+ghost use Rattle.gate.specs.Gate.{Put};
+ghost use Rattle.automaton.specs.Lent.{tables, Lengths};
 ghost use Rattle.writer.specs.Write.{Writes, WritesNumbers};
-ghost use Rattle.writer.specs.Text.{rowsText, Writable, PutNamed, Asks};
+ghost use Rattle.writer.specs.Text.{rowsText, Writable, Asks};
 
 mod lines;
 mod name_lines;
@@ -17,6 +18,7 @@ use automaton::Numbers;
 use gate::Refusal;
 use gate::Written;
 use sheet::Read;
+use sheet::reading::read_long;
 use walks::Checked;
 
 // How many bytes the text of a sheet has.
@@ -42,14 +44,12 @@ fn put_text(a: Numbers, table: &[u16], rows: &[u8], out: &mut [u8])
     text::put_bytes(out, end, b"END\n");
 }
 
-// The last question, whether the output is long enough, and the text with zeros behind it. The names are those of a sheet file.
-fn finish(a: Numbers, table: &[u16], names: &[u8], out: &mut [u8]) -> Written
-    requires { ⌜ Writable (automaton a (now table)) ⌝ }
-    ensures { λ r. ⌜ PutNamed (automaton a (now (table .entry))) (now (names .entry)) (now (out .entry)) (now (out .exit)) r ⌝ }
+// The last question, whether the output is long enough, and the text with zeros behind it. The names are in rows.
+fn finish(a: Numbers, table: &[u16], rows: &[u8], out: &mut [u8]) -> Written
+    requires { ⌜ Writable (automaton a (now table)) × (192 ≤ length (now rows)) ⌝ }
+    ensures { λ r. ⌜ Put (rowsText (automaton a (now (table .entry))) (now (rows .entry))) (now (out .entry)) (now (out .exit)) r ⌝ }
 {
-    let mut rows = [0u8; 192];
-    sheet::letters::read_rows(names, &mut rows);
-    let count = text_length(a, table, &rows);
+    let count = text_length(a, table, rows);
     if out.len() < count {
         gate::clear_bytes(out);
         return Written::Refused(Refusal {
@@ -58,7 +58,7 @@ fn finish(a: Numbers, table: &[u16], names: &[u8], out: &mut [u8]) -> Written
             length: 0,
         });
     }
-    put_text(a, table, &rows, out);
+    put_text(a, table, rows, out);
     gate::clear_bytes(&mut out[count..]);
     Written::Bytes(count)
 }
@@ -75,34 +75,40 @@ pub fn write(
         (tables (now (word .exit)) (now (one .exit)) (now (other .exit))) (now (out .entry)) (now (out .exit)) r ⌝ }
 {
     let mut table = [0u16; 128];
-    match sheet::read_sheet(sheet, &mut table, word, one, other) {
-        Read::Refused(r) => gate::refuse(r, out),
-        Read::Is(a) => finish(a, &table, sheet, out),
-    }
-}
-
-// The questions on a sheet as numbers with a sheet file for the names: 1, that file's questions 2 to 10, a differing k (4), and the
-// questions 4, 7, 8 and 10 on the numbers.
-fn ask(
-    a: Numbers,
-    table: &[u16],
-    names: &[u8],
-    word: &mut [u16],
-    one: &mut [u16],
-    other: &mut [u16],
-) -> Checked
-    ensures { λ r. ⌜ Asks (automaton a (now (table .entry))) (now (names .entry)) (tables (now (word .entry)) (now (one .entry)) (now (other .entry)))
-        (tables (now (word .exit)) (now (one .exit)) (now (other .exit))) r ⌝ }
-{
-    if !walks::long_enough(table, word, one, other) {
-        return Checked::Refused(Refusal {
+    if !walks::long_enough(&table, word, one, other) {
+        return Written::Refused(Refusal {
             number: 1,
             line: 0,
             length: 0,
         });
     }
+    let mut rows = [0u8; 192];
+    match read_long(sheet, &mut table, &mut rows, word, one, other) {
+        Read::Refused(r) => {
+            gate::clear_bytes(out);
+            Written::Refused(r)
+        }
+        Read::Is(a) => finish(a, &table, &rows, out),
+    }
+}
+
+// The questions behind 1 on a sheet as numbers with a sheet file for the names: that file's questions 2 to 10, a differing k (4), and the
+// questions 4, 7, 8 and 10 on the numbers. The file's composed names go into rows.
+fn ask(
+    a: Numbers,
+    table: &[u16],
+    names: &[u8],
+    rows: &mut [u8],
+    word: &mut [u16],
+    one: &mut [u16],
+    other: &mut [u16],
+) -> Checked
+    requires { ⌜ Lengths (now table) (tables (now word) (now one) (now other)) × (192 ≤ length (now rows)) ⌝ }
+    ensures { λ r. ⌜ Asks (automaton a (now (table .entry))) (now (names .entry)) (now (rows .exit))
+        (tables (now (word .entry)) (now (one .entry)) (now (other .entry))) (tables (now (word .exit)) (now (one .exit)) (now (other .exit))) r ⌝ }
+{
     let mut successors = [0u16; 128];
-    match sheet::read_sheet(names, &mut successors, word, one, other) {
+    match read_long(names, &mut successors, rows, word, one, other) {
         Read::Refused(r) => Checked::Refused(r),
         Read::Is(b) => {
             if b.k != a.k {
@@ -112,13 +118,13 @@ fn ask(
                     length: 0,
                 });
             }
-            walks::check(a, table, word, one, other)
+            walks::check_long(a, table, word, one, other)
         }
     }
 }
 
-// A sheet as numbers written as a file, with the names of a sheet file: the questions on both, and last of all whether the output is
-// long enough.
+// A sheet as numbers written as a file, with the names of a sheet file: question 1, the questions on both, and last of all whether the
+// output is long enough.
 pub fn write_numbers(
     a: Numbers,
     table: &[u16],
@@ -131,8 +137,19 @@ pub fn write_numbers(
     ensures { λ r. ⌜ WritesNumbers (automaton a (now (table .entry))) (now (names .entry)) (tables (now (word .entry)) (now (one .entry)) (now (other .entry)))
         (tables (now (word .exit)) (now (one .exit)) (now (other .exit))) (now (out .entry)) (now (out .exit)) r ⌝ }
 {
-    match ask(a, table, names, word, one, other) {
-        Checked::Refused(r) => gate::refuse(r, out),
-        Checked::Accepted => finish(a, table, names, out),
+    if !walks::long_enough(table, word, one, other) {
+        return Written::Refused(Refusal {
+            number: 1,
+            line: 0,
+            length: 0,
+        });
+    }
+    let mut rows = [0u8; 192];
+    match ask(a, table, names, &mut rows, word, one, other) {
+        Checked::Refused(r) => {
+            gate::clear_bytes(out);
+            Written::Refused(r)
+        }
+        Checked::Accepted => finish(a, table, &rows, out),
     }
 }

@@ -3,8 +3,8 @@ ghost use mathlib.Core.Path.{_≡_};
 ghost use Prim.Native.Nat.{_+_, _≤_};
 ghost use lib.ListN.{length};
 ghost use lib.Seq.{sets};
-ghost use mathlib.Core.List.{[]};
-ghost use Rattle.text.specs.Pair.{threeNumbers};
+ghost use mathlib.Core.List.{[], _∷_};
+ghost use Rattle.text.specs.Line.{numbersLine};
 ghost use Rattle.format.specs.Format.{headLine, nameLine};
 
 // The first line.
@@ -36,7 +36,7 @@ pub fn put_name(out: &mut [u8], at: usize, letter: usize, name: &[u8]) -> usize
 // The byte `kind` and three numbers: the line of a state or of a transition.
 pub fn put_columns(out: &mut [u8], at: usize, kind: u8, a: usize, b: usize, c: usize)
     requires { ⌜ at + 11 ≤ length (now out) ⌝ }
-    ensures { λ _. ⌜ now (out .exit) ≡ sets (now (out .entry)) at (threeNumbers kind a b c []) ⌝ }
+    ensures { λ _. ⌜ now (out .exit) ≡ sets (now (out .entry)) at (numbersLine (kind ∷ []) (a ∷ b ∷ c ∷ [])) ⌝ }
 {
     out[at] = kind;
     text::put_column(out, at + 1, 3, a);

@@ -1,6 +1,6 @@
 // The state lines.
 ghost use mathlib.Core.Path.{_≡_};
-ghost use Prim.Native.Nat.{_+_, _*_, _≤_, _<_};
+ghost use Prim.Native.Nat.{_+_, _≤_, _<_};
 ghost use lib.ListN.{length};
 ghost use lib.Seq.{sets};
 ghost use Rattle.sets.specs.Sets.{bit};
@@ -29,8 +29,8 @@ fn put_state(out: &mut [u8], at: usize, q: usize, initial: u16, recurring: u16)
 
 // The lines of n states, from `start` on. The answer is the place behind them.
 pub fn put_states(out: &mut [u8], start: usize, n: usize, initial: u16, recurring: u16) -> usize
-    requires { ⌜ (n ≤ 16) × (start + 11 * n ≤ length (now out)) ⌝ }
-    ensures { λ r. ⌜ (r ≡ start + 11 * n)
+    requires { ⌜ (n ≤ 16) × (start + length (stateLines 0 (statesOf initial recurring 0 n)) ≤ length (now out)) ⌝ }
+    ensures { λ r. ⌜ (r ≡ start + length (stateLines 0 (statesOf initial recurring 0 n)))
         × (now (out .exit) ≡ sets (now (out .entry)) start (stateLines 0 (statesOf initial recurring 0 n))) ⌝ }
 {
     let mut q = 0;

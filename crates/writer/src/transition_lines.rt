@@ -1,6 +1,6 @@
 // The transition lines of a table, in the order of their places.
 ghost use mathlib.Core.Path.{_≡_};
-ghost use Prim.Native.Nat.{_+_, _*_, _≤_};
+ghost use Prim.Native.Nat.{_+_, _≤_};
 ghost use lib.ListN.{length};
 ghost use lib.Seq.{sets};
 ghost use Rattle.format.specs.Format.{transitionLine, transitionLines};
@@ -53,8 +53,8 @@ fn put_transition(out: &mut [u8], at: usize, i: usize)
 
 // The lines of all transitions, from `start` on. The answer is the place behind them.
 pub fn put_transitions(out: &mut [u8], start: usize, table: &[u16]) -> usize
-    requires { ⌜ (128 ≤ length (now table)) × (start + 11 * length (transitionsOf (now table) 0 places) ≤ length (now out)) ⌝ }
-    ensures { λ r. ⌜ (r ≡ start + 11 * length (transitionsOf (now (table .entry)) 0 places))
+    requires { ⌜ (128 ≤ length (now table)) × (start + length (transitionLines (transitionsOf (now table) 0 places)) ≤ length (now out)) ⌝ }
+    ensures { λ r. ⌜ (r ≡ start + length (transitionLines (transitionsOf (now (table .entry)) 0 places)))
         × (now (out .exit) ≡ sets (now (out .entry)) start (transitionLines (transitionsOf (now (table .entry)) 0 places))) ⌝ }
 {
     let mut at = start;

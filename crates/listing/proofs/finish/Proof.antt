@@ -1,10 +1,10 @@
 -- The answer is that of the last question. Assumes nothing.
 use mathlib.Core.Path.{_≡_, refl, sym, _∙_}
 use lib.ListN.{length}
-use Rattle.tracker.specs.Build.{store}
-use Rattle.tracker.specs.BuildLaws.{store-cleared}
-use Rattle.listing.specs.Listing.{listing}
-use Rattle.listing.specs.PutLaws.{listing-length}
+use Rattle.filling.specs.Store.{store}
+use Rattle.filling.specs.StoreLaws.{store-cleared}
+use Rattle.listing_text.specs.Listing.{listing}
+use Rattle.listing_text.specs.PutLaws.{listing-length}
 use borrow.Author.Needs.{needs}
 use Rattle.listing.proofs.finish.Statement.{statement}
 use Rattle.listing.proofs.finish.Tie as tie

@@ -6,7 +6,7 @@ use native.Mathlib.Omega.{arith}
 use denote.Ref.{now}
 use Rattle.sheet.specs.Letters.{NoName, NameIs}
 use Rattle.sheet.specs.Answers.{LettersOf}
-use Rattle.sheet.proofs.LetterAnswers.{name-given, no-letter}
+use Rattle.sheet.specs.LettersLaws.{name-given, no-letter}
 use borrow.Author.Needs.{needs}
 use Rattle.sheet.proofs.name.Statement.{statement}
 use Rattle.sheet.proofs.name.Tie as tie

@@ -4,7 +4,7 @@ use native.Mathlib.Omega.{arith}
 use denote.Ref.{now}
 use Rattle.sheet.specs.Letters.{NoName, NumberIs}
 use Rattle.sheet.specs.Answers.{LettersOf}
-use Rattle.sheet.proofs.LetterAnswers.{letters-are, no-letter}
+use Rattle.sheet.specs.LettersLaws.{letters-are, no-letter}
 use borrow.Author.Needs.{needs}
 use Rattle.sheet.proofs.name_number.Statement.{statement}
 use Rattle.sheet.proofs.name_number.Tie as tie

@@ -1,55 +1,60 @@
 -- Each answer is that of the questions on the way to it. Assumes nothing.
-use Prim.Native.Nat.{ℕ}
+use Prim.Native.Nat.{ℕ, _≤_}
 use mathlib.Core.Path.{refl, sym, ap, subst, _∙_}
 use native.Mathlib.Omega.{arith}
-use lib.ListN.{replicate}
+use lib.ListN.{length, replicate}
 use lib.Seq.{length-take-le}
+use borrow.Author.Tests.{not-true, not-false}
 use Rattle.automaton.specs.Lent.{Tables, tables}
-use Rattle.sheet.specs.Read.{Reads}
+use Rattle.sheet.specs.Read.{ReadTables, readTables, ReadsNamed}
+use Rattle.sheet.specs.ReadLaws.{read-fits}
 use Rattle.sheet.specs.declared.Read.{Read}
 use Rattle.sheet.specs.declared.Read.the-variants.{Is}
-use Rattle.tracker.specs.Build.{store, Lent, Builds}
-use Rattle.tracker.specs.BuildLaws.{read-fits, file-refused, file-over, file-is}
+use Rattle.filling.specs.Store.{store}
+use Rattle.tracker.specs.Build.{Lent, Builds}
+use Rattle.tracker.specs.BuildLaws.{file-over, file-is}
 use borrow.Author.Needs.{needs}
 use Rattle.tracker.proofs.build.Statement.{statement}
 use Rattle.tracker.proofs.build.Tie as tie
 
--- the start, from behind reading, and what is handed over
-abbrev begun : tie.After-read-sheet → tie.Start
-begun c = c .before .before .before .before .before .before .before .before .before .before .before .before .before .before .before .before .before .before .before .before
+abbrev start : tie.Else1 → tie.Start
+start c = c .before .before .before .before .before .before .before .before .before .before .before .before .before .before .before
 
-abbrev witness : tie.After-read-sheet → Tables
-witness c = let a = begun c .args in tables (a .word .now) (a .one .now) (a .other .now)
+abbrev witness : tie.Start → Tables
+witness s = tables (s .args .word .now) (s .args .one .now) (s .args .other .now)
 
-lent : (c : tie.After-read-sheet) →
-    let a = begun c .args in
-    Lent (a .room) (a .table .now) (witness c) (store (a .tuples .now) (a .nexts .now))
-lent c = let granted = c .before .before .before .before .before in granted .before .enough .ensures .0 (granted .if1 .taken)
+-- question 1 is passed
+lent : (c : tie.Else1) →
+    let a = start c .args in
+    Lent (a .room) (a .table .now) (witness (start c)) (store (a .tuples .now) (a .nexts .now))
+lent c = c .before .enough .ensures .0 (not-false _ (c .if1 .left))
 
-abbrev left : tie.After-read-sheet → Tables
-left c = let w = c .read-sheet .last .1 .1 in tables (w .0) (w .1 .0) (w .1 .1 .0)
+-- the file is read
+abbrev asked : tie.After-read-long → tie.Else1
+asked c = c .before .before .before .before .before .before
 
-abbrev Read-as : tie.After-read-sheet → Read → Type 0
-Read-as c x = Reads (begun c .args .sheet .now) (begun c .args .table .now) (c .read-sheet .last .1 .0) (witness c) (left c) x
+abbrev after : tie.After-read-long → ReadTables
+after c =
+    let w = c .read-long .last .1 in
+    readTables (w .0) (w .1 .0) (tables (w .1 .1 .0) (w .1 .1 .1 .0) (w .1 .1 .1 .1 .0))
+
+abbrev Read-as : tie.After-read-long → Read → Type 0
+Read-as c x =
+    let s = start (asked c) in
+    ReadsNamed (s .args .sheet .now) (readTables (s .args .table .now) (replicate 192 0) (witness s)) (after c) x
+
+cells : (c : tie.After-read-long) → 128 ≤ length (after c .successors)
+cells c = omega (arith, lent (asked c) .lengths .cells, c .read-long .kept .1 .0)
 
 -- an accepted sheet
-abbrev behind : tie.After-a → tie.After-read-sheet
-behind c = c .before .before .before .before .before .before .before .before .before .before
+abbrev reading : tie.After-a → tie.After-read-long
+reading c = c .before .before .before .before .before .before .before .before .before .before .before
 
-accepted : (c : tie.After-a) → Read-as (behind c) (Is (c .a .given .0 .0))
-accepted c = subst (Read-as (behind c)) (c .a .given .1) (behind c .read-sheet .ensures)
+accepted : (c : tie.After-a) → Read-as (reading c) (Is (c .a .given .0 .0))
+accepted c = subst (Read-as (reading c)) (c .a .given .1) (reading c .read-long .ensures)
 
 enough-requires : tie.Need-enough-requires
 enough-requires c κs = search needs
-
-read-sheet-requires : tie.Need-read-sheet-requires
-read-sheet-requires c κs = search needs
-
-enum-known-r : tie.Need-enum-known-r
-enum-known-r c = search needs
-
-clear-requires : tie.Need-clear-requires
-clear-requires c κs = search needs
 
 same-length : tie.Need-same-length
 same-length c = search needs
@@ -70,29 +75,35 @@ same-length-6 : tie.Need-same-length-6
 same-length-6 c = search needs
 
 returns : tie.Need-returns
-returns c =
-    let cleared = c .before .before .before .before in
-    let told = cleared .before .before .before .before in
-    let read = told .before .before .before .before .before .before .before .before .before .before in
-    file-refused {w = left read} (lent read) (rw (told .r .given .1) at (read .read-sheet .ensures)) (cleared .clear .ensures)
+returns c = Builds.short (c .before .enough .ensures .1 (not-true _ (c .if1 .taken))) refl refl refl refl
+
+slice-aggregate-read-long : tie.Need-slice-aggregate-read-long
+slice-aggregate-read-long c = search needs
+
+read-long-requires : tie.Need-read-long-requires
+read-long-requires c κs = (lent (c .before .before .before .before .before) .lengths, omega arith)
+
+enum-known-r : tie.Need-enum-known-r
+enum-known-r c = search needs
+
+clear-requires : tie.Need-clear-requires
+clear-requires c κs = search needs
 
 enum-known-a : tie.Need-enum-known-a
 enum-known-a c = search needs
 
 slice-reshare-prefix-track : tie.Need-slice-reshare-prefix-track
-slice-reshare-prefix-track c =
-    let read = behind (c .before) in
-    omega (arith, lent read .lengths .cells, read .read-sheet .kept .1 .0)
+slice-reshare-prefix-track c = cells (reading (c .before))
 
 slice-aggregate-track : tie.Need-slice-aggregate-track
 slice-aggregate-track c =
-    let read = behind (c .before .before) in
-    sym (length-take-le 128 (read .read-sheet .last .1 .0) (omega (arith, lent read .lengths .cells, read .read-sheet .kept .1 .0)))
+    let read = reading (c .before .before) in
+    sym (length-take-le 128 (after read .successors) (cells read))
 
 track-requires : tie.Need-track-requires
 track-requires c κs =
     let told = c .before .before .before .before in
-    (read-fits (begun (behind told) .args .table .now) (accepted told), lent (behind told) .store)
+    (read-fits (accepted told), lent (asked (reading told)) .store)
 
 enum-told : tie.Need-enum-told
 enum-told c = search needs
@@ -123,12 +134,10 @@ same-length-12 c = search needs
 
 returns-2 : tie.Need-returns-2
 returns-2 c =
-    let cleared = c .before .before in
-    let over = cleared .before .before in
-    let tracked = over .before .before .before .before .before .before in
-    let told = tracked .before .before .before .before .before in
-    let table = cleared .clear2 .ensures ∙ ap (λ (n : ℕ). replicate n 0) (behind told .read-sheet .kept .1 .0) in
-    rw (over .enum-told .given .1) (file-over (lent (behind told)) (accepted told) (rw (over .enum-told .given .1) at (tracked .track .ensures)) table)
+    let told = c .before .before .before .before .before .before .before .before in
+    let read = told .before .before .before .before .before .before .before .before .before .before .before in
+    let refused = subst (Read-as read) (told .r .given .1) (read .read-long .ensures) in
+    Builds.refused (lent (asked read)) (told .r .given .0 .0) (refused .0) refl (refused .1) (c .before .before .before .before .clear .ensures)
 
 same-length-13 : tie.Need-same-length-13
 same-length-13 c = search needs
@@ -150,9 +159,12 @@ same-length-18 c = search needs
 
 returns-3 : tie.Need-returns-3
 returns-3 c =
-    let tracked = c .before .before .before .before .before .before in
+    let over = c .before .before .before .before in
+    let tracked = over .before .before .before .before .before .before in
     let told = tracked .before .before .before .before .before in
-    rw (c .enum-told2 .given .1) (file-is (lent (behind told)) (accepted told) (rw (c .enum-told2 .given .1) at (tracked .track .ensures)))
+    let table = c .before .before .clear2 .ensures ∙ ap (λ (n : ℕ). replicate n 0) (reading told .read-long .kept .1 .0) in
+    rw (over .enum-told .given .1)
+    (file-over (lent (asked (reading told))) (accepted told) (rw (over .enum-told .given .1) at (tracked .track .ensures)) table)
 
 same-length-19 : tie.Need-same-length-19
 same-length-19 c = search needs
@@ -173,16 +185,16 @@ same-length-24 : tie.Need-same-length-24
 same-length-24 c = search needs
 
 returns-4 : tie.Need-returns-4
-returns-4 c = Builds.short (c .before .enough .ensures .1 (c .if1 .left)) refl refl refl refl
+returns-4 c =
+    let tracked = c .before .before .before .before .before .before in
+    let told = tracked .before .before .before .before .before in
+    rw (c .enum-told2 .given .1) (file-is (lent (asked (reading told))) (accepted told) (rw (c .enum-told2 .given .1) at (tracked .track .ensures)))
 
 pub build-spec : {M : Type 1} → statement M
 build-spec =
     tie.close
     (tie.spec
     enough-requires
-    read-sheet-requires
-    enum-known-r
-    clear-requires
     same-length
     same-length-2
     same-length-3
@@ -190,6 +202,10 @@ build-spec =
     same-length-5
     same-length-6
     returns
+    slice-aggregate-read-long
+    read-long-requires
+    enum-known-r
+    clear-requires
     enum-known-a
     slice-reshare-prefix-track
     slice-aggregate-track

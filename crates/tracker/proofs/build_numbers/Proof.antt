@@ -1,52 +1,48 @@
 -- Each answer is that of the questions on the way to it. Assumes nothing.
 use mathlib.Core.Path.{refl, subst}
+use borrow.Author.Tests.{not-true, not-false}
 use Rattle.automaton.specs.Automaton.{automaton}
 use Rattle.automaton.specs.Lent.{Tables, tables}
-use Rattle.walks.specs.Check.{Checks}
+use Rattle.walks.specs.Check.{ChecksLong}
 use Rattle.walks.specs.declared.Checked.{Checked}
 use Rattle.walks.specs.declared.Checked.the-variants.{Accepted}
-use Rattle.tracker.specs.Build.{store, Lent, BuildsNumbers}
-use Rattle.tracker.specs.BuildLaws.{numbers-refused}
+use Rattle.filling.specs.Store.{store}
+use Rattle.tracker.specs.Build.{Lent, BuildsNumbers}
 use borrow.Author.Needs.{needs}
 use Rattle.tracker.proofs.build_numbers.Statement.{statement}
 use Rattle.tracker.proofs.build_numbers.Tie as tie
 
--- the start, from behind the check, and what is handed over
-abbrev begun : tie.After-check → tie.Start
-begun c = c .before .before .before .before .before .before .before .before .before .before .before .before .before .before .before .before .before
+abbrev start : tie.Else1 → tie.Start
+start c = c .before .before .before .before .before .before .before .before .before .before .before .before .before
 
-abbrev witness : tie.After-check → Tables
-witness c = let a = begun c .args in tables (a .word .now) (a .one .now) (a .other .now)
+abbrev witness : tie.Start → Tables
+witness s = tables (s .args .word .now) (s .args .one .now) (s .args .other .now)
 
-lent : (c : tie.After-check) →
-    let a = begun c .args in
-    Lent (a .room) (a .table .now) (witness c) (store (a .tuples .now) (a .nexts .now))
-lent c = let granted = c .before .before .before .before in granted .before .enough .ensures .0 (granted .if1 .taken)
+-- question 1 is passed
+lent : (c : tie.Else1) →
+    let a = start c .args in
+    Lent (a .room) (a .table .now) (witness (start c)) (store (a .tuples .now) (a .nexts .now))
+lent c = c .before .enough .ensures .0 (not-false _ (c .if1 .left))
 
-abbrev Checked-as : tie.After-check → Checked → Type 0
+-- the numbers are checked
+abbrev asked : tie.After-check-long → tie.Else1
+asked c = c .before .before .before .before
+
+abbrev Checked-as : tie.After-check-long → Checked → Type 0
 Checked-as c x =
-    let a = begun c .args in
-    let w = c .check .last .1 .1 in
-    Checks (automaton (a .a) (a .table .now)) (witness c) (tables (w .0) (w .1 .0) (w .1 .1 .0)) x
+    let s = start (asked c) in
+    let w = c .check-long .last .1 .1 in
+    ChecksLong (automaton (s .args .a) (s .args .table .now)) (witness s) (tables (w .0) (w .1 .0) (w .1 .1 .0)) x
 
 -- an accepted sheet
-abbrev behind : tie.After-enum-told → tie.After-check
-behind c = c .before .before .before .before .before .before .before .before
+abbrev checking : tie.After-enum-told → tie.After-check-long
+checking c = c .before .before .before .before .before .before .before .before
 
-accepted : (c : tie.After-enum-told) → Checked-as (behind c) Accepted
-accepted c = subst (Checked-as (behind c)) (c .enum-told .given .1) (behind c .check .ensures)
+accepted : (c : tie.After-enum-told) → Checked-as (checking c) Accepted
+accepted c = subst (Checked-as (checking c)) (c .enum-told .given .1) (checking c .check-long .ensures)
 
 enough-requires : tie.Need-enough-requires
 enough-requires c κs = search needs
-
-check-requires : tie.Need-check-requires
-check-requires c κs = search needs
-
-enum-known-r : tie.Need-enum-known-r
-enum-known-r c = search needs
-
-clear-requires : tie.Need-clear-requires
-clear-requires c κs = search needs
 
 same-length : tie.Need-same-length
 same-length c = search needs
@@ -64,19 +60,16 @@ same-length-5 : tie.Need-same-length-5
 same-length-5 c = search needs
 
 returns : tie.Need-returns
-returns c =
-    let cleared = c .before .before .before .before in
-    let told = cleared .before .before .before .before in
-    let checked = told .before .before .before .before .before .before .before .before in
-    numbers-refused (lent checked) (rw (told .r .given .1) at (checked .check .ensures)) (cleared .clear .ensures)
+returns c = BuildsNumbers.short (c .before .enough .ensures .1 (not-true _ (c .if1 .taken))) refl refl refl
 
-enum-told : tie.Need-enum-told
-enum-told c = search needs
+check-long-requires : tie.Need-check-long-requires
+check-long-requires c κs = lent (c .before .before .before) .lengths
 
-track-requires : tie.Need-track-requires
-track-requires c κs =
-    let told = c .before .before in
-    (accepted told .1, lent (behind told) .store)
+enum-known-r : tie.Need-enum-known-r
+enum-known-r c = search needs
+
+clear-requires : tie.Need-clear-requires
+clear-requires c κs = search needs
 
 same-length-6 : tie.Need-same-length-6
 same-length-6 c = search needs
@@ -95,10 +88,18 @@ same-length-10 c = search needs
 
 returns-2 : tie.Need-returns-2
 returns-2 c =
-    let tracked = c .before .before .before .before in
-    let told = tracked .before .before .before in
-    let (l, fits, free, cleared) = accepted told in
-    BuildsNumbers.asked (lent (behind told)) fits free cleared (tracked .track .ensures)
+    let told = c .before .before .before .before .before .before .before .before in
+    let checked = told .before .before .before .before .before .before .before .before in
+    let refused = subst (Checked-as checked) (told .r .given .1) (checked .check-long .ensures) in
+    BuildsNumbers.refused (lent (asked checked)) (told .r .given .0 .0) refused refl (c .before .before .before .before .clear .ensures)
+
+enum-told : tie.Need-enum-told
+enum-told c = search needs
+
+track-requires : tie.Need-track-requires
+track-requires c κs =
+    let told = c .before .before in
+    (accepted told .0, lent (asked (checking told)) .store)
 
 same-length-11 : tie.Need-same-length-11
 same-length-11 c = search needs
@@ -116,30 +117,33 @@ same-length-15 : tie.Need-same-length-15
 same-length-15 c = search needs
 
 returns-3 : tie.Need-returns-3
-returns-3 c = BuildsNumbers.short (c .before .enough .ensures .1 (c .if1 .left)) refl refl refl
+returns-3 c =
+    let told = c .before .before .before .before .before .before .before in
+    let (fits, free, cleared) = accepted told in
+    BuildsNumbers.asked (lent (asked (checking told))) fits free cleared (c .before .before .before .before .track .ensures)
 
 pub build-numbers-spec : {M : Type 1} → statement M
 build-numbers-spec =
     tie.close
     (tie.spec
     enough-requires
-    check-requires
-    enum-known-r
-    clear-requires
     same-length
     same-length-2
     same-length-3
     same-length-4
     same-length-5
     returns
-    enum-told
-    track-requires
+    check-long-requires
+    enum-known-r
+    clear-requires
     same-length-6
     same-length-7
     same-length-8
     same-length-9
     same-length-10
     returns-2
+    enum-told
+    track-requires
     same-length-11
     same-length-12
     same-length-13

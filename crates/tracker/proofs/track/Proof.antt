@@ -1,10 +1,10 @@
 -- Cleared tables are filled, and cleared again where the tuples are too many. Assumes nothing.
 use mathlib.Core.Path.{refl, sym, subst, _∙_}
 use Rattle.automaton.specs.Automaton.{automaton}
-use Rattle.tracker.specs.Build.{Store, store, Fitted}
-use Rattle.tracker.specs.Fill.{Filling}
-use Rattle.tracker.specs.BuildLaws.{cleared-alike}
-use Rattle.tracker.specs.FillLaws.{cleared-filling, cleared-fitted}
+use Rattle.filling.specs.Store.{Store, store, Fitted}
+use Rattle.filling.specs.Fill.{Filling}
+use Rattle.filling.specs.StoreLaws.{cleared-alike}
+use Rattle.filling.specs.FillLaws.{cleared-filling, cleared-fitted}
 use borrow.Author.Needs.{needs}
 use Rattle.tracker.proofs.track.Statement.{statement}
 use Rattle.tracker.proofs.track.Tie as tie

@@ -41,8 +41,7 @@ answer : (c : tie.After-ask) →
 answer c =
     let s = start (c .before .before .before .before .before .before) in
     let l = c .ask .last .1 .1 in
-    subst (λ (G : Graph). Answered G Everywhere (lent s) (tables (l .0) (l .1 .0) (l .1 .1 .0)) (c .ask .result))
-    (same (c .before .before .before .before)) (c .ask .ensures)
+    subst (λ (G : Graph). Answered G Everywhere (lent s) (tables (l .0) (l .1 .0) (l .1 .1 .0)) (c .ask .result)) (same (c .before .before .before .before)) (c .ask .ensures)
 
 first-no-requires : tie.Need-first-no-requires
 first-no-requires c κs = search needs
@@ -59,8 +58,7 @@ ask-requires : tie.Need-ask-requires
 ask-requires c κs =
     let passed = c .before .before .before .before in
     let p = start (passed .before) .pre in
-    subst (λ (G : Graph). Asked G (lent (start (passed .before)))) (sym (same (c .before .before .before)))
-    (record { fits = fits-graph (fits passed); lengths = p .0; zeros = p .1 })
+    subst (λ (G : Graph). Asked G (lent (start (passed .before)))) (sym (same (c .before .before .before))) (record { fits = fits-graph (fits passed); lengths = p .0; zeros = p .1 })
 
 same-length : tie.Need-same-length
 same-length c = search needs

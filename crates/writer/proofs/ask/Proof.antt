@@ -1,36 +1,55 @@
--- `writer::ask` meets its contract: question 1 is asked first; what reading the names' file answers is handed on, and then what the check of the
--- numbers answers. Assumes nothing.
+-- `writer::ask` meets its contract: what reading the names' file answers is handed on, and then what the check of the numbers answers. Assumes nothing.
 use mathlib.Core.Path.{refl, subst}
-use mathlib.Core.Logic.{inl}
-use borrow.Author.Tests.{not-true, not-false}
-use denote.Ref.{now}
+use native.Mathlib.Omega.{arith}
+use lib.ListN.{replicate}
 use Rattle.automaton.specs.Automaton.{Automaton, automaton}
-use Rattle.automaton.specs.Lent.{tables, Lengths}
-use Rattle.sheet.specs.Read.{Reads}
-use Rattle.writer.specs.WriteLaws.{ask-names, ask-letters, ask-numbers}
+use Rattle.automaton.specs.Lent.{tables}
+use Rattle.sheet.specs.declared.Read.{Read}
+use Rattle.sheet.specs.declared.Read.the-variants as R
+use Rattle.sheet.specs.Read.{ReadTables, readTables, ReadsNamed}
+use Rattle.writer.specs.Write.{NamedRefuse}
+use Rattle.writer.specs.WriteLaws.{ask-letters, ask-lengths, ask-numbers}
 use borrow.Author.Needs.{needs}
 use Rattle.writer.proofs.ask.Statement.{statement}
 use Rattle.writer.proofs.ask.Tie as tie
 
-abbrev start : tie.Else1 → tie.Start
-start c = c .before .before .before .before .before .before .before .before .before .before
+abbrev start : tie.After-read-long → tie.Start
+start c = c .before .before .before .before .before .before .before .before .before .before .before .before
 
 abbrev given : tie.Start → Automaton
-given s = automaton (s .args .a) (now (s .args .table))
+given s = automaton (s .args .a) (s .args .table .now)
 
--- question 1 is passed
-enough : (c : tie.Else1) → Lengths (given (start c) .table) (tables (start c .args .word .now) (start c .args .one .now) (start c .args .other .now))
-enough c = c .before .long-enough .ensures .0 (not-false _ (c .if1 .left))
+-- the names' file is read
+abbrev before : tie.Start → ReadTables
+before s = readTables (replicate 128 0) (s .args .rows .now) (tables (s .args .word .now) (s .args .one .now) (s .args .other .now))
 
--- then the names' file is read
-abbrev reading : tie.After-slice-known6 → tie.After-read-sheet
-reading c = c .before .before .before .before .before .before .before
+abbrev after : tie.After-read-long → ReadTables
+after c =
+    let w = c .read-long .last .1 in
+    readTables (w .0) (w .1 .0) (tables (w .1 .1 .0) (w .1 .1 .1 .0) (w .1 .1 .1 .1 .0))
 
-abbrev long : tie.After-slice-known6 → tie.Else1
-long c = reading c .before .before .before .before .before
+abbrev Read-as : tie.After-read-long → Read → Type 0
+Read-as c x = ReadsNamed (start c .args .names .now) (before (start c)) (after c) x
 
-long-enough-requires : tie.Need-long-enough-requires
-long-enough-requires c κs = search needs
+abbrev reading : tie.After-b → tie.After-read-long
+reading c = c .before .before .before .before .before .before .before .before .before .before .before
+
+accepted : (c : tie.After-b) → Read-as (reading c) (R.Is (c .b .given .0 .0))
+accepted c = subst (Read-as (reading c)) (c .b .given .1) (reading c .read-long .ensures)
+
+slice-aggregate-read-long : tie.Need-slice-aggregate-read-long
+slice-aggregate-read-long c = search needs
+
+read-long-requires : tie.Need-read-long-requires
+read-long-requires c κs =
+    let p = c .before .before .before .before .before .before .before .before .before .before .before .pre in
+    (record { cells = omega arith; long = p .0 .long }, p .1)
+
+enum-known-r : tie.Need-enum-known-r
+enum-known-r c = search needs
+
+enum-known-b : tie.Need-enum-known-b
+enum-known-b c = search needs
 
 same-length : tie.Need-same-length
 same-length c = search needs
@@ -41,23 +60,18 @@ same-length-2 c = search needs
 same-length-3 : tie.Need-same-length-3
 same-length-3 c = search needs
 
-returns : tie.Need-returns
-returns c = inl (c .before .long-enough .ensures .1 (not-true _ (c .if1 .taken)), refl, refl)
-
-slice-aggregate-read-sheet : tie.Need-slice-aggregate-read-sheet
-slice-aggregate-read-sheet c = search needs
-
-read-sheet-requires : tie.Need-read-sheet-requires
-read-sheet-requires c κs = search needs
-
-enum-known-r : tie.Need-enum-known-r
-enum-known-r c = search needs
-
-enum-known-b : tie.Need-enum-known-b
-enum-known-b c = search needs
-
 same-length-4 : tie.Need-same-length-4
 same-length-4 c = search needs
+
+returns : tie.Need-returns
+returns c =
+    let told = c .before .before .before .before in
+    ask-letters (given (start (reading told))) (accepted told) (c .if1 .taken) refl
+
+check-long-requires : tie.Need-check-long-requires
+check-long-requires c κs =
+    let told = c .before .before .before .before .before .before .before in
+    ask-lengths (given (start (reading told))) (accepted told) (start (reading told) .pre .0)
 
 same-length-5 : tie.Need-same-length-5
 same-length-5 c = search needs
@@ -65,30 +79,20 @@ same-length-5 c = search needs
 same-length-6 : tie.Need-same-length-6
 same-length-6 c = search needs
 
-returns-2 : tie.Need-returns-2
-returns-2 c =
-    let told = c .before .before .before .before in
-    let asked = long (told .before .before) in
-    ask-letters (given (start asked)) (enough asked) (subst (Reads _ _ _ _ _) (told .b .given .1) (reading (told .before .before) .read-sheet .ensures))
-    (c .if2 .taken) refl
-
-check-requires : tie.Need-check-requires
-check-requires c κs = search needs
-
 same-length-7 : tie.Need-same-length-7
 same-length-7 c = search needs
 
 same-length-8 : tie.Need-same-length-8
 same-length-8 c = search needs
 
+returns-2 : tie.Need-returns-2
+returns-2 c =
+    let read = c .before .before .before .before .before .before .before .before .before .before .before .before in
+    let refused = subst (Read-as read) (c .before .r .given .1) (read .read-long .ensures) in
+    NamedRefuse.by-names (refused .0)
+
 same-length-9 : tie.Need-same-length-9
 same-length-9 c = search needs
-
-returns-3 : tie.Need-returns-3
-returns-3 c =
-    let told = c .before in
-    let asked = long (told .before .before) in
-    ask-names (given (start asked)) (enough asked) (subst (Reads _ _ _ _ _) (told .r .given .1) (reading (told .before .before) .read-sheet .ensures))
 
 same-length-10 : tie.Need-same-length-10
 same-length-10 c = search needs
@@ -99,39 +103,34 @@ same-length-11 c = search needs
 same-length-12 : tie.Need-same-length-12
 same-length-12 c = search needs
 
-returns-4 : tie.Need-returns-4
-returns-4 c =
-    let check = c .before .before .before .before .before .before .check in
+returns-3 : tie.Need-returns-3
+returns-3 c =
+    let check = c .before .before .before .before .before .before .check-long in
     let told = c .before .before .before .before .before .before .before .before .before .before .before .before .before .before in
-    let asked = long (told .before .before) in
-    ask-numbers (given (start asked)) (enough asked)
-    (subst (Reads _ _ _ _ _) (told .b .given .1) (reading (told .before .before) .read-sheet .ensures))
-    (c .before .before .before .before .before .before .before .before .before .before .if2 .left)
+    ask-numbers (given (start (reading told))) (accepted told) (c .before .before .before .before .before .before .before .before .before .before .if1 .left)
     (tables (check .last .1 .1 .0) (check .last .1 .1 .1 .0) (check .last .1 .1 .1 .1 .0)) (check .result) (check .ensures)
 
 pub ask-spec : {M : Type 1} → statement M
 ask-spec =
     tie.close
     (tie.spec
-    long-enough-requires
+    slice-aggregate-read-long
+    read-long-requires
+    enum-known-r
+    enum-known-b
     same-length
     same-length-2
     same-length-3
-    returns
-    slice-aggregate-read-sheet
-    read-sheet-requires
-    enum-known-r
-    enum-known-b
     same-length-4
+    returns
+    check-long-requires
     same-length-5
     same-length-6
-    returns-2
-    check-requires
     same-length-7
     same-length-8
+    returns-2
     same-length-9
-    returns-3
     same-length-10
     same-length-11
     same-length-12
-    returns-4)
+    returns-3)

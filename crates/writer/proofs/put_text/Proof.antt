@@ -1,14 +1,13 @@
 -- `writer::put_text` meets its contract: the parts are stored one behind the other. Assumes nothing.
-use Prim.Native.Nat.{ℕ, _+_, _*_, _≤_}
+use Prim.Native.Nat.{ℕ, _+_, _≤_}
 use mathlib.Core.Path.{_≡_, _∙_}
 use mathlib.Core.List.{List}
 use native.Mathlib.Omega.{arith}
 use lib.ListN.{length}
 use Rattle.automaton.specs.Automaton.{Automaton, automaton}
 use Rattle.format.specs.Format.{nameLines}
-use Rattle.format.specs.Written.{places, transitionsOf}
 use Rattle.writer.specs.RowNames.{rowNames}
-use Rattle.writer.specs.TextLaws.{text-length, text-stored}
+use Rattle.writer.specs.TextLaws.{statesText, transitionsText, text-length, text-stored}
 use borrow.Author.Needs.{needs}
 use Rattle.writer.proofs.put_text.Statement.{statement}
 use Rattle.writer.proofs.put_text.Tie as tie
@@ -21,7 +20,7 @@ abbrev names : tie.Start → List (List ℕ)
 names s = rowNames (s .args .rows .now) 0 (s .args .a .k)
 
 fits : (s : tie.Start) →
-    12 + (length (nameLines 0 (names s)) + (11 * numbers s .n + (11 * length (transitionsOf (numbers s .table) 0 places) + 4))) ≤ length (s .args .out .now)
+    12 + (length (nameLines 0 (names s)) + (length (statesText (numbers s)) + (length (transitionsText (numbers s)) + 4))) ≤ length (s .args .out .now)
 fits s = omega (arith, s .pre .2, text-length (numbers s) (names s))
 
 -- the states in which the parts are stored, one by one, in an output that keeps its length

@@ -2,9 +2,9 @@
 use native.Mathlib.Omega.{arith}
 use denote.Ref.{now}
 use Rattle.automaton.specs.Automaton.{automaton}
-use Rattle.format.specs.Written.{places}
+use Rattle.format.specs.Written.{statesOf, places, transitionsOf}
 use Rattle.writer.specs.RowNames.{rowNames}
-use Rattle.writer.specs.LengthLaws.{transitionsOf-most}
+use Rattle.writer.specs.LengthLaws.{statesOf-length, transitionsOf-most, states-length, transitions-length}
 use Rattle.writer.specs.TextLaws.{text-length}
 use borrow.Author.Needs.{needs}
 use Rattle.writer.proofs.text_length.Statement.{statement}
@@ -34,7 +34,12 @@ add-result-3 c = omega (arith, transitionsOf-most (now (c .before .before .befor
 returns : tie.Need-returns
 returns c =
     let a = c .before .before .before .before .before .args in
-    omega (arith, text-length (automaton (a .a) (now (a .table))) (rowNames (now (a .rows)) 0 (a .a .k)))
+    let n = a .a .n in
+    let initial = a .a .initial in
+    let recurring = a .a .recurring in
+    let states = states-length 0 (statesOf initial recurring 0 n) in
+    let transitions = transitions-length (transitionsOf (now (a .table)) 0 places) in
+    omega (arith, text-length (automaton (a .a) (now (a .table))) (rowNames (now (a .rows)) 0 (a .a .k)), statesOf-length initial recurring n 0)
 
 pub text-length-spec : {M : Type 1} → statement M
 text-length-spec =

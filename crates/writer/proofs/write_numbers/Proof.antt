@@ -1,32 +1,49 @@
--- `writer::write_numbers` meets its contract: what the questions answer is handed on, and then the last one's answer. Assumes nothing.
-use mathlib.Core.Path.{subst}
+-- `writer::write_numbers` meets its contract: question 1 is asked first; what the questions answer is handed on, and then the last one's answer. Assumes nothing.
+use mathlib.Core.Path.{refl, subst}
+use native.Mathlib.Omega.{arith}
+use borrow.Author.Tests.{not-true, not-false}
+use Rattle.automaton.specs.Automaton.{Automaton, automaton}
+use Rattle.automaton.specs.Lent.{Tables, tables, Lengths}
+use Rattle.walks.specs.declared.Checked.{Checked}
+use Rattle.walks.specs.declared.Checked.the-variants as K
+use Rattle.writer.specs.Write.{WritesNumbers}
 use Rattle.writer.specs.Text.{Asks}
-use Rattle.writer.specs.WriteLaws.{writable, numbers-refused, numbers-finishes}
+use Rattle.writer.specs.WriteLaws.{writable, numbers-finishes}
 use borrow.Author.Needs.{needs}
 use Rattle.writer.proofs.write_numbers.Statement.{statement}
 use Rattle.writer.proofs.write_numbers.Tie as tie
 
+abbrev start : tie.Else1 → tie.Start
+start c = c .before .before .before .before .before .before .before .before .before .before .before
+
+abbrev given : tie.Start → Automaton
+given s = automaton (s .args .a) (s .args .table .now)
+
+abbrev lent : tie.Start → Tables
+lent s = tables (s .args .word .now) (s .args .one .now) (s .args .other .now)
+
+-- question 1 is passed
+enough : (c : tie.Else1) → Lengths (given (start c) .table) (lent (start c))
+enough c = c .before .long-enough .ensures .0 (not-false _ (c .if1 .left))
+
 -- the questions are asked
-abbrev asking : tie.After-slice-known7 → tie.After-ask
-asking c = c .before .before .before .before .before .before
+abbrev long : tie.After-ask → tie.Else1
+long c = c .before .before .before .before .before
 
-ask-requires : tie.Need-ask-requires
-ask-requires c κs = search needs
+abbrev Asked-as : tie.After-ask → Checked → Type 0
+Asked-as c x =
+    let s = start (long c) in
+    let w = c .ask .last .1 .1 .1 in
+    Asks (given s) (s .args .names .now) (w .0) (lent s) (tables (w .1 .0) (w .1 .1 .0) (w .1 .1 .1 .0)) x
 
-enum-known-r : tie.Need-enum-known-r
-enum-known-r c = search needs
+abbrev asking : tie.After-enum-told → tie.After-ask
+asking c = c .before .before .before .before .before .before .before .before .before
 
-refuse-requires : tie.Need-refuse-requires
-refuse-requires c κs = search needs
+accepted : (c : tie.After-enum-told) → Asked-as (asking c) K.Accepted
+accepted c = subst (Asked-as (asking c)) (c .enum-told .given .1) (asking c .ask .ensures)
 
-enum-told : tie.Need-enum-told
-enum-told c = search needs
-
-finish-requires : tie.Need-finish-requires
-finish-requires c κs =
-    let told = c .before in
-    let asks = subst (Asks _ _ _ _) (told .enum-told .given .1) (asking (told .before .before) .ask .ensures) in
-    writable (asks .1 .1 .fits) (asks .0 .cells)
+long-enough-requires : tie.Need-long-enough-requires
+long-enough-requires c κs = search needs
 
 same-length : tie.Need-same-length
 same-length c = search needs
@@ -37,14 +54,35 @@ same-length-2 c = search needs
 same-length-3 : tie.Need-same-length-3
 same-length-3 c = search needs
 
+returns : tie.Need-returns
+returns c = WritesNumbers.short (c .before .long-enough .ensures .1 (not-true _ (c .if1 .taken))) refl refl refl
+
+slice-aggregate-ask : tie.Need-slice-aggregate-ask
+slice-aggregate-ask c = search needs
+
+ask-requires : tie.Need-ask-requires
+ask-requires c κs = (enough (c .before .before .before .before), omega arith)
+
+enum-known-r : tie.Need-enum-known-r
+enum-known-r c = search needs
+
+clear-bytes-requires : tie.Need-clear-bytes-requires
+clear-bytes-requires c κs = search needs
+
+enum-told : tie.Need-enum-told
+enum-told c = search needs
+
+slice-aggregate-finish : tie.Need-slice-aggregate-finish
+slice-aggregate-finish c = search needs
+
+finish-requires : tie.Need-finish-requires
+finish-requires c κs =
+    let told = c .before .before in
+    let z = asking told .ask .kept .1 .1 .1 .0 in
+    (writable (accepted told .1 .fits) (enough (long (asking told)) .cells), omega arith)
+
 same-length-4 : tie.Need-same-length-4
 same-length-4 c = search needs
-
-returns : tie.Need-returns
-returns c =
-    let told = c .before .before .before .before .before in
-    numbers-refused (subst (Asks _ _ _ _) (told .r .given .1) (asking (told .before .before) .ask .ensures))
-    (c .before .before .refuse .ensures)
 
 same-length-5 : tie.Need-same-length-5
 same-length-5 c = search needs
@@ -55,31 +93,53 @@ same-length-6 c = search needs
 same-length-7 : tie.Need-same-length-7
 same-length-7 c = search needs
 
+returns-2 : tie.Need-returns-2
+returns-2 c =
+    let told = c .before .before .before .before .before in
+    let asked = told .before .before .before .before .before .before .before .before .before in
+    WritesNumbers.refused (enough (long asked)) (told .r .given .0 .0) (subst (Asked-as asked) (told .r .given .1) (asked .ask .ensures)) refl
+    (c .before .before .clear-bytes .ensures)
+
 same-length-8 : tie.Need-same-length-8
 same-length-8 c = search needs
 
-returns-2 : tie.Need-returns-2
-returns-2 c =
-    let told = c .before .before .before .before in
-    numbers-finishes (subst (Asks _ _ _ _) (told .enum-told .given .1) (asking (told .before .before) .ask .ensures))
-    (c .before .before .finish .ensures)
+same-length-9 : tie.Need-same-length-9
+same-length-9 c = search needs
+
+same-length-10 : tie.Need-same-length-10
+same-length-10 c = search needs
+
+same-length-11 : tie.Need-same-length-11
+same-length-11 c = search needs
+
+returns-3 : tie.Need-returns-3
+returns-3 c =
+    let told = c .before .before .before .before .before in
+    numbers-finishes (given (start (long (asking told)))) (enough (long (asking told))) (accepted told) (c .before .before .finish .ensures)
 
 pub write-numbers-spec : {M : Type 1} → statement M
 write-numbers-spec =
     tie.close
     (tie.spec
-    ask-requires
-    enum-known-r
-    refuse-requires
-    enum-told
-    finish-requires
+    long-enough-requires
     same-length
     same-length-2
     same-length-3
-    same-length-4
     returns
+    slice-aggregate-ask
+    ask-requires
+    enum-known-r
+    clear-bytes-requires
+    enum-told
+    slice-aggregate-finish
+    finish-requires
+    same-length-4
     same-length-5
     same-length-6
     same-length-7
+    returns-2
     same-length-8
-    returns-2)
+    same-length-9
+    same-length-10
+    same-length-11
+    returns-3)

@@ -10,7 +10,7 @@ use lib.ListN.{length, drop}
 use Rattle.gate.specs.GateLaws.{same-cleared}
 use Rattle.names.specs.declared.Ending.the-variants as E
 use Rattle.parser.specs.Parse.{nameLineAt}
-use Rattle.parser.proofs.Steps.{NamesSoFar, names-bad, names-done, NameStored, name-stored}
+use Rattle.parser.specs.StepLaws.{NamesSoFar, names-bad, names-done, NameStored, row-stored}
 use borrow.Author.Needs.{needs}
 use Rattle.parser.proofs.name_lines.read_names.Statement.{statement}
 use Rattle.parser.proofs.name_lines.read_names.Tie as tie
@@ -44,7 +44,7 @@ read :
     let a = c .before .before .before .before .before .before .before .before .before .before .before .before .before .before .args in
     NameStored (now (a .s)) (a .k) (now (a .rows)) (c .before .before .before .before .compose-into .last .1 .1 .1 .0) (l .line) (l .l) (c .before .before .before .before .before .before .before .e .given .0 .0) (c .first-like .result)
 read c =
-    name-stored (c .before .before .before .before .before .before .before .before .before .before .before .loop .inv .4) (omega arith) (ends (c .before .before .before .before .before .before)) (omega arith)
+    row-stored (c .before .before .before .before .before .before .before .before .before .before .before .loop .inv .4) (omega arith) (ends (c .before .before .before .before .before .before)) (omega arith)
     (c .before .before .before .before .compose-into .ensures) (c .first-like .ensures)
 
 loop-holds : tie.Need-loop-holds Inv-loop μ-loop

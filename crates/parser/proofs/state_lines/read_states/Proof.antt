@@ -7,16 +7,16 @@ use denote.Ref.{now}
 use lib.Pow.{pow-mono}
 use Rattle.parser.specs.declared.StateLine.{StateLine}
 use Rattle.parser.specs.Parse.{withFlags, statesAt}
-use Rattle.parser.specs.Phase.{refused}
+use Rattle.frame.specs.Phase.{refused}
 use Rattle.parser.specs.PhaseAnswers.{statesAnswer}
-use Rattle.parser.proofs.Steps.{states-turn, states-done, flag-part, double}
+use Rattle.parser.specs.StepLaws.{states-turn, states-done, flag-part, double}
 use borrow.Author.Needs.{needs}
 use Rattle.parser.proofs.state_lines.read_states.Statement.{statement}
 use Rattle.parser.proofs.state_lines.read_states.Tie as tie
 
 abbrev Inv-loop : tie.InvT-loop
 Inv-loop s first start n line₀ at₀ q₀ bit₀ initial₀ recurring₀ line at q bit initial recurring =
-    (q ≤ n) × (at ≡ start + 11 * q) × (line ≡ first + q) × (bit ≡ 2 ^ q) × (initial < bit) × (recurring < bit) ×
+    (q ≤ n) × (at ≤ start + 11 * q) × (line ≡ first + q) × (bit ≡ 2 ^ q) × (initial < bit) × (recurring < bit) ×
     (statesAt s line at q initial recurring (n - q) ≡ statesAt s first start 0 0 0 n)
 
 abbrev μ-loop : tie.MeasureT-loop

@@ -11,11 +11,11 @@ use Rattle.format.specs.Format.{place}
 use Rattle.format.specs.Numbers.{inserted}
 use Rattle.parser.specs.declared.TransitionLine.{TransitionLine}
 use Rattle.parser.specs.Parse.{withTransition, transitionsAt}
-use Rattle.parser.specs.Phase.{refused}
+use Rattle.frame.specs.Phase.{refused}
 use Rattle.parser.specs.PhaseAnswers.{FillsTable}
-use Rattle.parser.specs.declared.End.{End}
-use Rattle.parser.specs.declared.End.the-variants as End
-use Rattle.parser.proofs.Steps.{transitions-turn, transitions-done, TableLeft, end-fills}
+use Rattle.frame.specs.declared.End.{End}
+use Rattle.frame.specs.declared.End.the-variants as End
+use Rattle.parser.specs.StepLaws.{transitions-turn, transitions-done, TableLeft, end-fills}
 use Rattle.text.specs.WordLaws.{within}
 use borrow.Author.Needs.{needs}
 use Rattle.parser.proofs.transition_lines.read_transitions.Statement.{statement}
@@ -23,7 +23,7 @@ use Rattle.parser.proofs.transition_lines.read_transitions.Tie as tie
 
 abbrev Inv-loop : tie.InvT-loop
 Inv-loop s n k first start table₀ line₀ at₀ least₀ table line at least =
-    (first ≤ line) × (at + 11 * first ≡ start + 11 * line) × (line ≤ length s + first) × (length table ≡ length table₀) ×
+    (line ≤ at + first) × (at ≤ length s + 511) × (line ≤ length s + first) × (length table ≡ length table₀) ×
     (drop 128 table ≡ drop 128 table₀) ×
     (transitionsAt s n k line at least (take 128 table) (length s + 1 + first - line) ≡
     transitionsAt s n k first start 0 (take 128 table₀) (length s + 1))

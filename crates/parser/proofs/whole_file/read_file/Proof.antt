@@ -10,14 +10,15 @@ use Rattle.text.specs.Pair.{wordAndPair}
 use Rattle.automaton.specs.Graph.{InRange}
 use Rattle.format.specs.Format.{sheetWord}
 use Rattle.parser.specs.Parse.{sizes, sheetBounds, headOf, namesAt, statesAt, transitionsAt, afterNames, parse}
-use Rattle.parser.specs.Phase.{Phase, passed}
-use Rattle.parser.specs.PhaseAnswers.{FirstFits, NamesRead, NumbersRead, FileRead}
-use Rattle.parser.specs.FirstLaws.{first-passed, first-refused}
+use Rattle.frame.specs.Phase.{Phase, passed}
+use Rattle.frame.specs.Answers.{FirstFits}
+use Rattle.parser.specs.PhaseAnswers.{NamesRead, NumbersRead, FileRead}
+use Rattle.frame.specs.FirstLaws.{first-passed, first-refused}
 use Rattle.parser.specs.declared.Names.{Names}
 use Rattle.parser.specs.declared.Sets.{Sets}
 use Rattle.parser.specs.declared.File.{File}
 use Rattle.parser.specs.declared.File.the-variants as F
-use Rattle.parser.proofs.FileLaws.{too-large, not-large, refused-by-names, Passes, names-pass, RowsLeft, with-rows}
+use Rattle.parser.specs.FileLaws.{too-large, not-large, refused-by-names, NamesHanded, names-pass, RowsLeft, with-rows}
 use borrow.Author.Needs.{needs}
 use Rattle.parser.proofs.whole_file.read_file.Statement.{statement}
 use Rattle.parser.proofs.whole_file.read_file.Tie as tie
@@ -68,7 +69,7 @@ named c = c .before .before .before .before .before
 passes : (c : tie.After-known-told4) →
     let h = headed (named c) in
     let a = start (lined h) .args in
-    Passes (k h) (namesAt (a .s .now) 2 12 [] (k h)) (cleared (a .rows .now)) (named c .read-names .last .1 .1 .0) (c .before .place .given .0 .0)
+    NamesHanded (k h) (namesAt (a .s .now) 2 12 [] (k h)) (cleared (a .rows .now)) (named c .read-names .last .1 .1 .0) (c .before .place .given .0 .0)
 passes c =
     let h = headed (named c) in
     let a = start (lined h) .args in

@@ -6,11 +6,11 @@ use native.Mathlib.Omega.{arith}
 use denote.Ref.{now}
 use lib.ListN.{length, replicate}
 use Rattle.parser.specs.Parse.{Contents, statesAt, transitionsAt, afterStates}
-use Rattle.parser.specs.Phase.{Phase, andThen}
+use Rattle.frame.specs.Phase.{Phase, andThen}
 use Rattle.parser.specs.PhaseAnswers.{FillsTable}
 use Rattle.parser.specs.declared.Sets.{Sets}
-use Rattle.parser.specs.declared.End.{End}
-use Rattle.parser.proofs.FileLaws.{sets-zero, rest-zero, refused-by-states, states-pass, refused-by-transitions, transitions-pass}
+use Rattle.frame.specs.declared.End.{End}
+use Rattle.parser.specs.FileLaws.{sets-zero, rest-zero, refused-by-states, states-pass, refused-by-transitions, transitions-pass}
 use borrow.Author.Needs.{needs}
 use Rattle.parser.proofs.whole_file.read_numbers.Statement.{statement}
 use Rattle.parser.proofs.whole_file.read_numbers.Tie as tie

@@ -11,11 +11,11 @@ use Rattle.names.specs.Scan.{nameEndAt}
 use Rattle.names.specs.declared.Ending.the-variants as E
 use Rattle.names.specs.ScanLaws.{name-is}
 use Rattle.names.specs.NameLaws.{composed-name}
-use Rattle.parser.specs.LetterLaws.{letter-is}
+use Rattle.names.specs.LetterLaws.{letter-is}
 use Rattle.names.specs.Rows.{HoldNames, OnlyRow}
 use Rattle.names.specs.RowsLaws.{only-none, only-stored}
 use Rattle.plan.specs.Parse.{letterFrom}
-use Rattle.plan.proofs.Laws.{line-bad, line-known, line-unknown}
+use Rattle.plan.specs.StepLaws.{line-bad, line-known, line-unknown}
 use borrow.Author.Needs.{needs}
 use Rattle.plan.proofs.name_lines.letter_line.Statement.{statement}
 use Rattle.plan.proofs.name_lines.letter_line.Tie as tie

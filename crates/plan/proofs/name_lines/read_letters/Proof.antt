@@ -6,9 +6,9 @@ use native.Mathlib.Nat.{sub-zero}
 use denote.Ref.{now}
 use mathlib.Core.List.{List, [], _∷_, _++_}
 use lib.ListN.{length, take, drop, length-set, take-append-drop}
-use Rattle.plan.proofs.Laws.{SoFar, letters-step, letters-done, stored, behind}
+use Rattle.plan.specs.StepLaws.{SoFar, letters-step, letters-done, letter-stored, letter-behind}
 use Rattle.gate.specs.GateLaws.{same-cleared}
-use Rattle.parser.specs.Phase.{refused}
+use Rattle.frame.specs.Phase.{refused}
 use Rattle.names.specs.Rows.{HoldNames, OnlyRow}
 use Rattle.names.specs.RowsLaws.{only-none, only-again}
 use Rattle.plan.specs.declared.LetterLine.{LetterLine}
@@ -92,8 +92,8 @@ loop-again c =
       omega arith,
       c .before .before .before .before .before .letter-line .kept .1 .1 .0 ∙ v .inv .3,
       length-set (v .letters) (v .i) l ∙ v .inv .4,
-      behind (v .letters) (v .i) l room (now (a .letters)) (v .inv .5),
-      λ names n h. (let (held, left) = turn (c .before .before .before .before .before) _ (c .before .l .given .1) names n h in (held, rw stored left)),
+      letter-behind (v .letters) (v .i) l room (now (a .letters)) (v .inv .5),
+      λ names n h. (let (held, left) = turn (c .before .before .before .before .before) _ (c .before .l .given .1) names n h in (held, rw letter-stored left)),
       only-row (c .before .before .before .before .before),
     )
 

@@ -9,20 +9,21 @@ use Rattle.text.specs.Pair.{wordAndPair}
 use Rattle.names.specs.Name.{compose}
 use Rattle.names.specs.RowsLaws.{only-none}
 use Rattle.format.specs.Format.{Sheet}
-use Rattle.parser.specs.declared.Place.{Place}
-use Rattle.parser.specs.declared.End.{End}
-use Rattle.parser.specs.declared.End.the-variants as E
-use Rattle.parser.specs.Phase.{passed}
-use Rattle.parser.specs.PhaseAnswers.{FirstFits}
-use Rattle.parser.specs.FirstLaws.{first-passed, first-refused}
+use Rattle.frame.specs.declared.Place.{Place}
+use Rattle.frame.specs.declared.End.{End}
+use Rattle.frame.specs.declared.End.the-variants as E
+use Rattle.frame.specs.Phase.{passed}
+use Rattle.frame.specs.Answers.{FirstFits}
+use Rattle.frame.specs.FirstLaws.{first-passed, first-refused}
 use Rattle.plan.specs.declared.Letters.{Letters}
 use Rattle.plan.specs.declared.Planned.the-variants as P
 use Rattle.plan.specs.Plan.{planWord, LengthsRight}
 use Rattle.plan.specs.Parse.{lengths, planBounds, headOf, lettersAt, planOf}
 use Rattle.plan.specs.Answers.{PlaceFits, LettersRead, planned}
-use Rattle.plan.specs.Read.{NamesIn, Reads}
+use Rattle.sheet.specs.Answers.{NamesIn}
+use Rattle.plan.specs.Read.{Reads}
 use Rattle.plan.specs.ReadLaws.{reads}
-use Rattle.plan.proofs.Laws.{EndLeaves, letters-refused, letters-read}
+use Rattle.plan.specs.StepLaws.{EndLeaves, letters-refused, plan-ended}
 use borrow.Author.Needs.{needs}
 use Rattle.plan.proofs.whole_file.read_plan.Statement.{statement}
 use Rattle.plan.proofs.whole_file.read_plan.Tie as tie
@@ -97,7 +98,7 @@ ended c r e v left σ g =
     let (held, answer) = lettered-as d _ (c .before .before .place .given .1) σ g in (
       held,
       reads σ (g .all-names ∙ sym (g .letters)) p t v (first .pre .0) (planned z r)
-          (rw (read h) (letters-read p t u z v (lettersAt names p 2 11 [] (lead h + cycle h)) (place c) r answer (sym e ∙ c .end-line .ensures) left)),
+          (rw (read h) (plan-ended p t u z v (lettersAt names p 2 11 [] (lead h + cycle h)) (place c) r answer (sym e ∙ c .end-line .ensures) left)),
     )
 
 slice-aggregate-first-line : tie.Need-slice-aggregate-first-line

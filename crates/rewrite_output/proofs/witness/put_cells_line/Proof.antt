@@ -7,7 +7,7 @@ use lib.ListN.{length}
 use Rattle.text.specs.Bytes.{lf}
 use Rattle.rewrite_output.specs.Put.{spacedCells}
 use Rattle.rewrite_output.specs.Rewrite.{cellsLine}
-use Rattle.rewrite_output.specs.PutLaws.{line-length, written-one, written-append}
+use Rattle.rewrite_output.specs.PutLaws.{cells-line-length, written-one, written-append}
 use borrow.Author.Needs.{needs}
 use Rattle.rewrite_output.proofs.witness.put_cells_line.Statement.{statement}
 use Rattle.rewrite_output.proofs.witness.put_cells_line.Tie as tie
@@ -15,7 +15,7 @@ use Rattle.rewrite_output.proofs.witness.put_cells_line.Tie as tie
 -- the parts of the line
 size : (c : tie.Start)
     → length (cellsLine (c .args .name .now) (c .args .table .now) (c .args .count)) ≡ length (c .args .name .now) + (length (spacedCells (c .args .table .now) (c .args .count)) + 1)
-size c = line-length (c .args .name .now) (c .args .table .now) (c .args .count)
+size c = cells-line-length (c .args .name .now) (c .args .table .now) (c .args .count)
 
 put-bytes-requires : tie.Need-put-bytes-requires
 put-bytes-requires c κs = omega (arith, size (c .before .before .before .before))

@@ -1,99 +1,69 @@
--- The file is read, since it is a sheet's, and the name looked up in the rows of its letters. Assumes nothing.
-use mathlib.Core.Path.{_≡_, refl}
+-- The name is looked up in the rows of the letters' names. Assumes nothing.
+use mathlib.Core.Path.{refl, _∙_}
 use mathlib.Core.List.{map}
-use Rattle.gate.specs.Gate.{refusal}
-use Rattle.parser.specs.UniqueLaws.{file-or-fault}
-use Rattle.sheet.specs.declared.Found.the-variants as Found
 use native.Mathlib.Omega.{arith}
 use borrow.Author.Tests.{not-true, not-false}
-use denote.Ref.{now}
-use lib.ListN.{length}
+use lib.ListN.{length-map}
+use Rattle.text.specs.BytesLaws.{stretch-end}
 use Rattle.names.specs.Name.{IsName, compose}
 use Rattle.names.specs.Rows.{FirstName}
-use Rattle.sheet.specs.Answers.{LettersOf}
-use Rattle.text.specs.BytesLaws.{stretch-end}
-use Rattle.sheet.proofs.LetterAnswers.{every-sheet, letter-found, letter-nowhere}
+use Rattle.format.specs.Format.{Sheet}
+use Rattle.sheet.specs.Answers.{NamesIn}
+use Rattle.sheet.specs.LettersLaws.{letter-found, letter-nowhere}
 use borrow.Author.Needs.{needs}
 use Rattle.sheet.proofs.finding.letter_named.Statement.{statement}
 use Rattle.sheet.proofs.finding.letter_named.Tie as tie
 
--- the letters are read
-letters : (c : tie.After-known-told2) → LettersOf (now (c .before .before .before .before .before .before .before .before .args .sheet)) (c .before .before .before .before .read-rows .last .1 .0) (c .before .a .given .0 .0)
-letters c = rw (c .before .a .given .1) at (c .before .before .before .before .read-rows .ensures) .0
+abbrev start : tie.Else1 → tie.Start
+start c = c .before .before .before .before
 
 -- what was given is a name
-is-one : (c : tie.Else1) → IsName (now (c .before .before .before .before .before .before .before .before .before .before .args .name))
+is-one : (c : tie.Else1) → IsName (start c .args .name .now)
 is-one c = c .before .is-name .ensures .0 (not-false _ (c .if1 .left))
 
 -- the rows were searched for it
-first :
-    (c : tie.After-letter-of) →
-    FirstName (map compose (letters (c .before .before .before .before) .sheet .names))
-    (compose (now (c .before .before .before .before .before .before .before .before .before .before .before .before .args .name))) (c .letter-of .result)
-first c =
-    let h = letters (c .before .before .before .before) in
-    let whole = stretch-end (now (c .before .before .before .before .before .before .before .before .before .before .before .before .args .name)) 0 in
-    rw whole at (c .letter-of .ensures .1 (map compose (h .sheet .names)) (h .all) (h .holds) (rw whole (is-one (c .before .before))) .0)
-
-slice-aggregate-read-rows : tie.Need-slice-aggregate-read-rows
-slice-aggregate-read-rows c = search needs
-
-read-rows-requires : tie.Need-read-rows-requires
-read-rows-requires c κs = search needs
-
-enum-known-r : tie.Need-enum-known-r
-enum-known-r c = search needs
-
-enum-known-a : tie.Need-enum-known-a
-enum-known-a c = search needs
+first : (c : tie.After-letter-of) (σ : Sheet) → NamesIn σ (start (c .before .before) .args .k) (start (c .before .before) .args .rows .now)
+    → FirstName (map compose (σ .names)) (compose (start (c .before .before) .args .name .now)) (c .letter-of .result)
+first c σ h =
+    let whole = stretch-end (start (c .before .before) .args .name .now) 0 in
+    rw whole at (c .letter-of .ensures .1 (map compose (σ .names)) (length-map (σ .names) compose ∙ h .all-names) (h .holds) (rw whole (is-one (c .before .before))) .0)
 
 is-name-requires : tie.Need-is-name-requires
 is-name-requires c κs = search needs
 
 returns : tie.Need-returns
-returns c σ file = (λ l g. c .before .is-name .ensures .1 (not-true _ (c .if1 .taken)) (g .is-name), refl)
-
-slice-aggregate-letter-of : tie.Need-slice-aggregate-letter-of
-slice-aggregate-letter-of c = search needs
+returns c σ h = (λ l g. c .before .is-name .ensures .1 (not-true _ (c .if1 .taken)) (g .is-name), refl)
 
 letter-of-requires : tie.Need-letter-of-requires
 letter-of-requires c κs =
-    let h = letters (c .before .before .before) in
     let m = is-one (c .before) .most in
-    let z : length (c .before .before .before .before .before .before .before .read-rows .last .1 .0) ≡ 216 = c .before .before .before .before .before .before .before .read-rows .kept .1 .0 in
-    let k = h .range .3 in
-    (omega arith, omega arith, record { order = omega arith; fits = omega arith }, omega arith)
+    let p = start (c .before) .pre in
+    (p .0, p .1, record { order = omega arith; fits = omega arith }, omega arith)
+
+same-length : tie.Need-same-length
+same-length c = search needs
 
 returns-2 : tie.Need-returns-2
-returns-2 c σ file =
-    let read = c .before .before .before .before in
-    let ((number, line, faulty, e), zero) = rw (c .before .r .given .1) at (read .read-rows .ensures) in
-    absurd (file-or-fault (now (read .before .before .before .before .args .sheet)) σ number line file faulty)
+returns-2 c σ h =
+    let found = c .before .before .before in
+    letter-found h (start (found .before .before) .args .name .now) (found .letter-of .result) (first found σ h) (is-one (found .before .before)) (c .if2 .taken)
+
+same-length-2 : tie.Need-same-length-2
+same-length-2 c = search needs
 
 returns-3 : tie.Need-returns-3
-returns-3 c =
-    let h = letters (c .before .before .before .before .before .before) in
-    let name = now (c .before .before .before .before .before .before .before .before .before .before .before .before .before .before .args .name) in
-    every-sheet h name (Found.Letter (c .before .before .letter-of .result)) (letter-found h name (c .before .before .letter-of .result) (first (c .before .before)) (is-one (c .before .before .before .before)) (c .if2 .taken))
-
-returns-4 : tie.Need-returns-4
-returns-4 c =
-    let h = letters (c .before .before .before .before .before .before) in
-    let name = now (c .before .before .before .before .before .before .before .before .before .before .before .before .before .before .args .name) in
-    every-sheet h name (Found.Refused (refusal 14 0)) (letter-nowhere h name (c .before .before .letter-of .result) (first (c .before .before)) (c .if2 .left), refl)
+returns-3 c σ h =
+    let found = c .before .before .before in
+    (letter-nowhere h (start (found .before .before) .args .name .now) (found .letter-of .result) (first found σ h) (c .if2 .left), refl)
 
 pub letter-named-spec : {M : Type 1} → statement M
 letter-named-spec =
     tie.close
     (tie.spec
-    slice-aggregate-read-rows
-    read-rows-requires
-    enum-known-r
-    enum-known-a
     is-name-requires
     returns
-    slice-aggregate-letter-of
     letter-of-requires
+    same-length
     returns-2
-    returns-3
-    returns-4)
+    same-length-2
+    returns-3)

@@ -1,7 +1,7 @@
 -- The theorem on reading a file, for its letters. Assumes nothing.
 use denote.Ref.{now}
 use lib.ListN.{replicate}
-use Rattle.sheet.proofs.FileMeans.{letters-read}
+use Rattle.sheet.specs.AnswersLaws.{letters-read}
 use borrow.Author.Needs.{needs}
 use Rattle.sheet.proofs.letters.read_rows.Statement.{statement}
 use Rattle.sheet.proofs.letters.read_rows.Tie as tie

@@ -1,4 +1,4 @@
--- The file's answer, then the walk check's on its automaton: ReadAnswers. Assumes nothing.
+-- The file's answer, then the walk check's on its automaton: ReadLaws. Assumes nothing.
 use Prim.Native.Nat.{ℕ, _≤_}
 use mathlib.Core.Path.{_≡_, sym, _∙_, ap, subst}
 use native.Mathlib.Omega.{arith}
@@ -8,24 +8,24 @@ use Rattle.automaton.specs.Lent.{Tables, tables, clearedTables}
 use Rattle.parser.specs.Parse.{parse}
 use Rattle.parser.specs.PhaseAnswers.{FileRead}
 use Rattle.parser.specs.declared.File.{File}
-use Rattle.sheet.proofs.FileMeans.{FileAccepted, file-read}
-use Rattle.sheet.proofs.ReadAnswers.{asked, free-accepts, meeting-refuses, fault-refuses}
+use Rattle.sheet.specs.AnswersLaws.{FileAccepted, file-read}
+use Rattle.sheet.specs.ReadLaws.{asked, free-accepts, meeting-refuses, fault-refuses}
 use borrow.Author.Needs.{needs}
 use Rattle.sheet.proofs.reading.read_cleared.Statement.{statement}
 use Rattle.sheet.proofs.reading.read_cleared.Tie as tie
 
 abbrev start : tie.After-read-file → tie.Start
-start c = c .before .before .before .before .before .before .before .before
+start c = c .before .before .before .before .before .before .before .before .before
 
 abbrev lent : tie.Start → Tables
 lent s = tables (s .args .word .now) (s .args .one .now) (s .args .other .now)
 
 -- the states behind the reading of the file: it is refused, or it is read and its automaton asked
 abbrev read-refused : tie.After-known-told → tie.After-read-file
-read-refused c = c .before .before .before .before .before .before
+read-refused c = c .before .before .before .before .before .before .before
 
 abbrev read : tie.After-known-told2 → tie.After-read-file
-read c = c .before .before .before .before .before .before
+read c = c .before .before .before .before .before .before .before
 
 abbrev told : tie.After-ask → tie.After-known-told2
 told c = c .before .before .before .before .before .before
@@ -34,7 +34,7 @@ abbrev graphed : tie.After-ask → tie.After-graph-of
 graphed c = c .before .before .before .before .before
 
 zeros : (c : tie.After-read-file) → lent (start c) ≡ clearedTables (lent (start c))
-zeros c = start c .pre .2
+zeros c = start c .pre .3
 
 kept : (c : tie.After-read-file) → length (c .read-file .last .1 .0) ≡ length (start c .args .table .now)
 kept c = c .read-file .kept .1 .0
@@ -44,22 +44,19 @@ cells c = omega (arith, start c .pre .0 .cells, kept c)
 
 -- the answer x on the file
 abbrev Read-as : tie.After-read-file → File → Type 0
-Read-as c x = FileRead (parse (start c .args .sheet .now)) (start c .args .table .now) (c .read-file .last .1 .0) (replicate 192 0) (c .read-file .last .1 .1 .0) x
+Read-as c x = FileRead (parse (start c .args .sheet .now)) (start c .args .table .now) (c .read-file .last .1 .0) (start c .args .rows .now) (c .read-file .last .1 .1 .0) x
 
 -- the file is read
 reads-file :
     (c : tie.After-known-told2) →
     let s = start (read c) in
     let z = read c .read-file in
-    FileAccepted (s .args .sheet .now) (s .args .table .now) (z .last .1 .0) (replicate 192 0) (z .last .1 .1 .0) (c .before .a .given .0 .0)
+    FileAccepted (s .args .sheet .now) (s .args .table .now) (z .last .1 .0) (s .args .rows .now) (z .last .1 .1 .0) (c .before .a .given .0 .0)
 reads-file c =
     let s = start (read c) in
     let z = read c .read-file in
-    file-read (s .args .sheet .now) (s .args .table .now) (z .last .1 .0) (replicate 192 0) (z .last .1 .1 .0) (c .before .a .given .0 .0)
+    file-read (s .args .sheet .now) (s .args .table .now) (z .last .1 .0) (s .args .rows .now) (z .last .1 .1 .0) (c .before .a .given .0 .0)
     (subst (Read-as (read c)) (c .before .a .given .1) (z .ensures))
-
-slice-aggregate-read-file : tie.Need-slice-aggregate-read-file
-slice-aggregate-read-file c = search needs
 
 read-file-requires : tie.Need-read-file-requires
 read-file-requires c κs = search needs
@@ -98,6 +95,9 @@ same-length-3 c = search needs
 same-length-4 : tie.Need-same-length-4
 same-length-4 c = search needs
 
+same-length-5 : tie.Need-same-length-5
+same-length-5 c = search needs
+
 returns : tie.Need-returns
 returns c =
     let g = c .before .before .before .before .before .before .before in
@@ -106,15 +106,8 @@ returns c =
 clear-requires : tie.Need-clear-requires
 clear-requires c κs = search needs
 
-same-length-5 : tie.Need-same-length-5
-same-length-5 c = search needs
-
-returns-2 : tie.Need-returns-2
-returns-2 c =
-    let s = start (read-refused c) in
-    let z = read-refused c .read-file in
-    fault-refuses (s .args .sheet .now) (s .args .table .now) (z .last .1 .0) (replicate 192 0) (z .last .1 .1 .0) (c .before .r .given .0 .0)
-    (subst (Read-as (read-refused c)) (c .before .r .given .1) (z .ensures)) (zeros (read-refused c))
+clear-bytes-requires : tie.Need-clear-bytes-requires
+clear-bytes-requires c κs = search needs
 
 same-length-6 : tie.Need-same-length-6
 same-length-6 c = search needs
@@ -122,25 +115,41 @@ same-length-6 c = search needs
 same-length-7 : tie.Need-same-length-7
 same-length-7 c = search needs
 
+returns-2 : tie.Need-returns-2
+returns-2 c =
+    let s = start (read-refused c) in
+    let z = read-refused c .read-file in
+    fault-refuses (s .args .sheet .now) (s .args .table .now) (z .last .1 .0) (s .args .rows .now) (z .last .1 .1 .0) (c .before .r .given .0 .0)
+    (subst (Read-as (read-refused c)) (c .before .r .given .1) (z .ensures)) (zeros (read-refused c))
+
 same-length-8 : tie.Need-same-length-8
 same-length-8 c = search needs
 
 same-length-9 : tie.Need-same-length-9
 same-length-9 c = search needs
 
+same-length-10 : tie.Need-same-length-10
+same-length-10 c = search needs
+
+same-length-11 : tie.Need-same-length-11
+same-length-11 c = search needs
+
+same-length-12 : tie.Need-same-length-12
+same-length-12 c = search needs
+
 returns-3 : tie.Need-returns-3
 returns-3 c =
-    let k = c .before .before in
+    let k = c .before .before .before .before .before .before in
     let e = k .before .before in
     let g = e .before .before .before .before .before .before .before in
     meeting-refuses (reads-file (told g)) (graphed g .graph-of .ensures) (zeros (read (told g))) (g .ask .ensures) (e .if1 .left)
     (k .clear .ensures ∙ ap (λ (n : ℕ). replicate {A = ℕ} n 0) (kept (read (told g))))
+    (c .before .before .clear-bytes .ensures ∙ ap (λ (n : ℕ). replicate {A = ℕ} n 0) (read (told g) .read-file .kept .1 .1 .0))
 
 pub read-cleared-spec : {M : Type 1} → statement M
 read-cleared-spec =
     tie.close
     (tie.spec
-    slice-aggregate-read-file
     read-file-requires
     enum-known-r
     enum-known-a
@@ -152,12 +161,16 @@ read-cleared-spec =
     same-length-2
     same-length-3
     same-length-4
+    same-length-5
     returns
     clear-requires
-    same-length-5
-    returns-2
+    clear-bytes-requires
     same-length-6
     same-length-7
+    returns-2
     same-length-8
     same-length-9
+    same-length-10
+    same-length-11
+    same-length-12
     returns-3)

@@ -1,30 +1,32 @@
--- `writer::state_lines::put_states` meets its contract. The loop's invariant: storing the lines that are left gives all lines stored. Assumes nothing.
-use Prim.Native.Nat.{_+_, _-_, _*_, _≤_}
-use mathlib.Core.Path.{_≡_, refl, sym, _∙_}
+-- `writer::state_lines::put_states` meets its contract: what is left to write gives the whole. Assumes nothing.
+use Prim.Native.Nat.{_-_}
 use native.Mathlib.Omega.{arith}
-use lib.ListN.{length}
-use lib.Seq.{sets}
-use native.Mathlib.Nat.{sub-zero}
-use Rattle.format.specs.Format.{stateLines}
-use Rattle.format.specs.Written.{statesOf}
-use Rattle.writer.specs.StatesLaws.{states-next, states-last}
+use Rattle.text.specs.PiecesLaws.{Putting, put-none, put-room, put-more, put-all, put-end}
+use Rattle.format.specs.FormatLaws.{state-length}
+use Rattle.format.specs.Written.{stateOf}
+use Rattle.writer.specs.StatesLaws.{stateText, states-pieces}
 use borrow.Author.Needs.{needs}
 use Rattle.writer.proofs.state_lines.put_states.Statement.{statement}
 use Rattle.writer.proofs.state_lines.put_states.Tie as tie
 
 abbrev Inv-loop : tie.InvT-loop
 Inv-loop out₀ start n initial recurring q₀ at₀ out q at =
-    (q ≤ n) × (at ≡ start + 11 * q) × (length out ≡ length out₀)
-    × (sets out at (stateLines q (statesOf initial recurring q (n - q))) ≡ sets out₀ start (stateLines 0 (statesOf initial recurring 0 n)))
+    Putting (stateText initial recurring) out₀ start n out at q
 
 abbrev μ-loop : tie.MeasureT-loop
 μ-loop out₀ start n initial recurring q₀ at₀ out q at = n - q
 
 loop-holds : tie.Need-loop-holds Inv-loop μ-loop
-loop-holds c = (omega arith, omega arith, refl, rw sub-zero)
+loop-holds c =
+    let s = c .before in
+    put-none (rw (states-pieces (s .args .initial) (s .args .recurring) (s .args .n) 0) at (s .pre .1))
 
 put-state-requires : tie.Need-put-state-requires Inv-loop μ-loop
-put-state-requires c κs = search needs
+put-state-requires c κs =
+    let h = c .before .before .loop in
+    let s = c .before .before .before .before in
+    let room = put-room (h .inv) (c .before .loop-test .taken) in
+    (omega arith, omega (arith, state-length (h .q) (stateOf (s .args .initial) (s .args .recurring) (h .q))))
 
 add-at : tie.Need-add-at Inv-loop μ-loop
 add-at c = search needs
@@ -38,12 +40,9 @@ loop-less c = search needs
 loop-again : tie.Need-loop-again Inv-loop μ-loop
 loop-again c =
     let l = c .before .before .before .before .before .loop in
-    let a = c .before .before .before .before .before .before .before .args in (
-      omega arith,
-      omega arith,
-      c .before .before .put-state .kept .0 ∙ l .inv .2,
-      rw (c .before .before .put-state .ensures) (sym (states-next (l .out) (l .at) (a .initial) (a .recurring) (a .n) (l .q) (omega arith)) ∙ l .inv .3),
-    )
+    let a = c .before .before .before .before .before .before .before .args in
+    let one = state-length (l .q) (stateOf (a .initial) (a .recurring) (l .q)) in
+    put-more (l .inv) (omega arith) (c .before .before .put-state .ensures) (omega arith)
 
 same-length : tie.Need-same-length Inv-loop μ-loop
 same-length c = search needs
@@ -52,7 +51,7 @@ returns : tie.Need-returns Inv-loop μ-loop
 returns c =
     let l = c .before .loop in
     let a = c .before .before .before .args in
-    (omega arith, sym (states-last (l .out) (l .at) (a .initial) (a .recurring) (a .n) (l .q) (omega arith)) ∙ l .inv .3)
+    rw (states-pieces (a .initial) (a .recurring) (a .n) 0) (put-end (l .inv) (omega arith), put-all (l .inv) (omega arith))
 
 pub put-states-spec : {M : Type 1} → statement M
 put-states-spec =

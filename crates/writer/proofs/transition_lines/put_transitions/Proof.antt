@@ -1,6 +1,6 @@
 -- `writer::transition_lines::put_transitions` meets its contract. The loop's invariant: storing the lines that are left gives all lines stored.
 -- Assumes nothing.
-use Prim.Native.Nat.{_+_, _-_, _*_}
+use Prim.Native.Nat.{_+_, _-_}
 use mathlib.Core.Path.{_≡_, refl, sym, _∙_}
 use native.Mathlib.Omega.{arith}
 use borrow.Author.Needs.{needs}
@@ -9,14 +9,14 @@ use lib.Seq.{sets}
 use Rattle.format.specs.Format.{transitionLines}
 use Rattle.format.specs.Written.{places}
 use Rattle.writer.specs.Places.{transitionsFrom, Stop}
-use Rattle.writer.specs.PlacesLaws.{count-next, count-here, count-last, lines-next, lines-last}
+use Rattle.writer.specs.PlacesLaws.{bytes-next, bytes-here, bytes-last, lines-next, lines-last}
 use Rattle.writer.proofs.transition_lines.put_transitions.Statement.{statement}
 use Rattle.writer.proofs.transition_lines.put_transitions.Tie as tie
 
 abbrev Inv-loop : tie.InvT-loop
 Inv-loop out₀ start table at₀ i₀ out at i =
     Stop table i × (length out ≡ length out₀)
-    × (at + 11 * length (transitionsFrom table i) ≡ start + 11 * length (transitionsFrom table 0))
+    × (at + length (transitionLines (transitionsFrom table i)) ≡ start + length (transitionLines (transitionsFrom table 0)))
     × (sets out at (transitionLines (transitionsFrom table i)) ≡ sets out₀ start (transitionLines (transitionsFrom table 0)))
 
 abbrev μ-loop : tie.MeasureT-loop
@@ -32,12 +32,12 @@ loop-holds c =
 
 put-transition-requires : tie.Need-put-transition-requires Inv-loop μ-loop
 put-transition-requires c κs =
-    let some = count-here (c .before .before .loop .inv .0) (omega arith) in
+    let some = bytes-here (c .before .before .loop .inv .0) (omega arith) in
     omega arith
 
 add-at : tie.Need-add-at Inv-loop μ-loop
 add-at c =
-    let some = count-here (c .before .before .before .before .before .loop .inv .0) (omega arith) in
+    let some = bytes-here (c .before .before .before .before .before .loop .inv .0) (omega arith) in
     omega arith
 
 add-next-place : tie.Need-add-next-place Inv-loop μ-loop
@@ -54,8 +54,7 @@ loop-again c =
     let l = c .before .before .before .before .before .before .loop in
     let put = c .before .before .before .put-transition in
     let first = c .next-place2 .ensures in
-    let next = count-next (l .inv .0) (omega arith) first in
-    (first .stop, put .kept .0 ∙ l .inv .1, omega arith, rw (put .ensures) (sym (lines-next (l .inv .0) (omega arith) first (l .out) (l .at)) ∙ l .inv .3))
+    (first .stop, put .kept .0 ∙ l .inv .1, bytes-next (l .inv .0) (omega arith) first (l .at) ∙ l .inv .2, rw (put .ensures) (sym (lines-next (l .inv .0) (omega arith) first (l .out) (l .at)) ∙ l .inv .3))
 
 same-length : tie.Need-same-length Inv-loop μ-loop
 same-length c = search needs
@@ -63,7 +62,7 @@ same-length c = search needs
 returns : tie.Need-returns Inv-loop μ-loop
 returns c =
     let l = c .before .loop in
-    let none = count-last (l .inv .0) (omega arith) in
+    let none = bytes-last (l .inv .0) (omega arith) in
     (omega arith, sym (lines-last (l .inv .0) (omega arith) (l .out) (l .at)) ∙ l .inv .3)
 
 pub put-transitions-spec : {M : Type 1} → statement M

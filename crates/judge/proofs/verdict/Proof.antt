@@ -1,0 +1,120 @@
+-- Questions 1 and 2 are answered first, and the others behind them. Assumes nothing.
+use mathlib.Core.Path.{refl}
+use Rattle.judge.specs.Verdict.{Refusing, Judgement}
+use borrow.Author.Needs.{needs}
+use borrow.Author.Tests.{not-true, not-false}
+use Rattle.judge.proofs.verdict.Statement.{statement}
+use Rattle.judge.proofs.verdict.Tie as tie
+
+enough-requires : tie.Need-enough-requires
+enough-requires c κs = search needs
+
+sizes-fit-requires : tie.Need-sizes-fit-requires
+sizes-fit-requires c κs = search needs
+
+same-length : tie.Need-same-length
+same-length c = search needs
+
+same-length-2 : tie.Need-same-length-2
+same-length-2 c = search needs
+
+same-length-3 : tie.Need-same-length-3
+same-length-3 c = search needs
+
+same-length-4 : tie.Need-same-length-4
+same-length-4 c = search needs
+
+same-length-5 : tie.Need-same-length-5
+same-length-5 c = search needs
+
+same-length-6 : tie.Need-same-length-6
+same-length-6 c = search needs
+
+returns : tie.Need-returns
+returns c = Judgement.short (c .before .before .enough .ensures .1 (not-true _ (c .if1 .taken))) refl refl refl refl
+
+clear-all-requires : tie.Need-clear-all-requires
+clear-all-requires c κs = search needs
+
+same-length-7 : tie.Need-same-length-7
+same-length-7 c = search needs
+
+same-length-8 : tie.Need-same-length-8
+same-length-8 c = search needs
+
+same-length-9 : tie.Need-same-length-9
+same-length-9 c = search needs
+
+same-length-10 : tie.Need-same-length-10
+same-length-10 c = search needs
+
+same-length-11 : tie.Need-same-length-11
+same-length-11 c = search needs
+
+same-length-12 : tie.Need-same-length-12
+same-length-12 c = search needs
+
+returns-2 : tie.Need-returns-2
+returns-2 c =
+    let cleared = c .before .before .before .before .before .before .before .before .before .before .before .before in
+    let long = cleared .before .before .before .before .before .before .before in
+    let asked = long .before .before in
+    let (table, witness, store) = cleared .clear-all .ensures in
+    Judgement.refused (asked .before .enough .ensures .0 (not-false _ (long .before .if1 .left))) _ (Refusing.by-size (asked .sizes-fit .ensures .1 (not-true _ (long .if2 .taken))) refl witness) refl table store
+
+judge-long-requires : tie.Need-judge-long-requires
+judge-long-requires c κs =
+    let fit = c .before .before .before .before .before .before in
+    let asked = fit .before .before in
+    (asked .before .enough .ensures .0 (not-false _ (fit .before .if1 .left)), asked .sizes-fit .ensures .0 (not-false _ (fit .if2 .left)))
+
+same-length-13 : tie.Need-same-length-13
+same-length-13 c = search needs
+
+same-length-14 : tie.Need-same-length-14
+same-length-14 c = search needs
+
+same-length-15 : tie.Need-same-length-15
+same-length-15 c = search needs
+
+same-length-16 : tie.Need-same-length-16
+same-length-16 c = search needs
+
+same-length-17 : tie.Need-same-length-17
+same-length-17 c = search needs
+
+same-length-18 : tie.Need-same-length-18
+same-length-18 c = search needs
+
+returns-3 : tie.Need-returns-3
+returns-3 c = c .before .before .before .before .before .before .before .before .before .before .before .before .judge-long .ensures
+
+pub verdict-spec : {M : Type 1} → statement M
+verdict-spec =
+    tie.close
+    (tie.spec
+    enough-requires
+    sizes-fit-requires
+    same-length
+    same-length-2
+    same-length-3
+    same-length-4
+    same-length-5
+    same-length-6
+    returns
+    clear-all-requires
+    same-length-7
+    same-length-8
+    same-length-9
+    same-length-10
+    same-length-11
+    same-length-12
+    returns-2
+    judge-long-requires
+    same-length-13
+    same-length-14
+    same-length-15
+    same-length-16
+    same-length-17
+    same-length-18
+    returns-3)

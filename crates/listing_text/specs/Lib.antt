@@ -1,0 +1,4 @@
+pub mod Listing
+pub mod Put
+pub mod PutLaws
+pub mod ListingLaws

@@ -1,0 +1,184 @@
+-- The listing determines the tracker: equal listings have equal numbers, cell by cell. Assumes nothing.
+use Prim.Native.Nat.{ℕ, _+_, _*_, _/_, _%_, _^_, _≤_, _<_}
+use mathlib.Core.Path.{_≡_, refl, sym, ap, _∙_}
+use mathlib.Core.List.{List, [], _∷_, _++_}
+use native.Mathlib.Decide.{decLt}
+use native.Mathlib.Omega.{arith}
+use lib.ListN.{getD, List·getD-eq-default}
+use lib.Pow.{pow-mono}
+use Rattle.automaton.specs.Automaton.{Automaton, Fits}
+use Rattle.tuple.specs.TupleLaws.{small}
+use Rattle.filling.specs.Store.{Store, RoomFits, Fitted}
+use Rattle.filling.specs.FittedLaws.{tuple, fitted-formed, fitted-set, fitted-colour, fitted-behind, fitted-next, fitted-room}
+use Rattle.text.specs.Bytes.{lf, endLine}
+use Rattle.lists.specs.AppendLaws.{append-same}
+use Rattle.text.specs.Column.{column}
+use Rattle.text.specs.ColumnLaws.{column-length, column-injective}
+use Rattle.text.specs.PiecesLaws.{pieces-same}
+use Rattle.listing_text.specs.Listing.{columns, trackLine, tupleLine, tupleLines, listing}
+use Rattle.listing_text.specs.Put.{cellsFrom, Sizes}
+use Rattle.listing_text.specs.PutLaws.{columns-length, line-length, lines-length, first-length}
+
+-- the numbers of a tracker as a listing shows them: each has its columns, and every cell that is not listed is zero
+pub record Shown (n k count : ℕ) (tuples nexts : List ℕ) : Type 0 where
+  pub sizes : Sizes n k count
+  pub sets : (i : ℕ) → getD tuples i 0 < 65536
+  pub colours : (t : ℕ) → getD tuples (17 * t + 16) 0 ≤ 33
+  pub next : (c : ℕ) → getD nexts c 0 < 1024
+  pub no-set : (t i : ℕ) → n ≤ i → i < 16 → getD tuples (17 * t + i) 0 ≡ 0
+  pub no-tuple : (i : ℕ) → 17 * count ≤ i → getD tuples i 0 ≡ 0
+  pub no-next : (c : ℕ) → (c / 8 < count → c % 8 < k → ⊥) → getD nexts c 0 ≡ 0
+
+-- the same number in each cell
+abbrev SameCells : List ℕ → List ℕ → Type 0
+SameCells a b = (i : ℕ) → getD a i 0 ≡ getD b i 0
+
+column-same : (w u v : ℕ) (c d : List ℕ) → u < 10 ^ w → v < 10 ^ w → column w u ++ c ≡ column w v ++ d → (u ≡ v) × (c ≡ d)
+column-same w u v c d p q e =
+    let (x, y) = append-same (column w u) (column w v) c d (column-length w u ∙ sym (column-length w v)) e in
+    (column-injective w u v p q x, y)
+
+columns-same : (w : ℕ) (f g : ℕ → ℕ) → ((j : ℕ) → f j < 10 ^ w) → ((j : ℕ) → g j < 10 ^ w) → (count : ℕ) → columns w f count ≡ columns w g count
+    → (j : ℕ) → j < count → f j ≡ g j
+columns-same w f g p q count e j h =
+    column-injective w (f j) (g j) (p j) (q j)
+    (pieces-same (λ i. column w (f i)) (λ i. column w (g i)) (λ i. column-length w (f i) ∙ sym (column-length w (g i))) 0 count e j (omega arith) (omega arith))
+
+first-same : (n k count n' k' count' : ℕ) → Sizes n k count → Sizes n' k' count'
+    → trackLine n k count ≡ trackLine n' k' count' → (n ≡ n') × (k ≡ k') × (count ≡ count')
+unfolding trackLine
+first-same n k count n' k' count' s s' e =
+    let rest : List ℕ = column 3 k ++ (column 5 count ++ (lf ∷ [])) in
+    let rest' : List ℕ = column 3 k' ++ (column 5 count' ++ (lf ∷ [])) in
+    let (w, x) = append-same (84 ∷ 82 ∷ 65 ∷ 67 ∷ 75 ∷ []) (84 ∷ 82 ∷ 65 ∷ 67 ∷ 75 ∷ []) (column 3 n ++ rest) (column 3 n' ++ rest') refl e in
+    let (p, y) = column-same 3 n n' rest rest' (omega (arith, s .states)) (omega (arith, s' .states)) x in
+    let (q, z) = column-same 3 k k' (column 5 count ++ (lf ∷ [])) (column 5 count' ++ (lf ∷ [])) (omega (arith, s .letters)) (omega (arith, s' .letters)) y in
+    let (r, u) = column-same 5 count count' (lf ∷ []) (lf ∷ []) (omega (arith, s .most)) (omega (arith, s' .most)) z in
+    (p, q, r)
+
+-- what a tuple's line shows
+record SameLine (n k : ℕ) (t₁ n₁ t₂ n₂ : List ℕ) (t : ℕ) : Type 0 where
+  pub colour : getD t₁ (17 * t + 16) 0 ≡ getD t₂ (17 * t + 16) 0
+  pub sets : (i : ℕ) → i < n → getD t₁ (17 * t + i) 0 ≡ getD t₂ (17 * t + i) 0
+  pub nexts : (l : ℕ) → l < k → getD n₁ (8 * t + l) 0 ≡ getD n₂ (8 * t + l) 0
+
+module _ (n k count : ℕ) (t₁ n₁ t₂ n₂ : List ℕ) (s₁ : Shown n k count t₁ n₁) (s₂ : Shown n k count t₂ n₂) where
+  line-same : (t : ℕ) → tupleLine n k t₁ n₁ t ≡ tupleLine n k t₂ n₂ t → SameLine n k t₁ n₁ t₂ n₂ t
+  unfolding tupleLine
+  line-same t e =
+      let x₁ = getD t₁ (17 * t + 16) 0 in
+      let x₂ = getD t₂ (17 * t + 16) 0 in
+      let a₁ = columns 6 (cellsFrom t₁ (17 * t)) n in
+      let a₂ = columns 6 (cellsFrom t₂ (17 * t)) n in
+      let b₁ = columns 5 (cellsFrom n₁ (8 * t)) k in
+      let b₂ = columns 5 (cellsFrom n₂ (8 * t)) k in
+      let (q, d) = append-same (81 ∷ column 5 t) (81 ∷ column 5 t) (column 3 x₁ ++ (a₁ ++ (b₁ ++ (lf ∷ [])))) (column 3 x₂ ++ (a₂ ++ (b₂ ++ (lf ∷ [])))) refl e in
+      let p₁ = s₁ .colours t in
+      let p₂ = s₂ .colours t in
+      let (c, f) = column-same 3 x₁ x₂ (a₁ ++ (b₁ ++ (lf ∷ []))) (a₂ ++ (b₂ ++ (lf ∷ []))) (omega arith) (omega arith) d in
+      let (g, h) = append-same a₁ a₂ (b₁ ++ (lf ∷ [])) (b₂ ++ (lf ∷ [])) (columns-length 6 (cellsFrom t₁ (17 * t)) n ∙ sym (columns-length 6 (cellsFrom t₂ (17 * t)) n)) f in
+      let (i, j) = append-same b₁ b₂ (lf ∷ []) (lf ∷ []) (columns-length 5 (cellsFrom n₁ (8 * t)) k ∙ sym (columns-length 5 (cellsFrom n₂ (8 * t)) k)) h in
+      record {
+        colour = c;
+        sets = λ m l. columns-same 6 (cellsFrom t₁ (17 * t)) (cellsFrom t₂ (17 * t)) (λ z. omega (arith, s₁ .sets (17 * t + z))) (λ z. omega (arith, s₂ .sets (17 * t + z))) n g m l;
+        nexts = λ m l. columns-same 5 (cellsFrom n₁ (8 * t)) (cellsFrom n₂ (8 * t)) (λ z. omega (arith, s₁ .next (8 * t + z))) (λ z. omega (arith, s₂ .next (8 * t + z))) k i m l;
+      }
+
+  module _ (lines : (t : ℕ) → t < count → SameLine n k t₁ n₁ t₂ n₂ t) where
+    same-tuples : SameCells t₁ t₂
+    same-tuples i = by (decLt (i / 17) count) (decLt (i % 17) n) (decLt (i % 17) 16)
+      where
+        e : i ≡ 17 * (i / 17) + i % 17
+        e = omega arith
+
+        by : Dec (i / 17 < count) → Dec (i % 17 < n) → Dec (i % 17 < 16) → getD t₁ i 0 ≡ getD t₂ i 0
+        by (no h) x y = s₁ .no-tuple i (omega arith) ∙ sym (s₂ .no-tuple i (omega arith))
+        by (yes h) (yes x) y = rw e (lines (i / 17) h .sets (i % 17) x)
+        by (yes h) (no x) (yes y) = rw e (s₁ .no-set (i / 17) (i % 17) (omega arith) y ∙ sym (s₂ .no-set (i / 17) (i % 17) (omega arith) y))
+        by (yes h) (no x) (no y) = let z : i ≡ 17 * (i / 17) + 16 = omega arith in rw z (lines (i / 17) h .colour)
+
+    same-nexts : SameCells n₁ n₂
+    same-nexts c = by (decLt (c / 8) count) (decLt (c % 8) k)
+      where
+        e : c ≡ 8 * (c / 8) + c % 8
+        e = omega arith
+
+        by : Dec (c / 8 < count) → Dec (c % 8 < k) → getD n₁ c 0 ≡ getD n₂ c 0
+        by (no h) x = s₁ .no-next c (λ g l. h g) ∙ sym (s₂ .no-next c (λ g l. h g))
+        by (yes h) (no x) = s₁ .no-next c (λ g l. x l) ∙ sym (s₂ .no-next c (λ g l. x l))
+        by (yes h) (yes x) = rw e (lines (c / 8) h .nexts (c % 8) x)
+
+-- THE THEOREM: equal listings are listings of one tracker
+
+pub record Same (n₁ k₁ c₁ : ℕ) (t₁ e₁ : List ℕ) (n₂ k₂ c₂ : ℕ) (t₂ e₂ : List ℕ) : Type 0 where
+  pub states : n₁ ≡ n₂
+  pub letters : k₁ ≡ k₂
+  pub count : c₁ ≡ c₂
+  pub tuples : SameCells t₁ t₂
+  pub nexts : SameCells e₁ e₂
+
+pub listing-determines : (n₁ k₁ c₁ : ℕ) (t₁ e₁ : List ℕ) (n₂ k₂ c₂ : ℕ) (t₂ e₂ : List ℕ) → Shown n₁ k₁ c₁ t₁ e₁ → Shown n₂ k₂ c₂ t₂ e₂
+    → listing n₁ k₁ c₁ t₁ e₁ ≡ listing n₂ k₂ c₂ t₂ e₂ → Same n₁ k₁ c₁ t₁ e₁ n₂ k₂ c₂ t₂ e₂
+unfolding listing
+listing-determines n₁ k₁ c₁ t₁ e₁ n₂ k₂ c₂ t₂ e₂ s₁ s₂ e = by (first-same n₁ k₁ c₁ n₂ k₂ c₂ (s₁ .sizes) (s₂ .sizes) (parts .0))
+  where
+    parts : (trackLine n₁ k₁ c₁ ≡ trackLine n₂ k₂ c₂) × (tupleLines n₁ k₁ t₁ e₁ c₁ ++ endLine ≡ tupleLines n₂ k₂ t₂ e₂ c₂ ++ endLine)
+    parts =
+        append-same (trackLine n₁ k₁ c₁) (trackLine n₂ k₂ c₂) (tupleLines n₁ k₁ t₁ e₁ c₁ ++ endLine) (tupleLines n₂ k₂ t₂ e₂ c₂ ++ endLine)
+        (first-length n₁ k₁ c₁ ∙ sym (first-length n₂ k₂ c₂)) e
+
+    by : (n₁ ≡ n₂) × (k₁ ≡ k₂) × (c₁ ≡ c₂) → Same n₁ k₁ c₁ t₁ e₁ n₂ k₂ c₂ t₂ e₂
+    by (p, q, r) = record { states = p; letters = q; count = r; tuples = same-tuples n₁ k₁ c₁ t₁ e₁ t₂ e₂ s₁ s₂' lines; nexts = same-nexts n₁ k₁ c₁ t₁ e₁ t₂ e₂ s₁ s₂' lines }
+      where
+        s₂' : Shown n₁ k₁ c₁ t₂ e₂
+        s₂' = rw (p, q, r) s₂
+
+        texts : tupleLines n₁ k₁ t₁ e₁ c₁ ++ endLine ≡ tupleLines n₁ k₁ t₂ e₂ c₁ ++ endLine
+        texts = rw (← p, ← q, ← r) at (parts .1)
+
+        lines : (t : ℕ) → t < c₁ → SameLine n₁ k₁ t₁ e₁ t₂ e₂ t
+        lines t h =
+            let (x, y) =
+            append-same (tupleLines n₁ k₁ t₁ e₁ c₁) (tupleLines n₁ k₁ t₂ e₂ c₁) endLine endLine
+            (lines-length n₁ k₁ t₁ e₁ c₁ ∙ sym (lines-length n₁ k₁ t₂ e₂ c₁)) texts in
+            line-same n₁ k₁ c₁ t₁ e₁ t₂ e₂ s₁ s₂' t (pieces-same (tupleLine n₁ k₁ t₁ e₁) (tupleLine n₁ k₁ t₂ e₂) (λ i. line-length n₁ k₁ t₁ e₁ i ∙ sym (line-length n₁ k₁ t₂ e₂ i)) 0 c₁ x t (omega arith) (omega arith))
+
+-- A TRACKER THAT IS BUILT is shown by its listing
+pub fitted-shown : (A : Automaton) → Fits A → (room m : ℕ) (v w : Store) → RoomFits room v → Fitted A room v w m → Shown (A .n) (A .k) m (w .tuples) (w .nexts)
+fitted-shown A fits room m v w r f = record {
+  sizes = record { states = fits .range .1; letters = fits .range .3; most = fitted-room A fits room m v w f r .most };
+  sets = λ i. set-small i (decLt (i / 17) m) (decLt (i % 17) 16);
+  colours = λ t. colour-small t (decLt t m);
+  next = λ c. omega (arith, fitted-next A fits room m v w f c, fitted-room A fits room m v w f r .most);
+  no-set = λ t i h k. no-set t i h k (decLt t m);
+  no-tuple = fitted-behind A fits room m v w f;
+  no-next = λ c z. let e = f .count-is in f .holds .nexts .zero c (λ g l. z (omega arith) l);
+}
+  where
+    colour-small : (t : ℕ) → Dec (t < m) → getD (w .tuples) (17 * t + 16) 0 ≤ 33
+    colour-small t (yes h) =
+        let e = fitted-colour A fits room m v w f t h in
+        let a = fitted-formed A fits room m v w f t h .most-colour in
+        let b = fits .range .1 in
+        omega arith
+    colour-small t (no h) = let e = fitted-behind A fits room m v w f (17 * t + 16) (omega arith) in omega arith
+
+    no-set : (t i : ℕ) → A .n ≤ i → i < 16 → Dec (t < m) → getD (w .tuples) (17 * t + i) 0 ≡ 0
+    no-set t i h k (yes l) =
+        let a = fitted-formed A fits room m v w f t l .few in
+        fitted-set A fits room m v w f t i l k ∙ List·getD-eq-default (tuple A fits room m v w f t .sets) 0 (omega arith)
+    no-set t i h k (no l) = fitted-behind A fits room m v w f (17 * t + i) (omega arith)
+
+    set-small : (i : ℕ) → Dec (i / 17 < m) → Dec (i % 17 < 16) → getD (w .tuples) i 0 < 65536
+    set-small i (no h) y = let e = fitted-behind A fits room m v w f i (omega arith) in omega arith
+    set-small i (yes h) (yes y) =
+        let e : i ≡ 17 * (i / 17) + i % 17 = omega arith in
+        let x = ap (λ (i : ℕ). getD (w .tuples) i 0) e ∙ fitted-set A fits room m v w f (i / 17) (i % 17) h y in
+        let s = small (fitted-formed A fits room m v w f (i / 17) h) (i % 17) in
+        let p : 2 ^ A .n ≤ 2 ^ 16 = pow-mono (fits .range .1) in
+        omega arith
+    set-small i (yes h) (no y) =
+        let e : i ≡ 17 * (i / 17) + 16 = omega arith in
+        let x = ap (λ (i : ℕ). getD (w .tuples) i 0) e in
+        let c = colour-small (i / 17) (yes h) in
+        omega arith

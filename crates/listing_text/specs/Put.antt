@@ -1,0 +1,33 @@
+-- What the parts of a listing's text ask of their tables and of the buffer.
+use Prim.Native.Nat.{ℕ, _+_, _*_, _≤_}
+use mathlib.Core.List.{List}
+use lib.ListN.{length, getD}
+use Rattle.filling.specs.Store.{store, RoomFits}
+
+-- the cells of a table from `from` on, as a sequence
+abbrev pub cellsFrom : List ℕ → ℕ → ℕ → ℕ
+cellsFrom table from i = getD table (from + i) 0
+
+-- count cells from `from` on, and room for them, w wide, in the bytes from `at` on
+pub record ColumnsThere (out : List ℕ) (at w : ℕ) (table : List ℕ) (from count : ℕ) : Type 0 where
+  pub wide : w ≤ 6
+  pub cells : from + count ≤ length table
+  pub bytes : at + count * w ≤ length out
+
+-- the bytes of a tuple's line, and of the whole listing
+abbrev pub lineBytes : ℕ → ℕ → ℕ
+lineBytes n k = 10 + (6 * n + 5 * k)
+
+abbrev pub listingBytes : ℕ → ℕ → ℕ → ℕ
+listingBytes n k count = 21 + count * lineBytes n k
+
+-- at most as many states, letters and tuples as there may be
+pub record Sizes (n k count : ℕ) : Type 0 where
+  pub states : n ≤ 16
+  pub letters : k ≤ 8
+  pub most : count ≤ 1024
+
+-- and tables that are long enough for the tuples
+pub record Sized (n k count : ℕ) (tuples nexts : List ℕ) : Type 0 where
+  pub sizes : Sizes n k count
+  pub room : RoomFits count (store tuples nexts)

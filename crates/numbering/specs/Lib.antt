@@ -1,0 +1,5 @@
+pub mod Numbering
+pub mod Explore
+pub mod ExploreLaws
+pub mod NumberingLaws
+pub mod Unfold

@@ -1,0 +1,1 @@
+// Which tuples a tracker has, and how they are numbered: specifications only.

@@ -1,0 +1,138 @@
+-- A phase that refuses refuses the file, and a phase that passes hands on. Assumes nothing.
+use Prim.Native.Nat.{ℕ, _+_, _-_, _*_, _≤_, _<_}
+use mathlib.Core.Path.{_≡_, refl, sym, _∙_, ap, subst}
+use mathlib.Core.List.{List, _++_}
+use native.Mathlib.Omega.{arith}
+use lib.ListN.{length, take, drop, replicate, length-replicate, replicate-append-replicate}
+use lib.Seq.{take-at, drop-at}
+use Rattle.gate.specs.Gate.{cleared}
+use Rattle.gate.specs.GateLaws.{cleared-twice}
+use Rattle.gate.specs.declared.Refusal.{Refusal}
+use Rattle.parser.specs.Parse.{Named, Contents, contents, headOf, afterHead, parse}
+use Rattle.frame.specs.Phase.{Phase, refused, passed, andThen}
+use Rattle.format.specs.Format.{mostSheet}
+use borrow.Author.Tests.{lt-ltb, le-ltb}
+use Rattle.parser.specs.PhaseAnswers.{statesAnswer, FillsTable, NamesRead, NumbersRead, FileRead}
+use Rattle.names.specs.Rows.{HoldNames}
+use Rattle.automaton.specs.Graph.{InRange}
+use Rattle.frame.specs.declared.Place.{Place}
+use Rattle.parser.specs.declared.File.{File}
+use Rattle.parser.specs.declared.Names.the-variants as N
+use Rattle.parser.specs.declared.Sizes.{Sizes}
+use Rattle.parser.specs.declared.Sets.{Sets}
+use Rattle.parser.specs.declared.File.the-variants as F
+use Rattle.parser.specs.declared.States.the-variants as Q
+use Rattle.frame.specs.declared.End.the-variants as E
+
+-- A TABLE OF ZEROS: the 128 sets, and the rest
+module _ (t : List ℕ) (zeros : t ≡ cleared t) (long : 128 ≤ length t) where
+  in-two : t ≡ replicate 128 0 ++ replicate (length t - 128) 0
+  in-two =
+      let k : length t ≡ 128 + (length t - 128) = omega arith in
+      zeros ∙ (ap (λ (n : ℕ). replicate {A = ℕ} n 0) k ∙ sym (replicate-append-replicate 128 (length t - 128) 0))
+
+  pub sets-zero : take 128 t ≡ replicate 128 0
+  sets-zero =
+      ap (λ (x : List ℕ). take 128 x) in-two ∙
+      take-at (replicate 128 0) (replicate (length t - 128) 0) 128 (length-replicate {A = ℕ} 128 0)
+
+  pub rest-zero : drop 128 t ≡ replicate (length t - 128) 0
+  rest-zero =
+      ap (λ (x : List ℕ). drop 128 x) in-two ∙
+      drop-at (replicate 128 0) (replicate (length t - 128) 0) 128 (length-replicate {A = ℕ} 128 0)
+
+-- THE STATE LINES
+pub refused-by-states :
+    (p : Phase Sets) (next : Sets → Phase Contents) (t u : List ℕ) (r : Refusal) →
+    Q.Refused r ≡ statesAnswer p → u ≡ cleared t → NumbersRead (andThen p next) t u (F.Refused r)
+refused-by-states (refused number line) next t u r e h = (cc, h)
+refused-by-states (passed q) next t u r e h = absurd (let z : _≡_ {A = ℕ} 0 1 = cc in omega arith)
+
+pub states-pass : (p : Phase Sets) (next : Sets → Phase Contents) (q : Sets) → Q.Are q ≡ statesAnswer p → andThen p next ≡ next q
+states-pass (refused number line) next q e = absurd (let z : _≡_ {A = ℕ} 0 1 = cc in omega arith)
+states-pass (passed q′) next q e = let g : q′ ≡ q = cc in ap next g
+
+-- THE TRANSITION LINES, the last phase
+module _ (z : Sizes) (y : Named) (q : Sets) where
+  pub refused-by-transitions :
+      (p : Phase (List ℕ)) (t u : List ℕ) (r : Refusal) →
+      FillsTable p t u (E.Refused r) → NumbersRead (andThen p (λ table. passed (contents z y q table))) t u (F.Refused r)
+  refused-by-transitions (refused number line) t u r e = ((let d = e .0 in cc), e .1)
+  refused-by-transitions (passed table) t u r e = absurd (let d = e .0 in let z : _≡_ {A = ℕ} 0 1 = cc in omega arith)
+
+  pub transitions-pass :
+      (p : Phase (List ℕ)) (t u : List ℕ) →
+      FillsTable p t u E.Reached → drop 128 t ≡ replicate (length t - 128) 0 →
+      NumbersRead (andThen p (λ table. passed (contents z y q table))) t u
+      (F.Is (record { n = z .n; k = z .k; initial = q .initial; recurring = q .recurring }))
+  transitions-pass (refused number line) t u e h = absurd (let d = e .0 in let z : _≡_ {A = ℕ} 0 1 = cc in omega arith)
+  transitions-pass (passed table) t u e h = (refl, e .1 ∙ ap (λ (x : List ℕ). table ++ x) h)
+
+-- THE NAME LINES
+pub refused-by-names :
+    (k : ℕ) (p : Phase Named) (next : Named → Phase Contents) (t u old rows : List ℕ) (r : Refusal) →
+    NamesRead k p (cleared old) rows (N.Refused r) → u ≡ cleared t → FileRead (andThen p next) t u old rows (F.Refused r)
+refused-by-names k (refused number line) next t u old rows r e h = ((let d = e .0 in cc), h, e .1 ∙ cleared-twice old)
+refused-by-names k (passed y) next t u old rows r e h = absurd (let d = e .0 in let z : _≡_ {A = ℕ} 0 1 = cc in omega arith)
+
+-- what is known once they are read
+pub record NamesHanded (k : ℕ) (p : Phase Named) (old rows : List ℕ) (place : Place) : Type 0 where
+  pub named : Named
+  pub is : p ≡ passed named
+  pub at : named .at ≡ place .at
+  pub line : named .line ≡ place .line
+  pub small-line : place .line ≤ 10
+  pub small-at : place .at ≤ 252
+  pub all : length (named .names) ≡ k
+  pub holds : HoldNames (named .names) rows
+  pub behind : drop (24 * k) rows ≡ drop (24 * k) old
+
+pub names-pass : (k : ℕ) (p : Phase Named) (old rows : List ℕ) (place : Place) → NamesRead k p old rows (N.Are place) → NamesHanded k p old rows place
+names-pass k (refused number line) old rows place e = absurd (let d = e .0 in let z : _≡_ {A = ℕ} 0 1 = cc in omega arith)
+names-pass k (passed y) old rows place e =
+    let d : N.Are place ≡ N.Are (record { at = y .at; line = y .line }) = e .0 in
+    let g : place ≡ record { at = y .at; line = y .line } = cc in
+    record {
+      named = y;
+      is = refl;
+      at = sym (ap (λ (p : Place). p .at) g);
+      line = sym (ap (λ (p : Place). p .line) g);
+      small-line = rw g (e .1);
+      small-at = rw g (e .2);
+      all = e .3;
+      holds = e .4;
+      behind = e .5;
+    }
+
+-- THE NUMBERS, behind the name lines of y: the rows, which were `old`, are all zero or hold these names
+module _ (z : Sizes) (y : Named) (old rows : List ℕ) where
+  abbrev pub RowsLeft : File → Type 0
+  RowsLeft (F.Refused r) = rows ≡ cleared old
+  RowsLeft (F.Is a) =
+      InRange (z .n) (z .k) × (length (y .names) ≡ z .k) × HoldNames (y .names) rows × (drop (24 * z .k) rows ≡ drop (24 * z .k) (cleared old))
+
+  pub with-rows :
+      (p : Phase Sets) (next : Sets → Phase (List ℕ)) (t u : List ℕ) (r : File) →
+      NumbersRead (andThen p (λ q. andThen (next q) (λ table. passed (contents z y q table)))) t u r → RowsLeft r →
+      FileRead (andThen p (λ q. andThen (next q) (λ table. passed (contents z y q table)))) t u old rows r
+  with-rows (refused number line) next t u r e left = (e .0, e .1, subst RowsLeft (e .0) left)
+  with-rows (passed q) next t u r e left = cases (next q) e
+    where
+      cases :
+          (p : Phase (List ℕ)) →
+          NumbersRead (andThen p (λ table. passed (contents z y q table))) t u r →
+          FileRead (andThen p (λ table. passed (contents z y q table))) t u old rows r
+      cases (refused number line) e = (e .0, e .1, subst RowsLeft (e .0) left)
+      cases (passed table) e =
+          let (range, all, holds, behind) = subst RowsLeft (e .0) left in
+          (e .0, e .1, range, all, holds, behind)
+
+-- THE SIZE
+module _ (s : List ℕ) where
+  pub too-large : mostSheet < length s → parse s ≡ refused 2 0
+  unfolding parse
+  too-large h = simp (lt-ltb mostSheet (length s) h)
+
+  pub not-large : length s ≤ mostSheet → parse s ≡ andThen (headOf s) (afterHead s)
+  unfolding parse
+  not-large h = simp (le-ltb mostSheet (length s) h)

@@ -1,0 +1,12 @@
+pub mod Letter
+pub mod Passes
+pub mod TableRun
+pub mod LetterLaws
+pub mod LeastLaws
+pub mod UniqueLaws
+pub mod TableRunLaws
+pub mod EndLaws
+pub mod PassLaws
+pub mod FollowLaws
+pub mod SoundLaws
+pub mod Unfold

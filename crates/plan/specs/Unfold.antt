@@ -1,0 +1,8 @@
+-- All definitions of this crate and of those below it that unfold, for laws that hold by computation.
+use Rattle.parser.specs.Unfold.{parser·unfold}
+use Rattle.plan.specs.Parse
+use Rattle.plan.specs.Plan
+
+unfoldable pub plan·unfold : Unit {0}
+unfolding parser·unfold Parse.headOf Parse.letterLineAt Parse.lettersAt Parse.endOf Parse.planOf Plan.planHead Plan.nameLines
+plan·unfold = tt

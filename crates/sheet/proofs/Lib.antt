@@ -1,3 +1,0 @@
-pub mod FileMeans
-pub mod LetterAnswers
-pub mod ReadAnswers
