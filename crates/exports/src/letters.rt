@@ -1,5 +1,5 @@
 // The calls on letters: a letter's name, its companion number, the letter of a name, the successors of a set on a letter.
-ghost use Rattle.automaton.specs.Lent.{tables};
+ghost use Rattle.automaton.specs.Lent.{witnessTables};
 ghost use Rattle.automaton.specs.Successors.{Successors};
 ghost use Rattle.sheet.specs.Letters.{NumberIs, Finds};
 ghost use Rattle.answers.specs.Answer.{InNumbers, NameCopied, nameCells, numberCells, foundCells};
@@ -36,7 +36,7 @@ pub extern "C" fn lunthomi_find(
     answer: &mut [usize],
 )
     ensures { λ _. ⌜ InNumbers (Finds (now (sheet .entry)) (now (name .entry))
-        (tables (now (word .entry)) (now (one .entry)) (now (other .entry))) (tables (now (word .exit)) (now (one .exit)) (now (other .exit))))
+        (witnessTables (now (word .entry)) (now (one .entry)) (now (other .entry))) (witnessTables (now (word .exit)) (now (one .exit)) (now (other .exit))))
         foundCells (now (answer .entry)) (now (answer .exit)) ⌝ }
 {
     let r = sheet::find(sheet, name, word, one, other);

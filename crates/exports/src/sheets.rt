@@ -1,8 +1,8 @@
 // The calls on a whole sheet: checked, read, written.
-ghost use Rattle.automaton.specs.Lent.{tables};
+ghost use Rattle.automaton.specs.Lent.{witnessTables};
 ghost use Rattle.walks.specs.Check.{Checks};
-ghost use Rattle.sheet.specs.Read.{Reads};
-ghost use Rattle.writer.specs.Write.{Writes, WritesNumbers};
+ghost use Rattle.sheet.specs.Read.{sheetTables, Reads};
+ghost use Rattle.writer.specs.Write.{writeTables, Writes, WritesNumbers};
 ghost use Rattle.answers.specs.Answer.{InNumbers, asNumbers, checkedCells, readCells, writtenCells};
 use automaton::Numbers;
 
@@ -20,7 +20,7 @@ pub extern "C" fn lunthomi_check(
     answer: &mut [usize],
 )
     ensures { λ _. ⌜ InNumbers (Checks (asNumbers n k initial recurring (now (table .entry)))
-        (tables (now (word .entry)) (now (one .entry)) (now (other .entry))) (tables (now (word .exit)) (now (one .exit)) (now (other .exit))))
+        (witnessTables (now (word .entry)) (now (one .entry)) (now (other .entry))) (witnessTables (now (word .exit)) (now (one .exit)) (now (other .exit))))
         checkedCells (now (answer .entry)) (now (answer .exit)) ⌝ }
 {
     let a = Numbers {
@@ -43,8 +43,9 @@ pub extern "C" fn lunthomi_read_sheet(
     other: &mut [u16],
     answer: &mut [usize],
 )
-    ensures { λ _. ⌜ InNumbers (Reads (now (sheet .entry)) (now (table .entry)) (now (table .exit))
-        (tables (now (word .entry)) (now (one .entry)) (now (other .entry))) (tables (now (word .exit)) (now (one .exit)) (now (other .exit))))
+    ensures { λ _. ⌜ InNumbers (Reads (now (sheet .entry))
+        (sheetTables (now (table .entry)) (witnessTables (now (word .entry)) (now (one .entry)) (now (other .entry))))
+        (sheetTables (now (table .exit)) (witnessTables (now (word .exit)) (now (one .exit)) (now (other .exit)))))
         readCells (now (answer .entry)) (now (answer .exit)) ⌝ }
 {
     let r = sheet::read_sheet(sheet, table, word, one, other);
@@ -62,8 +63,8 @@ pub extern "C" fn lunthomi_write(
     answer: &mut [usize],
 )
     ensures { λ _. ⌜ InNumbers (Writes (now (sheet .entry))
-        (tables (now (word .entry)) (now (one .entry)) (now (other .entry))) (tables (now (word .exit)) (now (one .exit)) (now (other .exit)))
-        (now (out .entry)) (now (out .exit)))
+        (writeTables (witnessTables (now (word .entry)) (now (one .entry)) (now (other .entry))) (now (out .entry)))
+        (writeTables (witnessTables (now (word .exit)) (now (one .exit)) (now (other .exit))) (now (out .exit))))
         writtenCells (now (answer .entry)) (now (answer .exit)) ⌝ }
 {
     let r = writer::write(sheet, word, one, other, out);
@@ -86,8 +87,8 @@ pub extern "C" fn lunthomi_write_numbers(
     answer: &mut [usize],
 )
     ensures { λ _. ⌜ InNumbers (WritesNumbers (asNumbers n k initial recurring (now (table .entry))) (now (names .entry))
-        (tables (now (word .entry)) (now (one .entry)) (now (other .entry))) (tables (now (word .exit)) (now (one .exit)) (now (other .exit)))
-        (now (out .entry)) (now (out .exit)))
+        (writeTables (witnessTables (now (word .entry)) (now (one .entry)) (now (other .entry))) (now (out .entry)))
+        (writeTables (witnessTables (now (word .exit)) (now (one .exit)) (now (other .exit))) (now (out .exit))))
         writtenCells (now (answer .entry)) (now (answer .exit)) ⌝ }
 {
     let a = Numbers {

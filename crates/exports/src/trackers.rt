@@ -1,8 +1,8 @@
 // The calls that build a tracker and list it.
-ghost use Rattle.automaton.specs.Lent.{tables};
-ghost use Rattle.filling.specs.Store.{store};
-ghost use Rattle.tracker.specs.Build.{Builds, BuildsNumbers};
-ghost use Rattle.listing.specs.List.{Lists, ListsNumbers};
+ghost use Rattle.automaton.specs.Lent.{witnessTables};
+ghost use Rattle.filling.specs.TrackerTables.{trackerTables};
+ghost use Rattle.tracker.specs.Build.{buildNumbersTables, buildTables, Builds, BuildsNumbers};
+ghost use Rattle.listing.specs.List.{listNumbersTables, listTables, Lists, ListsNumbers};
 ghost use Rattle.answers.specs.Answer.{InNumbers, asNumbers, builtCells, writtenCells};
 use automaton::Numbers;
 
@@ -19,9 +19,9 @@ pub extern "C" fn lunthomi_build(
     other: &mut [u16],
     answer: &mut [usize],
 )
-    ensures { λ _. ⌜ InNumbers (Builds (now (sheet .entry)) room (now (table .entry)) (now (table .exit))
-        (tables (now (word .entry)) (now (one .entry)) (now (other .entry))) (tables (now (word .exit)) (now (one .exit)) (now (other .exit)))
-        (store (now (tuples .entry)) (now (nexts .entry))) (store (now (tuples .exit)) (now (nexts .exit))))
+    ensures { λ _. ⌜ InNumbers (Builds (now (sheet .entry)) room
+        (buildTables (now (table .entry)) (witnessTables (now (word .entry)) (now (one .entry)) (now (other .entry))) (trackerTables (now (tuples .entry)) (now (nexts .entry))))
+        (buildTables (now (table .exit)) (witnessTables (now (word .exit)) (now (one .exit)) (now (other .exit))) (trackerTables (now (tuples .exit)) (now (nexts .exit)))))
         builtCells (now (answer .entry)) (now (answer .exit)) ⌝ }
 {
     let r = tracker::build(sheet, room, table, tuples, nexts, word, one, other);
@@ -45,8 +45,8 @@ pub extern "C" fn lunthomi_build_numbers(
     answer: &mut [usize],
 )
     ensures { λ _. ⌜ InNumbers (BuildsNumbers (asNumbers n k initial recurring (now (table .entry))) room
-        (tables (now (word .entry)) (now (one .entry)) (now (other .entry))) (tables (now (word .exit)) (now (one .exit)) (now (other .exit)))
-        (store (now (tuples .entry)) (now (nexts .entry))) (store (now (tuples .exit)) (now (nexts .exit))))
+        (buildNumbersTables (witnessTables (now (word .entry)) (now (one .entry)) (now (other .entry))) (trackerTables (now (tuples .entry)) (now (nexts .entry))))
+        (buildNumbersTables (witnessTables (now (word .exit)) (now (one .exit)) (now (other .exit))) (trackerTables (now (tuples .exit)) (now (nexts .exit)))))
         builtCells (now (answer .entry)) (now (answer .exit)) ⌝ }
 {
     let a = Numbers {
@@ -73,9 +73,11 @@ pub extern "C" fn lunthomi_list(
     out: &mut [u8],
     answer: &mut [usize],
 )
-    ensures { λ _. ⌜ InNumbers (Lists (now (sheet .entry)) room (now (table .entry)) (now (table .exit))
-        (tables (now (word .entry)) (now (one .entry)) (now (other .entry))) (tables (now (word .exit)) (now (one .exit)) (now (other .exit)))
-        (store (now (tuples .entry)) (now (nexts .entry))) (store (now (tuples .exit)) (now (nexts .exit))) (now (out .entry)) (now (out .exit)))
+    ensures { λ _. ⌜ InNumbers (Lists (now (sheet .entry)) room
+        (listTables (buildTables (now (table .entry)) (witnessTables (now (word .entry)) (now (one .entry)) (now (other .entry)))
+        (trackerTables (now (tuples .entry)) (now (nexts .entry)))) (now (out .entry)))
+        (listTables (buildTables (now (table .exit)) (witnessTables (now (word .exit)) (now (one .exit)) (now (other .exit)))
+        (trackerTables (now (tuples .exit)) (now (nexts .exit)))) (now (out .exit))))
         writtenCells (now (answer .entry)) (now (answer .exit)) ⌝ }
 {
     let r = listing::list(sheet, room, table, tuples, nexts, word, one, other, out);
@@ -100,8 +102,10 @@ pub extern "C" fn lunthomi_list_numbers(
     answer: &mut [usize],
 )
     ensures { λ _. ⌜ InNumbers (ListsNumbers (asNumbers n k initial recurring (now (table .entry))) room
-        (tables (now (word .entry)) (now (one .entry)) (now (other .entry))) (tables (now (word .exit)) (now (one .exit)) (now (other .exit)))
-        (store (now (tuples .entry)) (now (nexts .entry))) (store (now (tuples .exit)) (now (nexts .exit))) (now (out .entry)) (now (out .exit)))
+        (listNumbersTables (buildNumbersTables (witnessTables (now (word .entry)) (now (one .entry)) (now (other .entry))) (trackerTables (now (tuples .entry)) (now (nexts .entry))))
+        (now (out .entry)))
+        (listNumbersTables (buildNumbersTables (witnessTables (now (word .exit)) (now (one .exit)) (now (other .exit))) (trackerTables (now (tuples .exit)) (now (nexts .exit))))
+        (now (out .exit))))
         writtenCells (now (answer .entry)) (now (answer .exit)) ⌝ }
 {
     let a = Numbers {

@@ -1,6 +1,7 @@
 // The call that judges a plan.
-ghost use Rattle.automaton.specs.Lent.{tables};
-ghost use Rattle.filling.specs.Store.{store};
+ghost use Rattle.automaton.specs.Lent.{witnessTables};
+ghost use Rattle.filling.specs.TrackerTables.{trackerTables};
+ghost use Rattle.tracker.specs.Build.{buildTables};
 ghost use Rattle.judge.specs.Verdict.{Judgement};
 ghost use Rattle.answers.specs.Answer.{InNumbers, outcomeCells};
 
@@ -18,9 +19,9 @@ pub extern "C" fn lunthomi_verdict(
     other: &mut [u16],
     answer: &mut [usize],
 )
-    ensures { λ _. ⌜ InNumbers (Judgement (now (sheet .entry)) (now (plan .entry)) room (now (table .entry)) (now (table .exit))
-        (tables (now (word .entry)) (now (one .entry)) (now (other .entry))) (tables (now (word .exit)) (now (one .exit)) (now (other .exit)))
-        (store (now (tuples .entry)) (now (nexts .entry))) (store (now (tuples .exit)) (now (nexts .exit))))
+    ensures { λ _. ⌜ InNumbers (Judgement (now (sheet .entry)) (now (plan .entry)) room
+        (buildTables (now (table .entry)) (witnessTables (now (word .entry)) (now (one .entry)) (now (other .entry))) (trackerTables (now (tuples .entry)) (now (nexts .entry))))
+        (buildTables (now (table .exit)) (witnessTables (now (word .exit)) (now (one .exit)) (now (other .exit))) (trackerTables (now (tuples .exit)) (now (nexts .exit)))))
         outcomeCells (now (answer .entry)) (now (answer .exit)) ⌝ }
 {
     let r = judge::verdict(sheet, plan, room, table, tuples, nexts, word, one, other);

@@ -9,7 +9,7 @@ use Rattle.automaton.specs.Automaton.{Automaton, Fits}
 use Rattle.tuple.specs.Colour.{neutral}
 use Rattle.tuple.specs.Step.{Tuple}
 use Rattle.numbering.specs.Numbering.{tupleAt, entered, rows, MoreThan}
-use Rattle.filling.specs.Store.{Store, store, RoomFits, Fitted}
+use Rattle.filling.specs.TrackerTables.{TrackerTables, trackerTables, EnoughForTracker, Fitted}
 use Rattle.numbering.specs.Explore.{found}
 
 -- "its next on letter l is number 8t+l", of the steps before c; every other cell is zero
@@ -20,7 +20,7 @@ pub record NextsBefore (A : Automaton) (c : ℕ) (ts : List Tuple) (nexts : List
 -- before step c the tables hold the m tuples that are found, with the index of their rows, and zero behind
 pub record Filled (A : Automaton) (room c m : ℕ) (tuples nexts head link : List ℕ) : Type 0 where
   pub fits : Fits A
-  pub room-fits : RoomFits room (store tuples nexts)
+  pub room-fits : EnoughForTracker room (trackerTables tuples nexts)
   pub count : m ≡ length (found A c)
   pub room-is : m ≤ room
   pub tuples-are : tuples ≡ rows (found A c) ++ replicate (length tuples - 17 * m) 0
@@ -53,13 +53,13 @@ pub record Entering (c : ℕ) (tuples w : List ℕ) : Type 0 where
   pub cells : length w ≡ 17
 
 -- what filling asks: the numbers fit, and the tables are long enough and zero
-pub record Filling (A : Automaton) (room : ℕ) (v : Store) : Type 0 where
+pub record Filling (A : Automaton) (room : ℕ) (v : TrackerTables) : Type 0 where
   pub fits : Fits A
-  pub room-fits : RoomFits room v
+  pub room-fits : EnoughForTracker room v
   pub tuples : v .tuples ≡ cleared (v .tuples)
   pub nexts : v .nexts ≡ cleared (v .nexts)
 
 -- QUESTION 11: the tables that were v and are w hold the tracker with its r tuples, or r is above the room, and more are reachable
-pub record Fills (A : Automaton) (room : ℕ) (v w : Store) (r : ℕ) : Type 0 where
+pub record Fills (A : Automaton) (room : ℕ) (v w : TrackerTables) (r : ℕ) : Type 0 where
   pub fitting : r ≤ room → Fitted A room v w r
   pub over : room < r → MoreThan A room

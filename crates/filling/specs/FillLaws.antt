@@ -23,9 +23,9 @@ use Rattle.numbering.specs.Numbering.{tupleAt, entered, rows}
 use Rattle.numbering.specs.Explore.{step, found}
 use Rattle.numbering.specs.ExploreLaws.{Listed, Agree, step-skips, step-keeps, step-finds, agree-more, last-is, enters-alike}
 use Rattle.numbering.specs.NumberingLaws.{found-reachable, found-all, found-more}
-use Rattle.filling.specs.Store.{Store, store, clearedStore, RoomFits, Fitted}
+use Rattle.filling.specs.TrackerTables.{TrackerTables, trackerTables, clearedTracker, EnoughForTracker, Fitted}
 use Rattle.filling.specs.RowsLaws.{Whole, row-is, row-written, reachable-formed, reachable-whole}
-use Rattle.filling.specs.StoreLaws.{room-alike}
+use Rattle.filling.specs.TrackerTablesLaws.{room-alike}
 use Rattle.filling.specs.Fill.{NextsBefore, Filled, Taken, Goes, firstCells, Filling, Fills}
 
 -- WHAT IS FOUND
@@ -202,7 +202,7 @@ module _ {A : Automaton} {room c m : ℕ} {tuples nexts head link : List ℕ} (f
       }
 
   -- every step of the tuples is taken
-  filled-all : (v : Store) → length (v .tuples) ≡ length tuples → length (v .nexts) ≡ length nexts → 8 * m ≤ c → Fitted A room v (store tuples nexts) m
+  filled-all : (v : TrackerTables) → length (v .tuples) ≡ length tuples → length (v .nexts) ≡ length nexts → 8 * m ≤ c → Fitted A room v (trackerTables tuples nexts) m
   filled-all v l g h =
       let p = f .count in
       let k = f .fits .range .3 in
@@ -299,7 +299,7 @@ first-cells : (A : Automaton) → firstCells (A .n) (A .initial) ≡ row (first 
 unfolding first firstCells
 first-cells A = first-row (A .n) (A .initial)
 
-module _ (A : Automaton) (fits : Fits A) (room : ℕ) (v : Store) (r : RoomFits room v) (tuples' head' link' : List ℕ)
+module _ (A : Automaton) (fits : Fits A) (room : ℕ) (v : TrackerTables) (r : EnoughForTracker room v) (tuples' head' link' : List ℕ)
     (a : Added (cleared (v .tuples)) tuples' 0 (row (first A)) head' link') where
   first-length : length tuples' ≡ length (v .tuples)
   first-length = ap length (a .is) ∙ length-sets (cleared (v .tuples)) 0 (row (first A)) ∙ length-replicate {A = ℕ} (length (v .tuples)) 0
@@ -329,7 +329,7 @@ module _ (A : Automaton) (fits : Fits A) (room : ℕ) (v : Store) (r : RoomFits 
       }
 
 -- the first tuple in cleared tables
-pub filled-begins : {A : Automaton} {room : ℕ} {v : Store} → Filling A room v → {tuples' head' link' : List ℕ}
+pub filled-begins : {A : Automaton} {room : ℕ} {v : TrackerTables} → Filling A room v → {tuples' head' link' : List ℕ}
     → Added (v .tuples) tuples' 0 (firstCells (A .n) (A .initial)) head' link' → Filled A room 0 1 tuples' (v .nexts) head' link'
 filled-begins {A} {room} {v} g {tuples'} {head'} {link'} a =
     rw (g .nexts)
@@ -339,18 +339,18 @@ filled-begins {A} {room} {v} g {tuples'} {head'} {link'} a =
 
 -- WHAT FILLING ANSWERS
 
-pub fills-over : {A : Automaton} {room r : ℕ} {v w : Store} (c : ℕ) → room < r → room < length (found A c) → Fills A room v w r
+pub fills-over : {A : Automaton} {room r : ℕ} {v w : TrackerTables} (c : ℕ) → room < r → room < length (found A c) → Fills A room v w r
 fills-over {A} {room} c h k = record { fitting = λ l. absurd (omega arith); over = λ l. found-more A c room k }
 
 pub fills-all : {A : Automaton} {room c m : ℕ} {tuples nexts head link : List ℕ} → Filled A room c m tuples nexts head link
-    → (v : Store) → length (v .tuples) ≡ length tuples → length (v .nexts) ≡ length nexts → 8 * m ≤ c → Fills A room v (store tuples nexts) m
+    → (v : TrackerTables) → length (v .tuples) ≡ length tuples → length (v .nexts) ≡ length nexts → 8 * m ≤ c → Fills A room v (trackerTables tuples nexts) m
 fills-all f v p q h =
     let r = f .room-is in
     record { fitting = λ l. filled-all f v p q h; over = λ l. absurd (omega arith) }
 
 -- IN TABLES WITH ANY CONTENTS
 
-pub cleared-filling : (A : Automaton) (room : ℕ) (v : Store) → Fits A → RoomFits room v → Filling A room (clearedStore v)
+pub cleared-filling : (A : Automaton) (room : ℕ) (v : TrackerTables) → Fits A → EnoughForTracker room v → Filling A room (clearedTracker v)
 cleared-filling A room v f r = record {
   fits = f;
   room-fits = room-alike (length-cleared (v .tuples)) (length-cleared (v .nexts)) r;
@@ -359,7 +359,7 @@ cleared-filling A room v f r = record {
 }
 
 -- the tables' former contents do not matter
-pub cleared-fitted : (A : Automaton) (room : ℕ) (v w : Store) (m : ℕ) → Fitted A room (clearedStore v) w m → Fitted A room v w m
+pub cleared-fitted : (A : Automaton) (room : ℕ) (v w : TrackerTables) (m : ℕ) → Fitted A room (clearedTracker v) w m → Fitted A room v w m
 cleared-fitted A room v w m f =
     let h = f .holds in
     record {

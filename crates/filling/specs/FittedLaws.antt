@@ -15,12 +15,12 @@ use Rattle.tuple.specs.Row.{row}
 use Rattle.tuple.specs.RowLaws.{row-set, row-colour}
 use Rattle.numbering.specs.Numbering.{Reachable, tupleAt, rows}
 use Rattle.numbering.specs.NumberingLaws.{numbering-reachable}
-use Rattle.filling.specs.Store.{Store, clearedStore, RoomFits, Fitted}
+use Rattle.filling.specs.TrackerTables.{TrackerTables, clearedTracker, EnoughForTracker, Fitted}
 use Rattle.gate.specs.GateLaws.{zeros}
 use Rattle.filling.specs.RowsLaws.{Whole, rows-length, row-is, reachable-formed, reachable-whole}
-use Rattle.filling.specs.StoreLaws.{room-alike, room-less, cleared-alike}
+use Rattle.filling.specs.TrackerTablesLaws.{room-alike, room-less, cleared-alike}
 
-module _ (A : Automaton) (fits : Fits A) (room m : ℕ) (v w : Store) (f : Fitted A room v w m) where
+module _ (A : Automaton) (fits : Fits A) (room m : ℕ) (v w : TrackerTables) (f : Fitted A room v w m) where
   -- tuple t of the tracker
   abbrev pub tuple : ℕ → Tuple
   tuple t = tupleAt A (f .list) t
@@ -76,7 +76,7 @@ module _ (A : Automaton) (fits : Fits A) (room m : ℕ) (v w : Store) (f : Fitte
       ]
 
   -- the tables are as long as they were
-  fitted-length : RoomFits room v → length (w .tuples) ≡ length (v .tuples)
+  fitted-length : EnoughForTracker room v → length (w .tuples) ≡ length (v .tuples)
   fitted-length r =
       let n = length (v .tuples) - 17 * length (f .list) in
       let a = f .count-is in
@@ -85,11 +85,11 @@ module _ (A : Automaton) (fits : Fits A) (room m : ℕ) (v w : Store) (f : Fitte
       ap length (f .holds .tuples) ∙ length-append (rows (f .list)) (replicate n 0) ∙ omega (arith, fitted-rows, length-replicate {A = ℕ} n 0)
 
   -- so they are long enough for the tuples that there are
-  pub fitted-room : RoomFits room v → RoomFits m w
+  pub fitted-room : EnoughForTracker room v → EnoughForTracker m w
   fitted-room r =
       let c = f .count-is in
       let some = f .holds .numbering .some in
       room-alike (fitted-length r) (f .holds .same) (room-less (omega arith) (f .room-is) r)
 
-  pub fitted-cleared : RoomFits room v → clearedStore w ≡ clearedStore v
+  pub fitted-cleared : EnoughForTracker room v → clearedTracker w ≡ clearedTracker v
   fitted-cleared r = cleared-alike w v (fitted-length r) (f .holds .same)

@@ -1,6 +1,6 @@
 pub mod RowsLaws
-pub mod Store
-pub mod StoreLaws
+pub mod TrackerTables
+pub mod TrackerTablesLaws
 pub mod Fill
 pub mod FillLaws
 pub mod FittedLaws

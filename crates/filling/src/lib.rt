@@ -7,7 +7,7 @@ ghost use Rattle.rows.specs.Rows.{rowAt, Added};
 ghost use Rattle.automaton.specs.Automaton.{automaton};
 ghost use Rattle.tuple.specs.Step.{next};
 ghost use Rattle.tuple.specs.Row.{row, tupleOf, Steps};
-ghost use Rattle.filling.specs.Store.{store, clearedStore};
+ghost use Rattle.filling.specs.TrackerTables.{trackerTables, clearedTracker};
 ghost use Rattle.filling.specs.Fill.{firstCells, NoRows, Entering, Filled, Goes, Filling, Fills};
 
 // The first tuple becomes row 0.
@@ -64,8 +64,8 @@ fn expand(
 
 // All steps from the first tuple on, in cleared tables: the count of tuples, or a number above the room where they are too many.
 pub fn fill(a: Numbers, table: &[u16], room: usize, tuples: &mut [u16], nexts: &mut [u16]) -> usize
-    requires { ⌜ Filling (automaton a (now table)) room (store (now tuples) (now nexts)) ⌝ }
-    ensures { λ r. ⌜ Fills (automaton a (now (table .entry))) room (store (now (tuples .entry)) (now (nexts .entry))) (store (now (tuples .exit)) (now (nexts .exit))) r ⌝ }
+    requires { ⌜ Filling (automaton a (now table)) room (trackerTables (now tuples) (now nexts)) ⌝ }
+    ensures { λ r. ⌜ Fills (automaton a (now (table .entry))) room (trackerTables (now (tuples .entry)) (now (nexts .entry))) (trackerTables (now (tuples .exit)) (now (nexts .exit))) r ⌝ }
 {
     let mut head = [0u16; rows::DIGESTS];
     let mut link = [0u16; rows::MOST];
@@ -84,7 +84,7 @@ pub fn fill(a: Numbers, table: &[u16], room: usize, tuples: &mut [u16], nexts: &
 
 // Both tables become zero.
 pub fn clear(tuples: &mut [u16], nexts: &mut [u16])
-    ensures { λ _. ⌜ store (now (tuples .exit)) (now (nexts .exit)) ≡ clearedStore (store (now (tuples .entry)) (now (nexts .entry))) ⌝ }
+    ensures { λ _. ⌜ trackerTables (now (tuples .exit)) (now (nexts .exit)) ≡ clearedTracker (trackerTables (now (tuples .entry)) (now (nexts .entry))) ⌝ }
 {
     gate::clear(tuples);
     gate::clear(nexts);

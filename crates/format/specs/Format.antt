@@ -73,14 +73,14 @@ lines σ = headLine (σ .n) (σ .k) ++ (nameLines 0 (σ .names) ++ (stateLines 0
 -- THE QUESTIONS, on the lines that are there
 
 -- "Are all names distinct after composing?": the later of two names answers for both
-abbrev pub Distinct : List (List ℕ) → List ℕ → Type 0
-Distinct [] x = Unit
-Distinct (y ∷ ys) x = (compose y ≡ compose x → ⊥) × Distinct ys x
+abbrev pub DistinctFrom : List (List ℕ) → List ℕ → Type 0
+DistinctFrom [] x = Unit
+DistinctFrom (y ∷ ys) x = (compose y ≡ compose x → ⊥) × DistinctFrom ys x
 
 -- names below the earlier ones
 abbrev pub NamesRight : List (List ℕ) → List (List ℕ) → Type 0
 NamesRight earlier [] = Unit
-NamesRight earlier (x ∷ xs) = IsName x × Distinct earlier x × NamesRight (earlier ++ (x ∷ [])) xs
+NamesRight earlier (x ∷ xs) = IsName x × DistinctFrom earlier x × NamesRight (earlier ++ (x ∷ [])) xs
 
 -- "initial 0 or 1 (3), must-recur 0 or 1 (3)"
 abbrev pub FlagsRight : State → Type 0
@@ -95,8 +95,8 @@ abbrev pub cell : Transition → ℕ
 cell t = 8 * t .from + t .letter
 
 -- a transition's place in the order by from, letter and to
-abbrev pub place : Transition → ℕ
-place t = cell t * 16 + t .to
+abbrev pub transitionIndex : Transition → ℕ
+transitionIndex t = cell t * 16 + t .to
 
 -- t stands before u in that order; in range this is the order of places (`place-before` in FormatLaws)
 abbrev pub Before : Transition → Transition → Type 0
@@ -107,17 +107,17 @@ pub record TransitionRight (n k least : ℕ) (t : Transition) : Type 0 where
   pub from : t .from < n
   pub letter : t .letter < k
   pub to : t .to < n
-  pub order : least ≤ place t
+  pub order : least ≤ transitionIndex t
 
 -- "strictly ascending by these three"
 abbrev pub TransitionsRight : ℕ → ℕ → ℕ → List Transition → Type 0
 TransitionsRight n k least [] = Unit
-TransitionsRight n k least (t ∷ ts) = TransitionRight n k least t × TransitionsRight n k (place t + 1) ts
+TransitionsRight n k least (t ∷ ts) = TransitionRight n k least t × TransitionsRight n k (transitionIndex t + 1) ts
 
 -- the least place that is free behind some transitions
 abbrev pub leastAfter : ℕ → List Transition → ℕ
 leastAfter least [] = least
-leastAfter least (t ∷ ts) = leastAfter (place t + 1) ts
+leastAfter least (t ∷ ts) = leastAfter (transitionIndex t + 1) ts
 
 -- questions 4 to 8 are answered yes by every line of a sheet, or of its upper part
 pub record Right (σ : Sheet) : Type 0 where
@@ -171,7 +171,7 @@ pub data NameFault (earlier : List (List ℕ)) (rest : List ℕ) : ℕ → Type 
   -- "Is each name line of its form? No: 5."
   wrong-name : ((x after : List ℕ) → IsName x → rest ≡ nameLine (length earlier) x ++ after → ⊥) → NameFault earlier rest 5
   -- "Are all names distinct after composing? No: 6, on the later line."
-  name-twice : (x after : List ℕ) → IsName x → rest ≡ nameLine (length earlier) x ++ after → (Distinct earlier x → ⊥) → NameFault earlier rest 6
+  name-twice : (x after : List ℕ) → IsName x → rest ≡ nameLine (length earlier) x ++ after → (DistinctFrom earlier x → ⊥) → NameFault earlier rest 6
 
 -- those where a transition or END is due, on line `line`
 -- "After the states and up to `END`, a line beginning with T answers to question 8, any other to 9."

@@ -9,12 +9,12 @@ use native.Mathlib.Decide.{decLt}
 use Rattle.text.specs.Bytes.{lf, space}
 use Rattle.text.specs.BytesLaws.{stretch-rest}
 use Rattle.text.specs.Column.{column}
-use Rattle.text.specs.LineLaws.{numbers-length}
-use Rattle.format.specs.Format.{State, Transition, Sheet, sheetWord, headLine, nameLine, stateLine, transitionLine, nameLines, stateLines, transitionLines, lines, place, Before, Faulty, wrong-name, name-twice, wrong-transition, no-end, not-last}
+use Rattle.text.specs.LineLaws.{numbersLine-length}
+use Rattle.format.specs.Format.{State, Transition, Sheet, sheetWord, headLine, nameLine, stateLine, transitionLine, nameLines, stateLines, transitionLines, lines, transitionIndex, Before, Faulty, wrong-name, name-twice, wrong-transition, no-end, not-last}
 
 pub head-length : (n k : ℕ) → length (headLine n k) ≡ 12
 unfolding headLine
-head-length n k = numbers-length sheetWord (n ∷ k ∷ [])
+head-length n k = numbersLine-length sheetWord (n ∷ k ∷ [])
 
 pub name-length : (l : ℕ) (x : List ℕ) → length (nameLine l x) ≡ 6 + length x
 unfolding nameLine column
@@ -22,11 +22,11 @@ name-length l x = simp length-append (omega arith)
 
 pub state-length : (q : ℕ) (z : State) → length (stateLine q z) ≡ 11
 unfolding stateLine
-state-length q z = numbers-length (83 ∷ []) (q ∷ z .initial ∷ z .recurring ∷ [])
+state-length q z = numbersLine-length (83 ∷ []) (q ∷ z .initial ∷ z .recurring ∷ [])
 
 pub transition-length : (t : Transition) → length (transitionLine t) ≡ 11
 unfolding transitionLine
-transition-length t = numbers-length (84 ∷ []) (t .from ∷ t .letter ∷ t .to ∷ [])
+transition-length t = numbersLine-length (84 ∷ []) (t .from ∷ t .letter ∷ t .to ∷ [])
 
 -- behind a line, the others begin where it ends
 module _ (at q : ℕ) (z : State) (zs : List State) where
@@ -69,15 +69,15 @@ module _ (s : List ℕ) (at l : ℕ) (x rest : List ℕ) (e : drop at s ≡ name
 
 -- "strictly ascending by these three": the order of places is that of from, then letter, then to
 module _ (t u : Transition) (l : t .letter < 8) (m : u .letter < 8) (a : t .to < 16) (b : u .to < 16) where
-  pub place-before : (place t < place u) ↔ Before t u
+  pub place-before : (transitionIndex t < transitionIndex u) ↔ Before t u
   place-before = (λ h. by h (decLt (t .from) (u .from)) (decLt (t .letter) (u .letter)), back)
     where
-      by : place t < place u → Dec (t .from < u .from) → Dec (t .letter < u .letter) → Before t u
+      by : transitionIndex t < transitionIndex u → Dec (t .from < u .from) → Dec (t .letter < u .letter) → Before t u
       by h (yes f) g = inl f
       by h (no f) (yes g) = inr (omega arith, inl g)
       by h (no f) (no g) = inr (omega arith, inr (omega arith, omega arith))
 
-      back : Before t u → place t < place u
+      back : Before t u → transitionIndex t < transitionIndex u
       back (inl f) = omega arith
       back (inr (f, inl g)) = omega arith
       back (inr (f, inr (g, d))) = omega arith

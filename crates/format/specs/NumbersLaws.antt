@@ -16,7 +16,7 @@ use Rattle.automaton.specs.declared.Numbers.{Numbers}
 use Rattle.automaton.specs.Automaton.{automaton, graphOf, AreNumbers, Fits}
 use Rattle.automaton.specs.Graph.{Edge, InRange}
 use Rattle.automaton.specs.Lent.{lentTable}
-use Rattle.format.specs.Format.{State, Transition, Sheet, FlagsRight, StatesRight, TransitionRight, TransitionsRight, cell, place, Right, FileIs}
+use Rattle.format.specs.Format.{State, Transition, Sheet, FlagsRight, StatesRight, TransitionRight, TransitionsRight, cell, transitionIndex, Right, FileIs}
 use Rattle.format.specs.Numbers.{flagSet, inserted, tableOf, numbers}
 
 -- Flags
@@ -151,14 +151,14 @@ module _ (n k : ℕ) (range : InRange n k) where
     table-old table size least [] h m = m
     table-old table size least (t ∷ ts) h m =
         let fits : cell t < length table = omega (arith, cell-small t (h .0 .from) (h .0 .letter)) in
-        table-old (inserted table t) (inserted-length table t ∙ size) (place t + 1) ts (h .1) (inserted-old table t c r fits m)
+        table-old (inserted table t) (inserted-length table t ∙ size) (transitionIndex t + 1) ts (h .1) (inserted-old table t c r fits m)
 
     -- a member was one, or is a transition's
     table-from : (table : List ℕ) → length table ≡ 128 → (least : ℕ) (ts : List Transition) → TransitionsRight n k least ts →
         Member (getD (tableOf table ts) c 0) r → Member (getD table c 0) r ⊎ Entered n k ts c r
     unfolding tableOf
     table-from table size least [] h m = inl m
-    table-from table size least (t ∷ ts) h m = by (table-from (inserted table t) (inserted-length table t ∙ size) (place t + 1) ts (h .1) m)
+    table-from table size least (t ∷ ts) h m = by (table-from (inserted table t) (inserted-length table t ∙ size) (transitionIndex t + 1) ts (h .1) m)
       where
         first : Member (getD table c 0) r ⊎ ((c ≡ cell t) × (r ≡ t .to)) → Member (getD table c 0) r ⊎ Entered n k (t ∷ ts) c r
         first (inl a) = inl a
@@ -175,17 +175,17 @@ module _ (n k : ℕ) (range : InRange n k) where
   table-new t table size least [] h i l e = absurd (omega arith)
   table-new t table size least (u ∷ us) h zero l e =
       let fits : cell u < length table = omega (arith, cell-small u (h .0 .from) (h .0 .letter)) in
-      table-old (cell t) (t .to) (inserted table u) (inserted-length table u ∙ size) (place u + 1) us (h .1)
+      table-old (cell t) (t .to) (inserted table u) (inserted-length table u ∙ size) (transitionIndex u + 1) us (h .1)
       (subst (λ (v : Transition). Member (getD (inserted table u) (cell v) 0) (v .to)) e (inserted-new table u fits))
   table-new t table size least (u ∷ us) h (suc i) l e =
       let fits : cell u < length table = omega (arith, cell-small u (h .0 .from) (h .0 .letter)) in
-      table-new t (inserted table u) (inserted-length table u ∙ size) (place u + 1) us (h .1) i (omega arith) e
+      table-new t (inserted table u) (inserted-length table u ∙ size) (transitionIndex u + 1) us (h .1) i (omega arith) e
 
   -- each transition of a list is right
   one-right : (t : Transition) (least : ℕ) (ts : List Transition) → TransitionsRight n k least ts → OneOf ts t → TransitionRight n k 0 t
   one-right t least [] h o = absurd (let l = o .1 in omega arith)
   one-right t least (u ∷ us) h (zero, l, e) = subst (TransitionRight n k 0) e (loosened (h .0))
-  one-right t least (u ∷ us) h (suc i, l, e) = one-right t (place u + 1) us (h .1) (i, omega arith, e)
+  one-right t least (u ∷ us) h (suc i, l, e) = one-right t (transitionIndex u + 1) us (h .1) (i, omega arith, e)
 
 -- no cell of the empty table has a member
 none-yet : (c r : ℕ) → Member (getD (replicate {A = ℕ} 128 0) c 0) r → ⊥

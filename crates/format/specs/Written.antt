@@ -17,8 +17,8 @@ statesOf initial recurring q zero = []
 statesOf initial recurring q (suc n) = stateOf initial recurring q ∷ statesOf initial recurring (suc q) n
 
 -- "strictly ascending by these three": there are 2048 places, 16 to a cell of the table
-abbrev pub places : ℕ
-places = 2048
+abbrev pub mostTransitions : ℕ
+mostTransitions = 2048
 
 -- the transition at place i
 abbrev pub placed : ℕ → Transition
@@ -41,7 +41,7 @@ sheetOf A names = record {
   k = A .k;
   names = names;
   states = statesOf (A .initial) (A .recurring) 0 (A .n);
-  transitions = transitionsOf (A .table) 0 places;
+  transitions = transitionsOf (A .table) 0 mostTransitions;
 }
 
 -- the sheet that is written: its names are those that are given, composed

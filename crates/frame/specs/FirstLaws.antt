@@ -11,7 +11,7 @@ use Rattle.lists.specs.Choice.{choose}
 use Rattle.text.specs.NumberLaws.{between-is, between-of}
 use Rattle.text.specs.Line.{numbersLine}
 use Rattle.text.specs.Pair.{wordAndPair}
-use Rattle.text.specs.PairLaws.{NoFirst, first-of, first-outcome}
+use Rattle.text.specs.PairLaws.{NoFirst, first-pair, first-outcome}
 use Rattle.text.specs.Word.{noZero}
 use Rattle.text.specs.declared.Pair.{Pair}
 use Rattle.text.specs.declared.Pair.the-variants as P
@@ -80,7 +80,7 @@ module _ (K : Kind) (s : List ℕ) {A : Type 0} (make : ℕ → ℕ → A) (form
 
   module _ (a b : ℕ) (rest : List ℕ) (ha : a < 1000) (hb : b < 1000) (e : s ≡ numbersLine (K .word) (a ∷ b ∷ []) ++ rest) where
     read : (t : Bool) → inBounds (K .bounds) a b ≡ t → phase ≡ choose t (passed (make a b)) (refused range 1)
-    read t h = simp (first-of s (K .word) a b rest ha hb e, h)
+    read t h = simp (first-pair s (K .word) a b rest ha hb e, h)
 
     pub line-right : K .Right a b → phase ≡ passed (make a b)
     line-right r = read true (between-of a b (K .within a b r))

@@ -24,7 +24,7 @@ pub enum First {
 }
 
 // The next line's position and number.
-pub struct Place {
+pub struct Position {
     pub at: usize,
     pub line: usize,
 }

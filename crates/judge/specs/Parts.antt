@@ -5,14 +5,14 @@ use lib.ListN.{length}
 use Rattle.gate.specs.Gate.{RefusedBy}
 use Rattle.format.specs.Format.{Sheet}
 use Rattle.passes.specs.Letter.{letterAt}
-use Rattle.plan.specs.Plan.{PlanIs, Faulty}
+use Rattle.plan.specs.Plan.{PlanIs, PlanFaulty}
 use Rattle.judge.specs.declared.Outcome.{Outcome}
 use Rattle.judge.specs.declared.Outcome.the-variants.{Refused, Judged}
 use Rattle.passes.specs.TableRun.{TableJudges}
 
 -- questions 12 to 14 on a plan file p over the sheet σ, and its verdict by numbers
 abbrev pub PlanJudged : Sheet → List ℕ → List ℕ → List ℕ → ℕ → Outcome → Type 0
-PlanJudged σ p tuples nexts count (Refused r) = RefusedBy (Faulty σ p) r
+PlanJudged σ p tuples nexts count (Refused r) = RefusedBy (PlanFaulty σ p) r
 PlanJudged σ p tuples nexts count (Judged z) =
     (lead : List ℕ) × (cycle : List ℕ) × PlanIs σ p lead cycle
     × TableJudges tuples nexts count (letterAt lead cycle) (length lead) (length cycle) z

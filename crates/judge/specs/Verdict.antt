@@ -5,15 +5,15 @@ use mathlib.Core.List.{List}
 use lib.ListN.{length}
 use Rattle.gate.specs.Gate.{refusal, cleared}
 use Rattle.gate.specs.declared.Refusal.{Refusal}
-use Rattle.automaton.specs.Lent.{Tables, clearedTables, lentTable}
+use Rattle.automaton.specs.Lent.{clearedWitness, lentTable}
 use Rattle.format.specs.Format.{Sheet, mostSheet}
 use Rattle.format.specs.Numbers.{numbers}
 use Rattle.sheet.specs.Read.{Accepted, Refuses}
 use Rattle.passes.specs.Letter.{letterAt}
-use Rattle.plan.specs.Plan.{PlanIs, Faulty, mostPlan}
+use Rattle.plan.specs.Plan.{PlanIs, PlanFaulty, mostPlan}
 use Rattle.numbering.specs.Numbering.{MoreThan}
-use Rattle.filling.specs.Store.{Store, Fitted, clearedStore}
-use Rattle.tracker.specs.Build.{Lent}
+use Rattle.filling.specs.TrackerTables.{TrackerTables, Fitted, clearedTracker}
+use Rattle.tracker.specs.Build.{BuildTables, EnoughToBuild}
 use Rattle.judge.specs.declared.Outcome.{Outcome}
 use Rattle.judge.specs.declared.Outcome.the-variants.{Refused, Judged}
 use Rattle.passes.specs.declared.Verdict.{Verdict}
@@ -31,26 +31,30 @@ pub record Verdicts (σ : Sheet) (p lead cycle : List ℕ) (count : ℕ) (z : Ve
   pub passes : z .passes ≤ count
   pub sound : Sound (numbers σ) (letterAt lead cycle) (z .answer)
 
--- what is refused behind question 1, and what the witness, which was v, is then
-pub data Refusing (s p : List ℕ) (room : ℕ) (v w : Tables) (f : Store) (r : Refusal) : Type 0 where
+-- what is refused behind question 1, and what the witness is then
+pub data Refusing (s p : List ℕ) (room : ℕ) (before after : BuildTables) (r : Refusal) : Type 0 where
   -- 2
-  by-size : (SizesFit s p → ⊥) → r ≡ refusal 2 0 → w ≡ clearedTables v → Refusing s p room v w f r
+  by-size : (SizesFit s p → ⊥) → r ≡ refusal 2 0 → after .witness ≡ clearedWitness (before .witness) → Refusing s p room before after r
   -- 3 to 10
-  by-sheet : SizesFit s p → Refuses s v w r → Refusing s p room v w f r
+  by-sheet : SizesFit s p → Refuses s (before .witness) (after .witness) r → Refusing s p room before after r
   -- 11
-  by-room : SizesFit s p → (σ : Sheet) → Accepted s σ → MoreThan (numbers σ) room → r ≡ refusal 11 0 → w ≡ clearedTables v → Refusing s p room v w f r
-  -- 12 to 14
-  by-plan : SizesFit s p → (σ : Sheet) → Accepted s σ → (h : Store) (count : ℕ) → Fitted (numbers σ) room f h count
-      → (number line : ℕ) → Faulty σ p number line → r ≡ refusal number line → w ≡ clearedTables v → Refusing s p room v w f r
+  by-room : SizesFit s p → (σ : Sheet) → Accepted s σ → MoreThan (numbers σ) room → r ≡ refusal 11 0
+      → after .witness ≡ clearedWitness (before .witness) → Refusing s p room before after r
+  -- 12 to 14, with a tracker built
+  by-plan : SizesFit s p → (σ : Sheet) → Accepted s σ → (built : TrackerTables) (count : ℕ) → Fitted (numbers σ) room (before .tracker) built count
+      → (number line : ℕ) → PlanFaulty σ p number line → r ≡ refusal number line → after .witness ≡ clearedWitness (before .witness)
+      → Refusing s p room before after r
 
--- THE VERDICT. s and p are the two files; the successor sets' table was t and is u, the witness v and w, the tuples and nexts f and g.
-pub data Judgement (s p : List ℕ) (room : ℕ) (t u : List ℕ) (v w : Tables) (f g : Store) (o : Outcome) : Type 0 where
+-- THE VERDICT. s and p are the two files.
+pub data Judgement (s p : List ℕ) (room : ℕ) (before after : BuildTables) (o : Outcome) : Type 0 where
   -- 1, asked first: nothing is touched
-  short : (Lent room t v f → ⊥) → o ≡ Refused (refusal 1 0) → u ≡ t → w ≡ v → g ≡ f → Judgement s p room t u v w f g o
+  short : (EnoughToBuild room before → ⊥) → o ≡ Refused (refusal 1 0) → after ≡ before → Judgement s p room before after o
   -- 2 to 14
-  refused : Lent room t v f → (r : Refusal) → Refusing s p room v w f r → o ≡ Refused r → u ≡ cleared t → g ≡ clearedStore f
-      → Judgement s p room t u v w f g o
+  refused : EnoughToBuild room before → (r : Refusal) → Refusing s p room before after r → o ≡ Refused r
+      → after .successors ≡ cleared (before .successors) → after .tracker ≡ clearedTracker (before .tracker) → Judgement s p room before after o
   -- yes or no, with the sheet's successor sets and its tracker in the tables
-  judged : Lent room t v f → SizesFit s p → (σ : Sheet) → Accepted s σ → (count : ℕ) → Fitted (numbers σ) room f g count
-      → (lead cycle : List ℕ) (z : Verdict) → Verdicts σ p lead cycle count z → o ≡ Judged z → u ≡ lentTable (numbers σ .table) t → w ≡ clearedTables v
-      → Judgement s p room t u v w f g o
+  judged : EnoughToBuild room before → SizesFit s p → (σ : Sheet) → Accepted s σ
+      → (count : ℕ) → Fitted (numbers σ) room (before .tracker) (after .tracker) count
+      → (lead cycle : List ℕ) (z : Verdict) → Verdicts σ p lead cycle count z → o ≡ Judged z
+      → after .successors ≡ lentTable (numbers σ .table) (before .successors) → after .witness ≡ clearedWitness (before .witness)
+      → Judgement s p room before after o

@@ -1,14 +1,13 @@
 // The verdict from two files: a plan judged on the tracker of a sheet.
-ghost use mathlib.Core.Path.{_≡_};
 ghost use Prim.Native.Nat.{_≤_};
 ghost use lib.ListN.{length};
-ghost use Rattle.gate.specs.Gate.{Decides, cleared};
-ghost use Rattle.automaton.specs.Lent.{tables, clearedTables};
+ghost use Rattle.gate.specs.Gate.{Decides};
+ghost use Rattle.automaton.specs.Lent.{witnessTables};
 ghost use Rattle.format.specs.Format.{Sheet};
 ghost use Rattle.sheet.specs.Answers.{NamesIn};
 ghost use Rattle.plan.specs.Plan.{mostPlan};
-ghost use Rattle.filling.specs.Store.{store, clearedStore};
-ghost use Rattle.tracker.specs.Build.{Lent};
+ghost use Rattle.filling.specs.TrackerTables.{trackerTables};
+ghost use Rattle.tracker.specs.Build.{buildTables, EnoughToBuild};
 ghost use Rattle.passes.specs.TableRun.{TablesFit};
 ghost use Rattle.judge.specs.Parts.{PlanJudged};
 ghost use Rattle.judge.specs.Verdict.{SizesFit, Judgement};
@@ -31,34 +30,13 @@ pub enum Outcome {
 fn sizes_fit(sheet: &[u8], plan: &[u8]) -> bool
     ensures { λ r. ⌜ Decides r (SizesFit (now (sheet .entry)) (now (plan .entry))) ⌝ }
 {
-    if 24576 < sheet.len() {
+    if parser::MOST < sheet.len() {
         return false;
     }
-    if 12288 < plan.len() {
+    if plan::MOST < plan.len() {
         return false;
     }
     true
-}
-
-// Every lent table all zero.
-fn clear_all(
-    table: &mut [u16],
-    tuples: &mut [u16],
-    nexts: &mut [u16],
-    word: &mut [u16],
-    one: &mut [u16],
-    other: &mut [u16],
-)
-    ensures { λ _. ⌜ (now (table .exit) ≡ cleared (now (table .entry)))
-        × (tables (now (word .exit)) (now (one .exit)) (now (other .exit)) ≡ clearedTables (tables (now (word .entry)) (now (one .entry)) (now (other .entry))))
-        × (store (now (tuples .exit)) (now (nexts .exit)) ≡ clearedStore (store (now (tuples .entry)) (now (nexts .entry)))) ⌝ }
-{
-    gate::clear(table);
-    gate::clear(tuples);
-    gate::clear(nexts);
-    gate::clear(word);
-    gate::clear(one);
-    gate::clear(other);
 }
 
 // Questions 12 to 14 on a plan over the sheet whose k names the rows hold, and the verdict.
@@ -97,16 +75,15 @@ fn judge_long(
     one: &mut [u16],
     other: &mut [u16],
 ) -> Outcome
-    requires { ⌜ Lent room (now table) (tables (now word) (now one) (now other)) (store (now tuples) (now nexts)) × SizesFit (now sheet) (now plan) ⌝ }
-    ensures { λ r. ⌜ Judgement (now (sheet .entry)) (now (plan .entry)) room (now (table .entry)) (now (table .exit))
-        (tables (now (word .entry)) (now (one .entry)) (now (other .entry))) (tables (now (word .exit)) (now (one .exit)) (now (other .exit)))
-        (store (now (tuples .entry)) (now (nexts .entry))) (store (now (tuples .exit)) (now (nexts .exit))) r ⌝ }
+    requires { ⌜ EnoughToBuild room (buildTables (now table) (witnessTables (now word) (now one) (now other)) (trackerTables (now tuples) (now nexts))) × SizesFit (now sheet) (now plan) ⌝ }
+    ensures { λ r. ⌜ Judgement (now (sheet .entry)) (now (plan .entry)) room
+        (buildTables (now (table .entry)) (witnessTables (now (word .entry)) (now (one .entry)) (now (other .entry))) (trackerTables (now (tuples .entry)) (now (nexts .entry))))
+        (buildTables (now (table .exit)) (witnessTables (now (word .exit)) (now (one .exit)) (now (other .exit))) (trackerTables (now (tuples .exit)) (now (nexts .exit)))) r ⌝ }
 {
     let mut rows = [0u8; 216];
     match read_long(sheet, table, &mut rows, word, one, other) {
         Read::Refused(r) => {
-            gate::clear(tuples);
-            gate::clear(nexts);
+            filling::clear(tuples, nexts);
             Outcome::Refused(r)
         }
         Read::Is(a) => match tracker::track(a, &table[..128], room, tuples, nexts) {
@@ -117,8 +94,7 @@ fn judge_long(
             Built::Is(x) => match judge_plan(plan, &mut rows, a.k, tuples, nexts, x.tuples) {
                 Outcome::Refused(r) => {
                     gate::clear(table);
-                    gate::clear(tuples);
-                    gate::clear(nexts);
+                    filling::clear(tuples, nexts);
                     Outcome::Refused(r)
                 }
                 Outcome::Judged(v) => Outcome::Judged(v),
@@ -140,9 +116,9 @@ pub fn verdict(
     one: &mut [u16],
     other: &mut [u16],
 ) -> Outcome
-    ensures { λ r. ⌜ Judgement (now (sheet .entry)) (now (plan .entry)) room (now (table .entry)) (now (table .exit))
-        (tables (now (word .entry)) (now (one .entry)) (now (other .entry))) (tables (now (word .exit)) (now (one .exit)) (now (other .exit)))
-        (store (now (tuples .entry)) (now (nexts .entry))) (store (now (tuples .exit)) (now (nexts .exit))) r ⌝ }
+    ensures { λ r. ⌜ Judgement (now (sheet .entry)) (now (plan .entry)) room
+        (buildTables (now (table .entry)) (witnessTables (now (word .entry)) (now (one .entry)) (now (other .entry))) (trackerTables (now (tuples .entry)) (now (nexts .entry))))
+        (buildTables (now (table .exit)) (witnessTables (now (word .exit)) (now (one .exit)) (now (other .exit))) (trackerTables (now (tuples .exit)) (now (nexts .exit)))) r ⌝ }
 {
     let long = tracker::enough(room, table, tuples, nexts, word, one, other);
     let fit = sizes_fit(sheet, plan);
@@ -154,7 +130,11 @@ pub fn verdict(
         });
     }
     if !fit {
-        clear_all(table, tuples, nexts, word, one, other);
+        gate::clear(table);
+        filling::clear(tuples, nexts);
+        gate::clear(word);
+        gate::clear(one);
+        gate::clear(other);
         return Outcome::Refused(Refusal {
             number: 2,
             line: 0,

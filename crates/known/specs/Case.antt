@@ -7,15 +7,14 @@ use Rattle.gate.specs.Gate.{refusal}
 use Rattle.gate.specs.declared.Refusal.{Refusal}
 use Rattle.automaton.specs.Automaton.{graphOf}
 use Rattle.automaton.specs.Meeting.{Everywhere, Witness}
-use Rattle.automaton.specs.Lent.{Tables}
 use Rattle.format.specs.Format.{Sheet, FileIs}
 use Rattle.format.specs.Numbers.{numbers}
 use Rattle.tuple.specs.Step.{Tuple}
 use Rattle.tracker.specs.declared.Tracker.{Tracker}
 use Rattle.tracker.specs.declared.Built.{Built}
 use Rattle.tracker.specs.declared.Built.the-variants as B
-use Rattle.filling.specs.Store.{Store, Holds}
-use Rattle.tracker.specs.Build.{Lent, Builds}
+use Rattle.filling.specs.TrackerTables.{TrackerTables, Holds}
+use Rattle.tracker.specs.Build.{BuildTables, EnoughToBuild, Builds}
 use Rattle.judge.specs.declared.Outcome.{Outcome}
 use Rattle.judge.specs.declared.Outcome.the-variants as O
 use Rattle.passes.specs.declared.Verdict.{Verdict}
@@ -37,12 +36,12 @@ pub record Case : Type 0 where
   pub room : ℕ
   pub expected : Expected
 
--- the tables, which were f and are g, hold the tracker of the sheet file s, and its tuples have these colours
-pub record Tracked (s : List ℕ) (f g : Store) (colours : List ℕ) : Type 0 where
+-- the witnessTables hold the tracker of the sheet file s, and its tuples have these colours
+pub record Tracked (s : List ℕ) (before after : TrackerTables) (colours : List ℕ) : Type 0 where
   pub sheet : Sheet
   pub file : FileIs s sheet
   pub tuples : List Tuple
-  pub holds : Holds (numbers sheet) tuples f g
+  pub holds : Holds (numbers sheet) tuples before after
   pub coloured : map (λ u. u .colour) tuples ≡ colours
 
 -- the walks meet on the word, and on no shorter word do any
@@ -56,20 +55,20 @@ abbrev pub met : ℕ → Refusal
 met t = record { number = 10; line = 0; length = t }
 
 -- the outcome of a verdict is the expected one
-abbrev pub VerdictIs : List ℕ → Store → Store → Outcome → Expected → Type 0
-VerdictIs s f g o (judged z colours) = (o ≡ O.Judged z) × Tracked s f g colours
-VerdictIs s f g o (refused number line) = o ≡ O.Refused (refusal number line)
-VerdictIs s f g o (meeting word one other) = (o ≡ O.Refused (met (length word))) × Shortest s word one other
+abbrev pub VerdictIs : List ℕ → TrackerTables → TrackerTables → Outcome → Expected → Type 0
+VerdictIs s before after o (judged z colours) = (o ≡ O.Judged z) × Tracked s before after colours
+VerdictIs s before after o (refused number line) = o ≡ O.Refused (refusal number line)
+VerdictIs s before after o (meeting word one other) = (o ≡ O.Refused (met (length word))) × Shortest s word one other
 
 -- and so is that of building, which asks no question behind 11
-abbrev pub BuiltIs : List ℕ → Store → Store → Built → Expected → Type 0
-BuiltIs s f g o (judged z colours) = ((x : Tracker) × (o ≡ B.Is x) × (x .tuples ≡ length colours)) × Tracked s f g colours
-BuiltIs s f g o (refused number line) = number ≤ 11 → o ≡ B.Refused (refusal number line)
-BuiltIs s f g o (meeting word one other) = (o ≡ B.Refused (met (length word))) × Shortest s word one other
+abbrev pub BuiltIs : List ℕ → TrackerTables → TrackerTables → Built → Expected → Type 0
+BuiltIs s before after o (judged z colours) = ((x : Tracker) × (o ≡ B.Is x) × (x .tuples ≡ length colours)) × Tracked s before after colours
+BuiltIs s before after o (refused number line) = number ≤ 11 → o ≡ B.Refused (refusal number line)
+BuiltIs s before after o (meeting word one other) = (o ≡ B.Refused (met (length word))) × Shortest s word one other
 
--- THE DEFINITIONS ALONE give what is expected: it is every outcome that they allow, in tables that are long enough
+-- THE DEFINITIONS ALONE give what is expected: it is every outcome that they allow, in witnessTables that are long enough
 pub record Forced (c : Case) : Type 0 where
-  pub verdict : (t u : List ℕ) (v w : Tables) (f g : Store) (o : Outcome) → Lent (c .room) t v f
-      → Judgement (c .sheet) (c .plan) (c .room) t u v w f g o → VerdictIs (c .sheet) f g o (c .expected)
-  pub building : (t u : List ℕ) (v w : Tables) (f g : Store) (o : Built) → Lent (c .room) t v f
-      → Builds (c .sheet) (c .room) t u v w f g o → BuiltIs (c .sheet) f g o (c .expected)
+  pub verdict : (before after : BuildTables) (o : Outcome) → EnoughToBuild (c .room) before
+      → Judgement (c .sheet) (c .plan) (c .room) before after o → VerdictIs (c .sheet) (before .tracker) (after .tracker) o (c .expected)
+  pub building : (before after : BuildTables) (o : Built) → EnoughToBuild (c .room) before
+      → Builds (c .sheet) (c .room) before after o → BuiltIs (c .sheet) (before .tracker) (after .tracker) o (c .expected)

@@ -19,7 +19,7 @@ use Rattle.parser.specs.ParseLaws.{AreContents}
 use Rattle.tuple.specs.Step.{Tuple}
 use Rattle.tracker.specs.declared.Built.{Built}
 use Rattle.tracker.specs.declared.Built.the-variants as B
-use Rattle.filling.specs.Store.{Store, Holds}
+use Rattle.filling.specs.TrackerTables.{TrackerTables, Holds}
 use Rattle.passes.specs.Letter.{letterAt}
 use Rattle.plan.specs.Plan.{mostPlan}
 use Rattle.plan.specs.Plan as Plan
@@ -39,7 +39,7 @@ use Rattle.known.specs.Case as E
 use Rattle.known.specs.VerdictTest.{isVerdict}
 use Rattle.known.specs.VerdictTestLaws.{verdict-is}
 use Rattle.known.specs.CaseTest.{isRefused, rightPlan, rightColours, right}
-use Rattle.known.specs.CauseLaws.{Planned, IsBuilt, verdict-cause, build-cause}
+use Rattle.known.specs.CauseLaws.{PlanCause, IsBuilt, verdict-cause, build-cause}
 use Rattle.known.specs.SheetLaws.{sheet-asked}
 
 refused-is : (number line : ℕ) (e : Expected) → isRefused number line e ≡ true → E.refused number line ≡ e
@@ -56,9 +56,9 @@ colours-are : (ts : List Tuple) (z : Verdict) (colours : List ℕ) → rightColo
 unfolding rightColours
 colours-are ts z colours c = same-is (map (λ u. u .colour) ts) colours c
 
-tracked : (s : List ℕ) (f g : Store) (σ : Sheet) → FileIs s σ → (ts : List Tuple) → Holds (numbers σ) ts f g → (z : Verdict) (colours : List ℕ)
-    → rightColours ts (judged z colours) ≡ true → Tracked s f g colours
-tracked s f g σ file ts h z colours c = record { sheet = σ; file = file; tuples = ts; holds = h; coloured = colours-are ts z colours c }
+tracked : (s : List ℕ) (before after : TrackerTables) (σ : Sheet) → FileIs s σ → (ts : List Tuple) → Holds (numbers σ) ts before after → (z : Verdict) (colours : List ℕ)
+    → rightColours ts (judged z colours) ≡ true → Tracked s before after colours
+tracked s before after σ file ts h z colours c = record { sheet = σ; file = file; tuples = ts; holds = h; coloured = colours-are ts z colours c }
 
 -- no tracker is expected with a witness
 no-witness : (ts : List Tuple) (word one other : List ℕ) → rightColours ts (meeting word one other) ≡ true → ⊥
@@ -66,21 +66,21 @@ unfolding rightColours
 no-witness ts word one other c = false≢true c
 
 -- THE PLAN, on a sheet file read as x
-module _ (s p : List ℕ) (f g : Store) (σ : Sheet) (file : FileIs s σ) (x : Contents) (are : AreContents σ x) (ts : List Tuple) where
+module _ (s p : List ℕ) (before after : TrackerTables) (σ : Sheet) (file : FileIs s σ) (x : Contents) (are : AreContents σ x) (ts : List Tuple) where
   abbrev A : Automaton
   A = x .numbers
 
   -- QUESTIONS 12 TO 14 answered no
-  fault-asked : (o : Outcome) (number line : ℕ) → Plan.Faulty σ p number line → o ≡ O.Refused (refusal number line)
-      → (e : Expected) → rightPlan A (planOf (x .names) p) e ≡ true → VerdictIs s f g o e
+  fault-asked : (o : Outcome) (number line : ℕ) → Plan.PlanFaulty σ p number line → o ≡ O.Refused (refusal number line)
+      → (e : Expected) → rightPlan A (planOf (x .names) p) e ≡ true → VerdictIs s before after o e
   unfolding rightPlan
   fault-asked o number line h is e t =
       let q : planOf (x .names) p ≡ refused number line = rw (are .names) (fault-read σ (file .all-names) (file .right .names) p number line h) in
-      subst (VerdictIs s f g o) (refused-is number line e (rw q at t)) is
+      subst (VerdictIs s before after o) (refused-is number line e (rw q at t)) is
 
   -- and yes
   module _ (lead cycle : List ℕ) (plan : Plan.PlanIs σ p lead cycle) (z : Verdict) (j : Judges (numbers σ) (letterAt lead cycle) (length lead) (length cycle) z) where
-    plan-passed : planOf (x .names) p ≡ passed (P.contents (P.lengths (length lead) (length cycle)) (lead ++ cycle))
+    plan-passed : planOf (x .names) p ≡ passed (P.planContents (P.lengths (length lead) (length cycle)) (lead ++ cycle))
     plan-passed = rw (are .names) (plan-read σ (file .all-names) (file .right .names) p lead cycle plan)
 
     same-verdict : (y : Verdict) → isVerdict A (letterAt (take (length lead) (lead ++ cycle)) (drop (length lead) (lead ++ cycle))) (length lead) (length cycle) y ≡ true
@@ -90,42 +90,42 @@ module _ (s p : List ℕ) (f g : Store) (σ : Sheet) (file : FileIs s σ) (x : C
         (subst (λ (B : Automaton). Judges B (letterAt lead cycle) (length lead) (length cycle) z) (sym (are .numbers)) j)
         (verdict-is A (letterAt lead cycle) (length lead) (length cycle) y (rw (take-append-seam lead cycle, drop-append-seam lead cycle) at t))
 
-    verdict-asked : (o : Outcome) → Holds (numbers σ) ts f g → o ≡ O.Judged z
-        → (e : Expected) → rightColours ts e ≡ true → rightPlan A (planOf (x .names) p) e ≡ true → VerdictIs s f g o e
+    verdict-asked : (o : Outcome) → Holds (numbers σ) ts before after → o ≡ O.Judged z
+        → (e : Expected) → rightColours ts e ≡ true → rightPlan A (planOf (x .names) p) e ≡ true → VerdictIs s before after o e
     unfolding rightPlan
-    verdict-asked o h is (judged y colours) c t = (is ∙ ap O.Judged (same-verdict y (rw plan-passed at t)), tracked s f g σ file ts h y colours c)
+    verdict-asked o h is (judged y colours) c t = (is ∙ ap O.Judged (same-verdict y (rw plan-passed at t)), tracked s before after σ file ts h y colours c)
     verdict-asked o h is (E.refused number line) c t = absurd (false≢true (rw plan-passed at t))
     verdict-asked o h is (meeting word one other) c t = absurd (no-witness ts word one other c)
 
-  plan-asked : (o : Outcome) → Planned p f g o σ ts → (e : Expected) → rightColours ts e ≡ true → rightPlan A (planOf (x .names) p) e ≡ true → VerdictIs s f g o e
-  plan-asked o (Planned.plan-fault number line h is) e c t = fault-asked o number line h is e t
-  plan-asked o (Planned.verdict h lead cycle plan z j is) e c t = verdict-asked lead cycle plan z j o h is e c t
+  plan-asked : (o : Outcome) → PlanCause p before after o σ ts → (e : Expected) → rightColours ts e ≡ true → rightPlan A (planOf (x .names) p) e ≡ true → VerdictIs s before after o e
+  plan-asked o (PlanCause.plan-fault number line h is) e c t = fault-asked o number line h is e t
+  plan-asked o (PlanCause.verdict h lead cycle plan z j is) e c t = verdict-asked lead cycle plan z j o h is e c t
 
   -- BUILDING asks none of them
-  plan-number : (number line : ℕ) → Plan.Faulty σ p number line → 12 ≤ number
-  plan-number number line (Plan.Faulty.head h) = omega arith
-  plan-number number line (Plan.Faulty.range lead cycle rest a b e h) = omega arith
-  plan-number number line (Plan.Faulty.name lead cycle names rest a b (Plan.wrong-name h)) = omega arith
-  plan-number number line (Plan.Faulty.name lead cycle names rest a b (Plan.unknown-name y after c e h)) = omega arith
-  plan-number number line (Plan.Faulty.end lead cycle names rest a b h) = omega arith
-  plan-number number line (Plan.Faulty.behind lead cycle names after a b h) = omega arith
+  plan-number : (number line : ℕ) → Plan.PlanFaulty σ p number line → 12 ≤ number
+  plan-number number line (Plan.PlanFaulty.head h) = omega arith
+  plan-number number line (Plan.PlanFaulty.range lead cycle rest a b e h) = omega arith
+  plan-number number line (Plan.PlanFaulty.name lead cycle names rest a b (Plan.wrong-name h)) = omega arith
+  plan-number number line (Plan.PlanFaulty.name lead cycle names rest a b (Plan.unknown-name y after c e h)) = omega arith
+  plan-number number line (Plan.PlanFaulty.end lead cycle names rest a b h) = omega arith
+  plan-number number line (Plan.PlanFaulty.behind lead cycle names after a b h) = omega arith
 
   not-by-plan : length p ≤ mostPlan → (number line : ℕ) → rightPlan A (planOf (x .names) p) (E.refused number line) ≡ true → number ≤ 11 → ⊥
   unfolding rightPlan isRefused
   not-by-plan size number line t few =
       by (planOf (x .names) p) (rw (are .names) (plan-means σ (file .all-names) p size)) t
     where
-      by : (q : Phase P.Contents) → L.Means σ p q → rightPlan A q (E.refused number line) ≡ true → ⊥
+      by : (q : Phase P.PlanContents) → L.PlanMeans σ p q → rightPlan A q (E.refused number line) ≡ true → ⊥
       by (refused n l) h t =
           let (a, b) = and-eq-true-iff (eqb n number) (eqb l line) .0 t in
           omega (arith, plan-number n l h, eqb-true n number a)
       by (passed y) h t = false≢true t
 
-  tracker-asked : length p ≤ mostPlan → (o : Built) → IsBuilt f g o σ ts → (e : Expected) → rightColours ts e ≡ true → rightPlan A (planOf (x .names) p) e ≡ true
-      → BuiltIs s f g o e
+  tracker-asked : length p ≤ mostPlan → (o : Built) → IsBuilt before after o σ ts → (e : Expected) → rightColours ts e ≡ true → rightPlan A (planOf (x .names) p) e ≡ true
+      → BuiltIs s before after o e
   tracker-asked size o h (judged z colours) c t =
       let k = h .counted ∙ (sym (length-map ts (λ u. u .colour)) ∙ ap length (colours-are ts z colours c)) in
-      ((h .tracker, h .is, k), tracked s f g σ file ts (h .holds) z colours c)
+      ((h .tracker, h .is, k), tracked s before after σ file ts (h .holds) z colours c)
   tracker-asked size o h (E.refused number line) c t = λ few. absurd (not-by-plan size number line t few)
   tracker-asked size o h (meeting word one other) c t = absurd (no-witness ts word one other c)
 
@@ -140,16 +140,20 @@ right-forced c e =
       plan = ltb-false mostPlan (length (c .plan)) (not-true (ltb mostPlan (length (c .plan))) b);
     } in
     record {
-      verdict = λ t u v w f g o lent h.
-          sheet-asked (c .sheet) (c .plan) (c .room) Outcome O.Refused (Planned (c .plan) f g o) o (VerdictIs (c .sheet) f g o)
-          (λ number line e t is. subst (VerdictIs (c .sheet) f g o) (refused-is number line e t) is)
+      verdict = λ before after o lent h.
+          (let old = before .tracker in
+          let new = after .tracker in
+          sheet-asked (c .sheet) (c .plan) (c .room) Outcome O.Refused (PlanCause (c .plan) old new o) o (VerdictIs (c .sheet) old new o)
+          (λ number line e t is. subst (VerdictIs (c .sheet) old new o) (refused-is number line e t) is)
           (λ word one other is k. (is, k))
-          (λ σ file x are ts. plan-asked (c .sheet) (c .plan) f g σ file x are ts o)
-          (c .expected) j (verdict-cause (c .sheet) (c .room) t u v w f g lent (c .plan) size o h);
-      building = λ t u v w f g o lent h.
-          sheet-asked (c .sheet) (c .plan) (c .room) Built B.Refused (IsBuilt f g o) o (BuiltIs (c .sheet) f g o)
-          (λ number line e t is. subst (BuiltIs (c .sheet) f g o) (refused-is number line e t) (λ few. is))
+          (λ σ file x are ts. plan-asked (c .sheet) (c .plan) old new σ file x are ts o)
+          (c .expected) j (verdict-cause (c .sheet) (c .room) before after lent (c .plan) size o h));
+      building = λ before after o lent h.
+          (let old = before .tracker in
+          let new = after .tracker in
+          sheet-asked (c .sheet) (c .plan) (c .room) Built B.Refused (IsBuilt old new o) o (BuiltIs (c .sheet) old new o)
+          (λ number line e t is. subst (BuiltIs (c .sheet) old new o) (refused-is number line e t) (λ few. is))
           (λ word one other is k. (is, k))
-          (λ σ file x are ts. tracker-asked (c .sheet) (c .plan) f g σ file x are ts (size .plan) o)
-          (c .expected) j (build-cause (c .sheet) (c .room) t u v w f g lent o h);
+          (λ σ file x are ts. tracker-asked (c .sheet) (c .plan) old new σ file x are ts (size .plan) o)
+          (c .expected) j (build-cause (c .sheet) (c .room) before after lent o h));
     }

@@ -33,7 +33,7 @@ isRefused number line (judged z colours) = false
 isRefused number line (meeting word one other) = false
 
 -- questions 12 to 14, and the verdict
-unfoldable pub rightPlan : Automaton → Phase P.Contents → Expected → Bool
+unfoldable pub rightPlan : Automaton → Phase P.PlanContents → Expected → Bool
 rightPlan A (refused number line) e = isRefused number line e
 rightPlan A (passed y) (judged z colours) =
     isVerdict A (letterAt (take (y .lead) (y .letters)) (drop (y .lead) (y .letters))) (y .lead) (y .cycle) z

@@ -9,7 +9,6 @@ use Rattle.gate.specs.Gate.{refusal}
 use Rattle.gate.specs.declared.Refusal.{Refusal}
 use Rattle.automaton.specs.Automaton.{graphOf}
 use Rattle.automaton.specs.Meeting.{Everywhere, Witness}
-use Rattle.automaton.specs.Lent.{Tables}
 use Rattle.format.specs.Format.{Sheet, FileIs, Faulty}
 use Rattle.format.specs.Numbers.{numbers}
 use Rattle.sheet.specs.Read.{Accepted, Refuses}
@@ -18,8 +17,8 @@ use Rattle.tracker.specs.declared.Tracker.{Tracker}
 use Rattle.tracker.specs.declared.Built.{Built}
 use Rattle.tracker.specs.declared.Built.the-variants as B
 use Rattle.numbering.specs.Numbering.{Numbering, MoreThan}
-use Rattle.filling.specs.Store.{Store, Holds, Fitted}
-use Rattle.tracker.specs.Build.{Lent, Builds}
+use Rattle.filling.specs.TrackerTables.{TrackerTables, Holds, Fitted}
+use Rattle.tracker.specs.Build.{BuildTables, EnoughToBuild, Builds}
 use Rattle.passes.specs.Letter.{letterAt}
 use Rattle.plan.specs.Plan.{PlanIs}
 use Rattle.plan.specs.Plan as Plan
@@ -42,51 +41,55 @@ pub data Cause (s : List ℕ) (room : ℕ) (Outcomes : Type 0) (refuse : Refusal
   -- none of these
   numbered : (σ : Sheet) → Accepted s σ → (ts : List Tuple) → Numbering (numbers σ) ts → length ts ≤ room → Then σ ts → Cause s room Outcomes refuse Then o
 
--- then the plan file p leads to the outcome of a verdict; the tables were f and are g
-pub data Planned (p : List ℕ) (f g : Store) (o : Outcome) (σ : Sheet) (ts : List Tuple) : Type 0 where
+-- then the plan file p leads to the outcome of a verdict
+pub data PlanCause (p : List ℕ) (before after : TrackerTables) (o : Outcome) (σ : Sheet) (ts : List Tuple) : Type 0 where
   -- 12 to 14
-  plan-fault : (number line : ℕ) → Plan.Faulty σ p number line → o ≡ O.Refused (refusal number line) → Planned p f g o σ ts
+  plan-fault : (number line : ℕ) → Plan.PlanFaulty σ p number line → o ≡ O.Refused (refusal number line) → PlanCause p before after o σ ts
   -- yes or no
-  verdict : Holds (numbers σ) ts f g → (lead cycle : List ℕ) → PlanIs σ p lead cycle
-      → (z : Verdict) → Judges (numbers σ) (letterAt lead cycle) (length lead) (length cycle) z → o ≡ O.Judged z → Planned p f g o σ ts
+  verdict : Holds (numbers σ) ts before after → (lead cycle : List ℕ) → PlanIs σ p lead cycle
+      → (z : Verdict) → Judges (numbers σ) (letterAt lead cycle) (length lead) (length cycle) z → o ≡ O.Judged z → PlanCause p before after o σ ts
 
 -- or a tracker is built
-pub record IsBuilt (f g : Store) (o : Built) (σ : Sheet) (ts : List Tuple) : Type 0 where
-  pub holds : Holds (numbers σ) ts f g
+pub record IsBuilt (before after : TrackerTables) (o : Built) (σ : Sheet) (ts : List Tuple) : Type 0 where
+  pub holds : Holds (numbers σ) ts before after
   pub tracker : Tracker
   pub is : o ≡ B.Is tracker
   pub counted : tracker .tuples ≡ length ts
 
-module _ (s : List ℕ) (room : ℕ) (t u : List ℕ) (v w : Tables) (f g : Store) (lent : Lent room t v f) where
+module _ (s : List ℕ) (room : ℕ) (before after : BuildTables) (lent : EnoughToBuild room before) where
   sheet-cause : (Outcomes : Type 0) (refuse : Refusal → Outcomes) (Then : Sheet → List Tuple → Type 0) (o : Outcomes) (r : Refusal)
-      → Refuses s v w r → o ≡ refuse r → Cause s room Outcomes refuse Then o
+      → Refuses s (before .witness) (after .witness) r → o ≡ refuse r → Cause s room Outcomes refuse Then o
   sheet-cause Outcomes refuse Then o r (Refuses.faulty number line h e c) is = Cause.sheet-fault number line h (is ∙ ap refuse e)
   sheet-cause Outcomes refuse Then o r (Refuses.meeting σ file m) is =
-      Cause.meeting-walks σ file (r .length) (w .word) (w .one) (w .other) (m .witness)
+      let witness = after .witness in
+      Cause.meeting-walks σ file (r .length) (witness .word) (witness .one) (witness .other) (m .witness)
       (is ∙ λ i. refuse (record { number = m .number i; line = m .line i; length = r .length }))
 
-  room-is : (σ : Sheet) (h : Store) (count : ℕ) (fitted : Fitted (numbers σ) room f h count) → length (fitted .list) ≤ room
-  room-is σ h count fitted = omega (arith, fitted .count-is, fitted .room-is)
+  room-is : (σ : Sheet) (built : TrackerTables) (count : ℕ) (fitted : Fitted (numbers σ) room (before .tracker) built count) → length (fitted .list) ≤ room
+  room-is σ built count fitted = omega (arith, fitted .count-is, fitted .room-is)
 
   module _ (p : List ℕ) (size : SizesFit s p) where
-    refusing-cause : (o : Outcome) (r : Refusal) → Refusing s p room v w f r → o ≡ O.Refused r → Cause s room Outcome O.Refused (Planned p f g o) o
-    refusing-cause o r (Refusing.by-size long e c) is = absurd (long size)
-    refusing-cause o r (Refusing.by-sheet fit h) is = sheet-cause Outcome O.Refused (Planned p f g o) o r h is
-    refusing-cause o r (Refusing.by-room fit σ accepted h e c) is = Cause.no-room σ accepted h (is ∙ ap O.Refused e)
-    refusing-cause o r (Refusing.by-plan fit σ accepted h count fitted number line fault e c) is =
-        Cause.numbered σ accepted (fitted .list) (fitted .holds .numbering) (room-is σ h count fitted) (Planned.plan-fault number line fault (is ∙ ap O.Refused e))
+    abbrev PlannedThen : Outcome → Sheet → List Tuple → Type 0
+    PlannedThen = PlanCause p (before .tracker) (after .tracker)
 
-    pub verdict-cause : (o : Outcome) → Judgement s p room t u v w f g o → Cause s room Outcome O.Refused (Planned p f g o) o
-    verdict-cause o (Judgement.short short e x y z) = absurd (short lent)
+    refusing-cause : (o : Outcome) (r : Refusal) → Refusing s p room before after r → o ≡ O.Refused r → Cause s room Outcome O.Refused (PlannedThen o) o
+    refusing-cause o r (Refusing.by-size long e c) is = absurd (long size)
+    refusing-cause o r (Refusing.by-sheet fit h) is = sheet-cause Outcome O.Refused (PlannedThen o) o r h is
+    refusing-cause o r (Refusing.by-room fit σ accepted h e c) is = Cause.no-room σ accepted h (is ∙ ap O.Refused e)
+    refusing-cause o r (Refusing.by-plan fit σ accepted built count fitted number line fault e c) is =
+        Cause.numbered σ accepted (fitted .list) (fitted .holds .numbering) (room-is σ built count fitted) (PlanCause.plan-fault number line fault (is ∙ ap O.Refused e))
+
+    pub verdict-cause : (o : Outcome) → Judgement s p room before after o → Cause s room Outcome O.Refused (PlannedThen o) o
+    verdict-cause o (Judgement.short short e same) = absurd (short lent)
     verdict-cause o (Judgement.refused l r h e x y) = refusing-cause o r h e
     verdict-cause o (Judgement.judged l d σ accepted count fitted lead cycle z h is e x) =
-        Cause.numbered σ accepted (fitted .list) (fitted .holds .numbering) (room-is σ g count fitted)
-        (Planned.verdict (fitted .holds) lead cycle (h .plan) z (h .judged) is)
+        Cause.numbered σ accepted (fitted .list) (fitted .holds .numbering) (room-is σ (after .tracker) count fitted)
+        (PlanCause.verdict (fitted .holds) lead cycle (h .plan) z (h .judged) is)
 
-  pub build-cause : (o : Built) → Builds s room t u v w f g o → Cause s room Built B.Refused (IsBuilt f g o) o
-  build-cause o (Builds.short short e x y z) = absurd (short lent)
-  build-cause o (Builds.refused l r h e x y) = sheet-cause Built B.Refused (IsBuilt f g o) o r h e
+  pub build-cause : (o : Built) → Builds s room before after o → Cause s room Built B.Refused (IsBuilt (before .tracker) (after .tracker) o) o
+  build-cause o (Builds.short short e same) = absurd (short lent)
+  build-cause o (Builds.refused l r h e x y) = sheet-cause Built B.Refused (IsBuilt (before .tracker) (after .tracker) o) o r h e
   build-cause (B.Refused r) (Builds.asked l σ accepted z (h, e, y) x) = Cause.no-room σ accepted h (ap B.Refused e)
   build-cause (B.Is x) (Builds.asked l σ accepted z (n, fitted) e) =
-      Cause.numbered σ accepted (fitted .list) (fitted .holds .numbering) (room-is σ g (x .tuples) fitted)
+      Cause.numbered σ accepted (fitted .list) (fitted .holds .numbering) (room-is σ (after .tracker) (x .tuples) fitted)
       (record { holds = fitted .holds; tracker = x; is = refl; counted = fitted .count-is })

@@ -17,9 +17,9 @@ unfoldable pub isEdge : Graph → ℕ → ℕ → ℕ → Bool
 isEdge G l q r = ltb l (G .k) && (ltb q (G .n) && isMember (successorSet (G .table) q l) r)
 
 -- two walks on one word of t letters end in q and r
-unfoldable pub reached : Graph → ℕ → ℕ → ℕ → Bool
-reached G zero q r = isMember (G .initial) q && isMember (G .initial) r
-reached G (suc t) q r = any (G .n) (λ x. any (G .n) (λ y. any (G .k) (λ l. isEdge G l x q && isEdge G l y r) && reached G t x y))
+unfoldable pub pairReached : Graph → ℕ → ℕ → ℕ → Bool
+pairReached G zero q r = isMember (G .initial) q && isMember (G .initial) r
+pairReached G (suc t) q r = any (G .n) (λ x. any (G .n) (λ y. any (G .k) (λ l. isEdge G l x q && isEdge G l y r) && pairReached G t x y))
 
 -- one letter brings two states to one
 unfoldable pub together : Graph → ℕ → ℕ → Bool
@@ -27,7 +27,7 @@ together G q r = any (G .k) (λ l. any (G .n) (λ z. isEdge G l q z && isEdge G 
 
 -- two walks on one word of t letters end in two states, and one letter brings these to one
 unfoldable pub joinAt : Graph → ℕ → Bool
-joinAt G t = any (G .n) (λ q. any (G .n) (λ r. not (eqb q r) && (together G q r && reached G t q r)))
+joinAt G t = any (G .n) (λ q. any (G .n) (λ r. not (eqb q r) && (together G q r && pairReached G t q r)))
 
 -- no word of at most m letters has meeting walks
 unfoldable pub noneUpTo : Graph → ℕ → Bool

@@ -16,7 +16,7 @@ use Rattle.pairs.specs.Joining.{Joins, Backwards, meet-joins}
 use Rattle.pairs.specs.Bound.{shortest-bound}
 use Rattle.known.specs.Below.{any}
 use Rattle.known.specs.BelowLaws.{not-both, all-at, any-of, any-is}
-use Rattle.known.specs.MeetingTest.{isMember, isEdge, reached, together, joinAt, noneUpTo, isFree, isWalk, doMeet, isShortest}
+use Rattle.known.specs.MeetingTest.{isMember, isEdge, pairReached, together, joinAt, noneUpTo, isFree, isWalk, doMeet, isShortest}
 
 everywhere : (G : Graph) → Backwards G Everywhere
 everywhere G l q r e c = tt
@@ -33,15 +33,15 @@ edge-is G l q r e =
     record { letter = ltb-true l (G .k) a; from = ltb-true q (G .n) b; to = eqb-true (bit (successorSet (G .table) q l) r) 1 c }
 
 module _ (G : Graph) (fits : GraphFits G) (w : ℕ → ℕ) (t : ℕ) (x y : ℕ → ℕ) (v : Walk G w t x) (v′ : Walk G w t y) where
-  walks-reached : (s : ℕ) → s ≤ t → reached G s (x s) (y s) ≡ true
-  unfolding reached
+  walks-reached : (s : ℕ) → s ≤ t → pairReached G s (x s) (y s) ≡ true
+  unfolding pairReached
   walks-reached zero h = rw (eq-eqb (bit (G .initial) (x 0)) 1 (v .starts)) (eq-eqb (bit (G .initial) (y 0)) 1 (v′ .starts))
   walks-reached (suc s) h =
       let e = v .goes s (omega arith) in
       let f = v′ .goes s (omega arith) in
       let l = any-of (G .k) (λ l. isEdge G l (x s) (x (suc s)) && isEdge G l (y s) (y (suc s))) (w s) (e .letter)
       (and-eq-true-iff (isEdge G (w s) (x s) (x (suc s))) (isEdge G (w s) (y s) (y (suc s))) .1 (edge-test G (w s) (x s) (x (suc s)) e, edge-test G (w s) (y s) (y (suc s)) f)) in
-      any-of (G .n) _ (x s) (e .from) (any-of (G .n) _ (y s) (f .from) (and-eq-true-iff _ (reached G s (x s) (y s)) .1 (l, walks-reached s (omega arith))))
+      any-of (G .n) _ (x s) (e .from) (any-of (G .n) _ (y s) (f .from) (and-eq-true-iff _ (pairReached G s (x s) (y s)) .1 (l, walks-reached s (omega arith))))
 
   join-at : (s : ℕ) → s < t → Joins Everywhere x y s → joinAt G s ≡ true
   unfolding joinAt together
@@ -54,7 +54,7 @@ module _ (G : Graph) (fits : GraphFits G) (w : ℕ → ℕ) (t : ℕ) (x y : ℕ
       (and-eq-true-iff (isEdge G (w s) (x s) (x (suc s))) (isEdge G (w s) (y s) (x (suc s))) .1 (edge-test G (w s) (x s) (x (suc s)) e, edge-test G (w s) (y s) (x (suc s)) f))) in
       any-of (G .n) _ (x s) (e .from)
       (any-of (G .n) _ (y s) (f .from)
-      (rw (ne-eqb (x s) (y s) (j .apart)) (and-eq-true-iff _ (reached G s (x s) (y s)) .1 (g, walks-reached s (omega arith)))))
+      (rw (ne-eqb (x s) (y s) (j .apart)) (and-eq-true-iff _ (pairReached G s (x s) (y s)) .1 (g, walks-reached s (omega arith)))))
 
 module _ (G : Graph) (fits : GraphFits G) where
   none-up-to : (m : ℕ) → noneUpTo G m ≡ true → (w : ℕ → ℕ) (t : ℕ) (x y : ℕ → ℕ) → t ≤ m → Meet G Everywhere w t x y → ⊥

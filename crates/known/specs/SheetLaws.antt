@@ -87,7 +87,8 @@ module _ (s p : List ℕ) (room : ℕ) (Outcomes : Type 0) (refuse : Refusal →
     module _ (word one other : List ℕ) (test : isShortest (graphOf A) word one other ≡ true) where
       witness : (σ : Sheet) → FileIs s σ → Witness (graphOf (numbers σ)) Everywhere (length word) word one other
       witness σ file =
-          subst (λ (B : Automaton). Witness (graphOf B) Everywhere (length word) word one other) (sym (same-numbers σ file)) (shortest-is (graphOf A) (fits-graph (fits σ file)) word one other test)
+          subst (λ (B : Automaton). Witness (graphOf B) Everywhere (length word) word one other) (sym (same-numbers σ file))
+          (shortest-is (graphOf A) (fits-graph (fits σ file)) word one other test)
 
       not-free : (σ : Sheet) → Accepted s σ → ⊥
       not-free σ accepted = accepted .free _ _ _ _ (witness σ (accepted .file) .meets)
@@ -104,7 +105,8 @@ module _ (s p : List ℕ) (room : ℕ) (Outcomes : Type 0) (refuse : Refusal →
     module _ (free : isFree (graphOf A) ≡ true) where
       no-walks : (σ : Sheet) → FileIs s σ → (m : ℕ) (word one other : List ℕ) → Witness (graphOf (numbers σ)) Everywhere m word one other → ⊥
       no-walks σ file m word one other h =
-          free-is (graphOf A) (fits-graph (fits σ file)) free _ _ _ _ (subst (λ (B : Automaton). Witness (graphOf B) Everywhere m word one other) (same-numbers σ file) h .meets)
+          free-is (graphOf A) (fits-graph (fits σ file)) free _ _ _ _
+          (subst (λ (B : Automaton). Witness (graphOf B) Everywhere m word one other) (same-numbers σ file) h .meets)
 
       renumbered : (σ : Sheet) → FileIs s σ → (ts : List Tuple) → Numbering (numbers σ) ts → Numbering A ts
       renumbered σ file ts n = subst (λ (B : Automaton). Numbering B ts) (same-numbers σ file) n

@@ -15,7 +15,7 @@ use Rattle.automaton.specs.Automaton.{Automaton}
 use Rattle.tuple.specs.Step.{Tuple, colourEntered}
 use Rattle.numbering.specs.Numbering.{tupleAt}
 use Rattle.numbering.specs.Explore.{tupleNumber}
-use Rattle.numbering.specs.ExploreLaws.{Listed, number-is, agree-more, last-is}
+use Rattle.numbering.specs.ExploreLaws.{Listed, tuple-number-is, agree-more, last-is}
 use Rattle.passes.specs.declared.Answer.{Answer}
 use Rattle.passes.specs.declared.Answer.the-variants.{Yes, No}
 use Rattle.passes.specs.declared.Verdict.{Verdict}
@@ -47,7 +47,7 @@ module _ (A : Automaton) (w : ℕ → ℕ) (m c : ℕ) where
   -- the end of pass j is none of the earlier, or the one found
   earlier-is : (j : ℕ) → earlierOf A w m c j < j → passEnd A w m c (earlierOf A w m c j) ≡ passEnd A w m c j
   unfolding earlierOf
-  earlier-is j h = by (number-is A (passEnd A w m c j) (ends A w m c j))
+  earlier-is j h = by (tuple-number-is A (passEnd A w m c j) (ends A w m c j))
     where
       e : ℕ
       e = tupleNumber (passEnd A w m c j) (ends A w m c j)
@@ -59,7 +59,7 @@ module _ (A : Automaton) (w : ℕ → ℕ) (m c : ℕ) where
 
   earlier-none : (j : ℕ) → j ≤ earlierOf A w m c j → (i : ℕ) → i < j → passEnd A w m c i ≡ passEnd A w m c j → ⊥
   unfolding earlierOf
-  earlier-none j h i l q = by (number-is A (passEnd A w m c j) (ends A w m c j))
+  earlier-none j h i l q = by (tuple-number-is A (passEnd A w m c j) (ends A w m c j))
     where
       e : ℕ
       e = tupleNumber (passEnd A w m c j) (ends A w m c j)

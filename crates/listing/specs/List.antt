@@ -1,47 +1,62 @@
--- What listing a tracker answers, and what the lent tables hold then: what building asks, and last of all whether the buffer, which was b and
--- is c, is long enough.
+-- What listing a tracker answers, and what the lent tables hold then: what building asks, and last of all whether the buffer is long enough.
 use Prim.Native.Nat.{ℕ}
 use mathlib.Core.Path.{_≡_}
 use mathlib.Core.List.{List}
 use Rattle.gate.specs.Gate.{refusal, cleared, Put}
 use Rattle.gate.specs.declared.Refusal.{Refusal}
 use Rattle.automaton.specs.Automaton.{Automaton}
-use Rattle.automaton.specs.Lent.{Tables}
-use Rattle.filling.specs.Store.{Store, clearedStore}
-use Rattle.tracker.specs.Build.{Lent, BuildsNumbers, Builds}
+use Rattle.filling.specs.TrackerTables.{TrackerTables}
+use Rattle.tracker.specs.Build.{BuildNumbersTables, BuildTables, clearedBuildNumbers, clearedBuild, EnoughToBuild, EnoughToBuildNumbers, BuildsNumbers, Builds}
 use Rattle.tracker.specs.declared.Tracker.{Tracker}
 use Rattle.tracker.specs.declared.Built.the-variants.{Refused as BuildRefused, Is}
 use Rattle.gate.specs.declared.Written.{Written}
 use Rattle.gate.specs.declared.Written.the-variants.{Refused, Bytes}
 use Rattle.listing_text.specs.Listing.{listing}
 
--- the listing of a tracker that is built in g
-abbrev pub listingOf : Tracker → Store → List ℕ
-listingOf x g = listing (x .numbers .n) (x .numbers .k) (x .tuples) (g .tuples) (g .nexts)
+-- THE LENT TABLES of listing from numbers, and those of listing from a sheet file: those of building, and the buffer
+pub record ListNumbersTables : Type 0 where
+  pub build : BuildNumbersTables
+  pub output : List ℕ
 
--- what a lent table is left as by the last question: `empty` with a refusal, `full` with the text
+abbrev pub listNumbersTables : BuildNumbersTables → List ℕ → ListNumbersTables
+listNumbersTables build output = record { build = build; output = output }
+
+pub record ListTables : Type 0 where
+  pub build : BuildTables
+  pub output : List ℕ
+
+abbrev pub listTables : BuildTables → List ℕ → ListTables
+listTables build output = record { build = build; output = output }
+
+-- the listing of a tracker in its tables
+abbrev pub listingOf : Tracker → TrackerTables → List ℕ
+listingOf x tracker = listing (x .numbers .n) (x .numbers .k) (x .tuples) (tracker .tuples) (tracker .nexts)
+
+-- what lent tables are left as by the last question: `empty` with a refusal, `full` with the text
 abbrev pub Left : {X : Type 0} → X → X → X → Written → Type 0
 Left empty full left (Refused r) = left ≡ empty
 Left empty full left (Bytes count) = left ≡ full
 
--- LISTING FROM NUMBERS. The sheet as numbers is A; the witness was v and is w, the tuples and nexts were f and are g.
-pub data ListsNumbers (A : Automaton) (room : ℕ) (v w : Tables) (f g : Store) (b c : List ℕ) (l : Written) : Type 0 where
+-- LISTING FROM NUMBERS. The sheet as numbers is A.
+pub data ListsNumbers (A : Automaton) (room : ℕ) (before after : ListNumbersTables) (l : Written) : Type 0 where
   -- 1, asked first: nothing is touched
-  short : (Lent room (A .table) v f → ⊥) → l ≡ Refused (refusal 1 0) → w ≡ v → g ≡ f → c ≡ b → ListsNumbers A room v w f g b c l
+  short : (EnoughToBuildNumbers A room (before .build) → ⊥) → l ≡ Refused (refusal 1 0) → after ≡ before → ListsNumbers A room before after l
   -- 4, 7, 8, 10 and 11, as building refuses
-  refused : Lent room (A .table) v f → (r : Refusal) → BuildsNumbers A room v w f g (BuildRefused r) → l ≡ Refused r → c ≡ cleared b
-      → ListsNumbers A room v w f g b c l
-  -- 1, asked last, or the listing of a tracker in h
-  asked : (h : Store) (x : Tracker) → BuildsNumbers A room v w f h (Is x) → Put (listingOf x h) b c l → Left (clearedStore f) h g l
-      → ListsNumbers A room v w f g b c l
+  refused : EnoughToBuildNumbers A room (before .build) → (r : Refusal) → BuildsNumbers A room (before .build) (after .build) (BuildRefused r) → l ≡ Refused r
+      → after .output ≡ cleared (before .output) → ListsNumbers A room before after l
+  -- 1, asked last, or the listing of the tracker that was built
+  asked : (built : BuildNumbersTables) (x : Tracker) → BuildsNumbers A room (before .build) built (Is x)
+      → Put (listingOf x (built .tracker)) (before .output) (after .output) l → Left (clearedBuildNumbers (before .build)) built (after .build) l
+      → ListsNumbers A room before after l
 
--- LISTING FROM A SHEET FILE s. The successor sets' table was t and is u.
-pub data Lists (s : List ℕ) (room : ℕ) (t u : List ℕ) (v w : Tables) (f g : Store) (b c : List ℕ) (l : Written) : Type 0 where
+-- LISTING FROM A SHEET FILE s
+pub data Lists (s : List ℕ) (room : ℕ) (before after : ListTables) (l : Written) : Type 0 where
   -- 1, asked first: nothing is touched
-  short : (Lent room t v f → ⊥) → l ≡ Refused (refusal 1 0) → u ≡ t → w ≡ v → g ≡ f → c ≡ b → Lists s room t u v w f g b c l
+  short : (EnoughToBuild room (before .build) → ⊥) → l ≡ Refused (refusal 1 0) → after ≡ before → Lists s room before after l
   -- 2 to 11, as building refuses
-  refused : Lent room t v f → (r : Refusal) → Builds s room t u v w f g (BuildRefused r) → l ≡ Refused r → c ≡ cleared b
-      → Lists s room t u v w f g b c l
-  -- 1, asked last, or the listing of a tracker in h on the successor sets m
-  asked : (m : List ℕ) (h : Store) (x : Tracker) → Builds s room t m v w f h (Is x) → Put (listingOf x h) b c l → Left (cleared t) m u l → Left (clearedStore f) h g l
-      → Lists s room t u v w f g b c l
+  refused : EnoughToBuild room (before .build) → (r : Refusal) → Builds s room (before .build) (after .build) (BuildRefused r) → l ≡ Refused r
+      → after .output ≡ cleared (before .output) → Lists s room before after l
+  -- 1, asked last, or the listing of the tracker that was built
+  asked : (built : BuildTables) (x : Tracker) → Builds s room (before .build) built (Is x)
+      → Put (listingOf x (built .tracker)) (before .output) (after .output) l → Left (clearedBuild (before .build)) built (after .build) l
+      → Lists s room before after l

@@ -4,10 +4,11 @@ use gate::Refusal;
 use gate::Written;
 use tracker::Built;
 ghost use Rattle.automaton.specs.Automaton.{automaton};
-ghost use Rattle.automaton.specs.Lent.{tables};
-ghost use Rattle.filling.specs.Store.{store};
+ghost use Rattle.automaton.specs.Lent.{witnessTables};
+ghost use Rattle.filling.specs.TrackerTables.{trackerTables};
+ghost use Rattle.tracker.specs.Build.{buildNumbersTables, buildTables};
 ghost use Rattle.listing_text.specs.Listing.{listing};
-ghost use Rattle.listing.specs.List.{ListsNumbers, Lists};
+ghost use Rattle.listing.specs.List.{listNumbersTables, listTables, ListsNumbers, Lists};
 ghost use Rattle.listing_text.specs.Put.{Sized};
 ghost use Rattle.listing.specs.Finish.{Finishes};
 
@@ -22,7 +23,7 @@ fn finish(
 ) -> Written
     requires { ⌜ Sized n k count (now tuples) (now nexts) ⌝ }
     ensures { λ l. ⌜ Finishes (listing n k count (now (tuples .entry)) (now (nexts .entry)))
-        (store (now (tuples .entry)) (now (nexts .entry))) (store (now (tuples .exit)) (now (nexts .exit))) (now (out .entry)) (now (out .exit)) l ⌝ }
+        (trackerTables (now (tuples .entry)) (now (nexts .entry))) (trackerTables (now (tuples .exit)) (now (nexts .exit))) (now (out .entry)) (now (out .exit)) l ⌝ }
 {
     let bytes = listing_text::listing_length(n, k, count);
     if out.len() < bytes {
@@ -52,8 +53,10 @@ pub fn list_numbers(
     out: &mut [u8],
 ) -> Written
     ensures { λ r. ⌜ ListsNumbers (automaton a (now (table .entry))) room
-        (tables (now (word .entry)) (now (one .entry)) (now (other .entry))) (tables (now (word .exit)) (now (one .exit)) (now (other .exit)))
-        (store (now (tuples .entry)) (now (nexts .entry))) (store (now (tuples .exit)) (now (nexts .exit))) (now (out .entry)) (now (out .exit)) r ⌝ }
+        (listNumbersTables (buildNumbersTables (witnessTables (now (word .entry)) (now (one .entry)) (now (other .entry))) (trackerTables (now (tuples .entry)) (now (nexts .entry))))
+        (now (out .entry)))
+        (listNumbersTables (buildNumbersTables (witnessTables (now (word .exit)) (now (one .exit)) (now (other .exit))) (trackerTables (now (tuples .exit)) (now (nexts .exit))))
+        (now (out .exit))) r ⌝ }
 {
     match tracker::build_numbers(a, table, room, tuples, nexts, word, one, other) {
         Built::Refused(r) => gate::refuse(r, out),
@@ -73,9 +76,11 @@ pub fn list(
     other: &mut [u16],
     out: &mut [u8],
 ) -> Written
-    ensures { λ r. ⌜ Lists (now (sheet .entry)) room (now (table .entry)) (now (table .exit))
-        (tables (now (word .entry)) (now (one .entry)) (now (other .entry))) (tables (now (word .exit)) (now (one .exit)) (now (other .exit)))
-        (store (now (tuples .entry)) (now (nexts .entry))) (store (now (tuples .exit)) (now (nexts .exit))) (now (out .entry)) (now (out .exit)) r ⌝ }
+    ensures { λ r. ⌜ Lists (now (sheet .entry)) room
+        (listTables (buildTables (now (table .entry)) (witnessTables (now (word .entry)) (now (one .entry)) (now (other .entry)))
+        (trackerTables (now (tuples .entry)) (now (nexts .entry)))) (now (out .entry)))
+        (listTables (buildTables (now (table .exit)) (witnessTables (now (word .exit)) (now (one .exit)) (now (other .exit)))
+        (trackerTables (now (tuples .exit)) (now (nexts .exit)))) (now (out .exit))) r ⌝ }
 {
     match tracker::build(sheet, room, table, tuples, nexts, word, one, other) {
         Built::Refused(r) => gate::refuse(r, out),

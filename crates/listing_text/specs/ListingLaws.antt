@@ -8,7 +8,7 @@ use lib.ListN.{getD, List·getD-eq-default}
 use lib.Pow.{pow-mono}
 use Rattle.automaton.specs.Automaton.{Automaton, Fits}
 use Rattle.tuple.specs.TupleLaws.{small}
-use Rattle.filling.specs.Store.{Store, RoomFits, Fitted}
+use Rattle.filling.specs.TrackerTables.{TrackerTables, EnoughForTracker, Fitted}
 use Rattle.filling.specs.FittedLaws.{tuple, fitted-formed, fitted-set, fitted-colour, fitted-behind, fitted-next, fitted-room}
 use Rattle.text.specs.Bytes.{lf, endLine}
 use Rattle.lists.specs.AppendLaws.{append-same}
@@ -16,12 +16,12 @@ use Rattle.text.specs.Column.{column}
 use Rattle.text.specs.ColumnLaws.{column-length, column-injective}
 use Rattle.text.specs.PiecesLaws.{pieces-same}
 use Rattle.listing_text.specs.Listing.{columns, trackLine, tupleLine, tupleLines, listing}
-use Rattle.listing_text.specs.Put.{cellsFrom, Sizes}
-use Rattle.listing_text.specs.PutLaws.{columns-length, line-length, lines-length, first-length}
+use Rattle.listing_text.specs.Put.{cellsFrom, ListingLimits}
+use Rattle.listing_text.specs.PutLaws.{columns-length, line-length, lines-length, track-line-length}
 
 -- the numbers of a tracker as a listing shows them: each has its columns, and every cell that is not listed is zero
 pub record Shown (n k count : ℕ) (tuples nexts : List ℕ) : Type 0 where
-  pub sizes : Sizes n k count
+  pub sizes : ListingLimits n k count
   pub sets : (i : ℕ) → getD tuples i 0 < 65536
   pub colours : (t : ℕ) → getD tuples (17 * t + 16) 0 ≤ 33
   pub next : (c : ℕ) → getD nexts c 0 < 1024
@@ -44,7 +44,7 @@ columns-same w f g p q count e j h =
     column-injective w (f j) (g j) (p j) (q j)
     (pieces-same (λ i. column w (f i)) (λ i. column w (g i)) (λ i. column-length w (f i) ∙ sym (column-length w (g i))) 0 count e j (omega arith) (omega arith))
 
-first-same : (n k count n' k' count' : ℕ) → Sizes n k count → Sizes n' k' count'
+first-same : (n k count n' k' count' : ℕ) → ListingLimits n k count → ListingLimits n' k' count'
     → trackLine n k count ≡ trackLine n' k' count' → (n ≡ n') × (k ≡ k') × (count ≡ count')
 unfolding trackLine
 first-same n k count n' k' count' s s' e =
@@ -125,7 +125,7 @@ listing-determines n₁ k₁ c₁ t₁ e₁ n₂ k₂ c₂ t₂ e₂ s₁ s₂ e
     parts : (trackLine n₁ k₁ c₁ ≡ trackLine n₂ k₂ c₂) × (tupleLines n₁ k₁ t₁ e₁ c₁ ++ endLine ≡ tupleLines n₂ k₂ t₂ e₂ c₂ ++ endLine)
     parts =
         append-same (trackLine n₁ k₁ c₁) (trackLine n₂ k₂ c₂) (tupleLines n₁ k₁ t₁ e₁ c₁ ++ endLine) (tupleLines n₂ k₂ t₂ e₂ c₂ ++ endLine)
-        (first-length n₁ k₁ c₁ ∙ sym (first-length n₂ k₂ c₂)) e
+        (track-line-length n₁ k₁ c₁ ∙ sym (track-line-length n₂ k₂ c₂)) e
 
     by : (n₁ ≡ n₂) × (k₁ ≡ k₂) × (c₁ ≡ c₂) → Same n₁ k₁ c₁ t₁ e₁ n₂ k₂ c₂ t₂ e₂
     by (p, q, r) = record { states = p; letters = q; count = r; tuples = same-tuples n₁ k₁ c₁ t₁ e₁ t₂ e₂ s₁ s₂' lines; nexts = same-nexts n₁ k₁ c₁ t₁ e₁ t₂ e₂ s₁ s₂' lines }
@@ -144,7 +144,7 @@ listing-determines n₁ k₁ c₁ t₁ e₁ n₂ k₂ c₂ t₂ e₂ s₁ s₂ e
             line-same n₁ k₁ c₁ t₁ e₁ t₂ e₂ s₁ s₂' t (pieces-same (tupleLine n₁ k₁ t₁ e₁) (tupleLine n₁ k₁ t₂ e₂) (λ i. line-length n₁ k₁ t₁ e₁ i ∙ sym (line-length n₁ k₁ t₂ e₂ i)) 0 c₁ x t (omega arith) (omega arith))
 
 -- A TRACKER THAT IS BUILT is shown by its listing
-pub fitted-shown : (A : Automaton) → Fits A → (room m : ℕ) (v w : Store) → RoomFits room v → Fitted A room v w m → Shown (A .n) (A .k) m (w .tuples) (w .nexts)
+pub fitted-shown : (A : Automaton) → Fits A → (room m : ℕ) (v w : TrackerTables) → EnoughForTracker room v → Fitted A room v w m → Shown (A .n) (A .k) m (w .tuples) (w .nexts)
 fitted-shown A fits room m v w r f = record {
   sizes = record { states = fits .range .1; letters = fits .range .3; most = fitted-room A fits room m v w f r .most };
   sets = λ i. set-small i (decLt (i / 17) m) (decLt (i % 17) 16);

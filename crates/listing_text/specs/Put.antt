@@ -2,7 +2,7 @@
 use Prim.Native.Nat.{ℕ, _+_, _*_, _≤_}
 use mathlib.Core.List.{List}
 use lib.ListN.{length, getD}
-use Rattle.filling.specs.Store.{store, RoomFits}
+use Rattle.filling.specs.TrackerTables.{trackerTables, EnoughForTracker}
 
 -- the cells of a table from `from` on, as a sequence
 abbrev pub cellsFrom : List ℕ → ℕ → ℕ → ℕ
@@ -22,12 +22,12 @@ abbrev pub listingBytes : ℕ → ℕ → ℕ → ℕ
 listingBytes n k count = 21 + count * lineBytes n k
 
 -- at most as many states, letters and tuples as there may be
-pub record Sizes (n k count : ℕ) : Type 0 where
+pub record ListingLimits (n k count : ℕ) : Type 0 where
   pub states : n ≤ 16
   pub letters : k ≤ 8
   pub most : count ≤ 1024
 
 -- and tables that are long enough for the tuples
 pub record Sized (n k count : ℕ) (tuples nexts : List ℕ) : Type 0 where
-  pub sizes : Sizes n k count
-  pub room : RoomFits count (store tuples nexts)
+  pub sizes : ListingLimits n k count
+  pub room : EnoughForTracker count (trackerTables tuples nexts)

@@ -12,7 +12,7 @@ use Rattle.text.specs.ColumnLaws.{column-length}
 use Rattle.lists.specs.StoreLaws.{sets-part}
 use Rattle.text.specs.PiecesLaws.{pieces-length}
 use Rattle.listing_text.specs.Listing.{columns, trackLine, tupleLine, tupleLines, listing}
-use Rattle.listing_text.specs.Put.{cellsFrom, lineBytes, listingBytes, Sizes}
+use Rattle.listing_text.specs.Put.{cellsFrom, lineBytes, listingBytes, ListingLimits}
 
 -- LENGTHS
 
@@ -26,16 +26,16 @@ line-length n k tuples nexts t = simp (length-append, column-length, columns-len
 pub lines-length : (n k : ℕ) (tuples nexts : List ℕ) (count : ℕ) → length (tupleLines n k tuples nexts count) ≡ count * lineBytes n k
 lines-length n k tuples nexts count = pieces-length (tupleLine n k tuples nexts) (lineBytes n k) (line-length n k tuples nexts) 0 count
 
-pub first-length : (n k count : ℕ) → length (trackLine n k count) ≡ 17
+pub track-line-length : (n k count : ℕ) → length (trackLine n k count) ≡ 17
 unfolding trackLine
-first-length n k count = simp (length-append, column-length)
+track-line-length n k count = simp (length-append, column-length)
 
 pub listing-length : (n k count : ℕ) (tuples nexts : List ℕ) → length (listing n k count tuples nexts) ≡ listingBytes n k count
 unfolding listing
-listing-length n k count tuples nexts = simp (length-append, first-length, lines-length) (omega arith)
+listing-length n k count tuples nexts = simp (length-append, track-line-length, lines-length) (omega arith)
 
 -- a product within the bounds of a listing
-pub listing-small : (n k count : ℕ) → Sizes n k count → count * lineBytes n k ≤ 149504
+pub listing-small : (n k count : ℕ) → ListingLimits n k count → count * lineBytes n k ≤ 149504
 listing-small n k count s =
     let h : lineBytes n k ≤ 146 = omega (arith, s .states, s .letters) in
     let p : count * lineBytes n k ≤ 1024 * 146 = mul-le-mul (s .most) h in
@@ -85,5 +85,5 @@ pub listing-put : (out : List ℕ) (n k count : ℕ) (tuples nexts : List ℕ)
 unfolding listing
 listing-put out n k count tuples nexts =
     let ls = tupleLines n k tuples nexts count in
-    sets-part (trackLine n k count) (ls ++ endLine) out 0 17 (omega (arith, first-length n k count))
+    sets-part (trackLine n k count) (ls ++ endLine) out 0 17 (omega (arith, track-line-length n k count))
     ∙ sets-part ls endLine (sets out 0 (trackLine n k count)) 17 (17 + count * lineBytes n k) (omega (arith, lines-length n k tuples nexts count))

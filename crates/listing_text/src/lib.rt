@@ -5,11 +5,11 @@ ghost use lib.ListN.{length};
 ghost use lib.Seq.{sets};
 ghost use Rattle.listing_text.specs.Listing.{columns, trackLine, tupleLine, tupleLines, listing};
 ghost use Rattle.gate.specs.Gate.{lentText};
-ghost use Rattle.listing_text.specs.Put.{cellsFrom, ColumnsThere, lineBytes, listingBytes, Sizes, Sized};
+ghost use Rattle.listing_text.specs.Put.{cellsFrom, ColumnsThere, lineBytes, listingBytes, ListingLimits, Sized};
 
 // How many bytes a listing has.
 pub fn listing_length(n: usize, k: usize, count: usize) -> usize
-    requires { ⌜ Sizes n k count ⌝ }
+    requires { ⌜ ListingLimits n k count ⌝ }
     ensures { λ r. ⌜ r ≡ listingBytes n k count ⌝ }
 {
     21 + count * (10 + (6 * n + 5 * k))

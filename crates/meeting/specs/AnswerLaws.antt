@@ -6,20 +6,20 @@ use Rattle.sets.specs.Sets.{Member}
 use Rattle.sets.specs.SetLaws.{all-members}
 use Rattle.automaton.specs.Graph.{Graph, GraphFits}
 use Rattle.automaton.specs.Meeting.{Meet, Everywhere, Free, Witness}
-use Rattle.automaton.specs.Lent.{Tables, SameLengths}
+use Rattle.automaton.specs.Lent.{WitnessTables, SameLengths}
 use Rattle.pairs.specs.Joining.{Backwards}
 use Rattle.automaton.specs.EdgeLaws.{walk-in}
 use Rattle.meeting.specs.Answer.{Answered}
 
 -- The two answers
 
-same-tables : (v : Tables) → SameLengths v v
+same-tables : (v : WitnessTables) → SameLengths v v
 same-tables v = record { word = refl; one = refl; other = refl }
 
-pub answer-free : {G : Graph} {Counts : ℕ → Type 0} {v : Tables} → Free G Counts → Answered G Counts v v 0
+pub answer-free : {G : Graph} {Counts : ℕ → Type 0} {v : WitnessTables} → Free G Counts → Answered G Counts v v 0
 answer-free {v = v} f = record { free = λ e. f; kept = λ e. refl; witness = λ l. absurd (omega arith); lengths = same-tables v }
 
-pub answer-witness : {G : Graph} {Counts : ℕ → Type 0} {v w : Tables} {r : ℕ} → 0 < r → Witness G Counts r (w .word) (w .one) (w .other)
+pub answer-witness : {G : Graph} {Counts : ℕ → Type 0} {v w : WitnessTables} {r : ℕ} → 0 < r → Witness G Counts r (w .word) (w .one) (w .other)
     → SameLengths v w → Answered G Counts v w r
 answer-witness l x s = record { free = λ e. absurd (omega arith); kept = λ e. absurd (omega arith); witness = λ m. x; lengths = s }
 
@@ -38,7 +38,7 @@ module _ {G : Graph} (fits : GraphFits G) where
   meet-any : {Counts : ℕ → Type 0} {w : ℕ → ℕ} {t : ℕ} {x y : ℕ → ℕ} → Meet G Counts w t x y → Meet G Everywhere w t x y
   meet-any m = record { one = m .one; other = m .other; differ = m .differ; shared = m .shared; counts = tt }
 
-  pub answer-everywhere : {v w : Tables} {r : ℕ} → Answered G (Member 65535) v w r → Answered G Everywhere v w r
+  pub answer-everywhere : {v w : WitnessTables} {r : ℕ} → Answered G (Member 65535) v w r → Answered G Everywhere v w r
   answer-everywhere a = record {
     free = λ e u t x y m. a .free e u t x y (meet-all m);
     kept = a .kept;

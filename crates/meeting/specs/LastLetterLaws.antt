@@ -10,7 +10,7 @@ use Rattle.gate.specs.Gate.{Zero}
 use Rattle.gate.specs.GateLaws.{zero-cleared}
 use Rattle.sets.specs.Sets.{Member}
 use Rattle.automaton.specs.Graph.{Graph, Edge, successorSet}
-use Rattle.automaton.specs.Lent.{Tables}
+use Rattle.automaton.specs.Lent.{WitnessTables}
 use Rattle.queue.specs.Queue.{pair, depth, one, other}
 use Rattle.automaton.specs.EdgeLaws.{edge-of}
 use Rattle.meeting.specs.Answer.{Asked}
@@ -34,7 +34,7 @@ tail-start G d word states l p z hw hs e nw ns = record {
   behind-word = λ i x. getD-set-other word d i l 0 (λ v. omega arith) ∙ nw i;
 }
 
-pub trace-start : (G : Graph) (counts : ℕ) (T : List ℕ) (head e l z : ℕ) (v : Tables) → Asked G v → e ≡ pair T head → depth e < 136 → l < 8
+pub trace-start : (G : Graph) (counts : ℕ) (T : List ℕ) (head e l z : ℕ) (v : WitnessTables) → Asked G v → e ≡ pair T head → depth e < 136 → l < 8
     → (one e ≡ other e → ⊥) → Member (successorSet (G .table) (one e) l) z × Member (successorSet (G .table) (other e) l) z × Member counts z
     → Traced G counts T head (depth e) (depth e) head (ended (noted v (depth e) l e) (depth e) z)
 trace-start G counts T head e l z v a he most hl f (m1, m2, c) =
@@ -42,9 +42,9 @@ trace-start G counts T head e l z v a he most hl f (m1, m2, c) =
     let hw = a .lengths .long .word in
     let h1 = a .lengths .long .one in
     let h2 = a .lengths .long .other in
-    let zw = subst (λ (x : Tables). Zero (x .word)) (sym (a .zeros)) (zero-cleared (v .word)) in
-    let z1 = subst (λ (x : Tables). Zero (x .one)) (sym (a .zeros)) (zero-cleared (v .one)) in
-    let z2 = subst (λ (x : Tables). Zero (x .other)) (sym (a .zeros)) (zero-cleared (v .other)) in
+    let zw = subst (λ (x : WitnessTables). Zero (x .word)) (sym (a .zeros)) (zero-cleared (v .word)) in
+    let z1 = subst (λ (x : WitnessTables). Zero (x .one)) (sym (a .zeros)) (zero-cleared (v .one)) in
+    let z2 = subst (λ (x : WitnessTables). Zero (x .other)) (sym (a .zeros)) (zero-cleared (v .other)) in
     let l1 = at-last (v .one) d (one e) z (omega arith) in
     let l2 = at-last (v .other) d (other e) z (omega arith) in
     let e1 = at-end (v .one) d (one e) z (omega arith) in

@@ -1,12 +1,5 @@
 pub mod Answer
 pub mod AnswerLaws
-pub mod Search
-pub mod JustifiedLaws
-pub mod StartLaws
-pub mod StepLaws
-pub mod JoinLaws
-pub mod SearchLaws
-pub mod FoundLaws
 pub mod Trace
 pub mod TraceLaws
 pub mod LastLetterLaws

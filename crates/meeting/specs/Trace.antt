@@ -5,17 +5,17 @@ use mathlib.Core.List.{List}
 use lib.ListN.{length, getD, set}
 use Rattle.sets.specs.Sets.{Member}
 use Rattle.automaton.specs.Graph.{Graph, Edge}
-use Rattle.automaton.specs.Lent.{Tables, tables}
+use Rattle.automaton.specs.Lent.{WitnessTables, witnessTables}
 use Rattle.queue.specs.Queue.{pair, origin, depth, one, other}
-use Rattle.meeting.specs.Search.{AllJustified}
+use Rattle.pair_search.specs.Search.{AllJustified}
 
 -- the tables with letter l and the states of pair e at time t
-abbrev pub noted : Tables → ℕ → ℕ → ℕ → Tables
-noted v t l e = tables (set (v .word) t l) (set (v .one) t (one e)) (set (v .other) t (other e))
+abbrev pub noted : WitnessTables → ℕ → ℕ → ℕ → WitnessTables
+noted v t l e = witnessTables (set (v .word) t l) (set (v .one) t (one e)) (set (v .other) t (other e))
 
 -- the tables with state z behind letter d of both walks
-abbrev pub ended : Tables → ℕ → ℕ → Tables
-ended v d z = tables (v .word) (set (v .one) (d + 1) z) (set (v .other) (d + 1) z)
+abbrev pub ended : WitnessTables → ℕ → ℕ → WitnessTables
+ended v d z = witnessTables (v .word) (set (v .one) (d + 1) z) (set (v .other) (d + 1) z)
 
 -- the end of a walk, from time t to d + 1, with zeros behind
 pub record Tail (G : Graph) (d t : ℕ) (word states : List ℕ) : Type 0 where
@@ -24,7 +24,7 @@ pub record Tail (G : Graph) (d t : ℕ) (word states : List ℕ) : Type 0 where
   pub behind-word : (i : ℕ) → d < i → getD word i 0 ≡ 0
 
 -- the ends of two walks that are in pair i at time t, in different states at time d, and then in one state that counts
-pub record Traced (G : Graph) (counts : ℕ) (T : List ℕ) (head d t i : ℕ) (v : Tables) : Type 0 where
+pub record Traced (G : Graph) (counts : ℕ) (T : List ℕ) (head d t i : ℕ) (v : WitnessTables) : Type 0 where
   pub before : i ≤ head
   pub deep : depth (pair T i) ≡ t
   pub low : t ≤ d
@@ -41,7 +41,7 @@ abbrev pub Linked : List ℕ → ℕ → Type 0
 Linked T head = (i : ℕ) → i ≤ head → 0 < depth (pair T i) → (origin T i / 8 < i) × (depth (pair T i) ≡ suc (depth (pair T (origin T i / 8))))
 
 -- the walks that end in pair head, d letters deep, can be traced into tables v
-pub record Traceable (T : List ℕ) (head d : ℕ) (v : Tables) : Type 0 where
+pub record Traceable (T : List ℕ) (head d : ℕ) (v : WitnessTables) : Type 0 where
   pub size : length T ≡ 528
   pub some : head < 256
   pub linked : Linked T head
@@ -51,5 +51,5 @@ pub record Traceable (T : List ℕ) (head d : ℕ) (v : Tables) : Type 0 where
   pub other : d < length (v .other)
 
 -- tables v with the last letter of a meeting have become w, with the letters from t on: whatever the graph
-abbrev pub Leads : List ℕ → ℕ → ℕ → ℕ → ℕ → Tables → Tables → Type 0
+abbrev pub Leads : List ℕ → ℕ → ℕ → ℕ → ℕ → WitnessTables → WitnessTables → Type 0
 Leads T head d t i v w = (G : Graph) (counts : ℕ) → AllJustified G T (suc head) → Traced G counts T head d d head v → Traced G counts T head d t i w

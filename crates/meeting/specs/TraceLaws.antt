@@ -8,9 +8,9 @@ use native.Mathlib.Decide.{ℕ-discrete}
 use lib.ListN.{length, getD, set}
 use lib.Seq.{getD-set-same, getD-set-other}
 use Rattle.automaton.specs.Graph.{Graph, Edge}
-use Rattle.automaton.specs.Lent.{Tables}
+use Rattle.automaton.specs.Lent.{WitnessTables}
 use Rattle.queue.specs.Queue.{pair, origin, depth, one, other}
-use Rattle.meeting.specs.Search.{Justified, AllJustified, Next}
+use Rattle.pair_search.specs.Search.{Justified, AllJustified, Next}
 use Rattle.meeting.specs.Trace.{noted, Tail, Traced, Linked, Leads}
 
 tail-step : (G : Graph) (d u : ℕ) (word states : List ℕ) (l p : ℕ) → u < d → u < length word → u < length states
@@ -32,7 +32,7 @@ comes-from : (G : Graph) (T : List ℕ) (i : ℕ) → 0 < depth (pair T i) → J
 comes-from G T i h (inl f) = absurd (let z = f .deep in omega arith)
 comes-from G T i h (inr n) = n
 
-module _ (G : Graph) (counts : ℕ) (T : List ℕ) (head d t i : ℕ) (v : Tables) (justified : AllJustified G T (suc head)) (x : Traced G counts T head d t i v) where
+module _ (G : Graph) (counts : ℕ) (T : List ℕ) (head d t i : ℕ) (v : WitnessTables) (justified : AllJustified G T (suc head)) (x : Traced G counts T head d t i v) where
   trace-next : 0 < t → Next G T i t (one (pair T i)) (other (pair T i)) (origin T i)
   trace-next h =
       let e = x .deep in
@@ -68,7 +68,7 @@ module _ (G : Graph) (counts : ℕ) (T : List ℕ) (head d t i : ℕ) (v : Table
 pub linked : {G : Graph} {T : List ℕ} {head : ℕ} → AllJustified G T (suc head) → Linked T head
 linked {G} {T} justified i l h = let n = comes-from G T i h (justified i (omega arith)) in (n .earlier, n .deep)
 
-pub leads-step : {T : List ℕ} {head d t i : ℕ} {v w w' : Tables} (o e u : ℕ) → t ≡ suc u → o ≡ origin T i → e ≡ pair T (o / 8)
+pub leads-step : {T : List ℕ} {head d t i : ℕ} {v w w' : WitnessTables} (o e u : ℕ) → t ≡ suc u → o ≡ origin T i → e ≡ pair T (o / 8)
     → d < length (w .word) → d < length (w .one) → d < length (w .other) → w' ≡ noted w u (o % 8) e
     → Leads T head d t i v w → Leads T head d u (o / 8) v w'
 leads-step {T} {head} {d} {t} {i} {v} {w} o e u z ho he hw h1 h2 n g =

@@ -10,9 +10,9 @@ use lib.ListN.{getD}
 use Rattle.sets.specs.Sets.{Member}
 use Rattle.automaton.specs.Graph.{Graph}
 use Rattle.automaton.specs.Meeting.{Walk, Witness, cells}
-use Rattle.automaton.specs.Lent.{Tables}
+use Rattle.automaton.specs.Lent.{WitnessTables}
 use Rattle.queue.specs.Queue.{pair, depth, one, other}
-use Rattle.meeting.specs.Search.{Justified, JoinsOn, Common, Joining, Found}
+use Rattle.pair_search.specs.Search.{Justified, JoinsOn, Common, Joining, MeetingFound}
 use Rattle.meeting.specs.Trace.{noted, ended, Tail, Traced, Leads}
 use Rattle.meeting.specs.Answer.{Asked}
 use Rattle.meeting.specs.LastLetterLaws.{trace-start}
@@ -20,7 +20,7 @@ use Rattle.meeting.specs.LastLetterLaws.{trace-start}
 whole : (G : Graph) (d : ℕ) (word states : List ℕ) → Member (G .initial) (getD states 0 0) → Tail G d 0 word states → Walk G (cells word) (suc d) (cells states)
 whole G d word states m t = record { starts = m; goes = λ s l. t .goes s (omega arith) (omega arith) }
 
-traced-witness : (G : Graph) (counts : ℕ) (T : List ℕ) (head d i : ℕ) (v : Tables) → d ≡ depth (pair T head) → Found G counts T head
+traced-witness : (G : Graph) (counts : ℕ) (T : List ℕ) (head d i : ℕ) (v : WitnessTables) → d ≡ depth (pair T head) → MeetingFound G counts T head
     → Traced G counts T head d 0 i v → Witness G (Member counts) (suc d) (v .word) (v .one) (v .other)
 traced-witness G counts T head d i v e f x = go (f .justified i (let b = x .before in omega arith))
   where
@@ -44,19 +44,19 @@ traced-witness G counts T head d i v e f x = go (f .justified i (let b = x .befo
         }
 
 -- the pair found joins on some letter
-pub found-letter : {G : Graph} {counts : ℕ} {T : List ℕ} {head e l : ℕ} → Found G counts T head → e ≡ pair T head → Joining (G .table) counts e l → l < 8
+pub found-letter : {G : Graph} {counts : ℕ} {T : List ℕ} {head e l : ℕ} → MeetingFound G counts T head → e ≡ pair T head → Joining (G .table) counts e l → l < 8
 found-letter {G} {counts} {l = l} f h j = by (decLt l 8)
   where
     by : Dec (l < 8) → l < 8
     by (yes k) = k
     by (no k) = let m = f .low in absurd (j .none (f .letter) (omega arith) (subst (λ (x : ℕ). JoinsOn (G .table) counts x (f .letter)) (sym h) (f .joins)))
 
-pub witness-of : {G : Graph} {counts : ℕ} {T : List ℕ} {head e l i : ℕ} {v w u : Tables} (r z : ℕ) → Asked G v → Found G counts T head → e ≡ pair T head
+pub witness-of : {G : Graph} {counts : ℕ} {T : List ℕ} {head e l i : ℕ} {v w u : WitnessTables} (r z : ℕ) → Asked G v → MeetingFound G counts T head → e ≡ pair T head
     → Joining (G .table) counts e l → Common (G .table) counts (one e) (other e) l r → Member r z → u ≡ noted v (depth e) l e
     → Leads T head (depth e) 0 i (ended u (depth e) z) w
     → Witness G (Member counts) (depth e + 1) (w .word) (w .one) (w .other)
 witness-of {G} {counts} {T} {head} {e} {l} {i} {v} {w} r z a f he j c m k g =
     let low = found-letter f he j in
     let start = trace-start G counts T head e l z v a he (rw he (f .most)) low (j .joins low .apart) (c z .0 m) in
-    let g' = subst (λ (u : Tables). Leads T head (depth e) 0 i (ended u (depth e) z) w) k g in
+    let g' = subst (λ (u : WitnessTables). Leads T head (depth e) 0 i (ended u (depth e) z) w) k g in
     rw add-one (traced-witness G counts T head (depth e) i w (ap depth he) f (g' G counts (f .justified) start))

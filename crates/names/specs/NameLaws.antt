@@ -40,8 +40,8 @@ module _ (ps qs : List Part) (r : RightParts ps) (t : RightParts qs) where
       parts-unique (map composedPart ps) (map composedPart qs) (composed-rights ps r) (composed-rights qs t)
       (sym (compose-parts ps r) ∙ (e ∙ compose-parts qs t))
 
-  pub same-bytes : map composedPart ps ≡ map composedPart qs → compose (nameBytes ps) ≡ compose (nameBytes qs)
-  same-bytes e = compose-parts ps r ∙ (ap nameBytes e ∙ sym (compose-parts qs t))
+  pub same-composed : map composedPart ps ≡ map composedPart qs → compose (nameBytes ps) ≡ compose (nameBytes qs)
+  same-composed e = compose-parts ps r ∙ (ap nameBytes e ∙ sym (compose-parts qs t))
 
 -- A COMPOSED LIST STARTS with the byte that it had or with C3: what holds in both cases holds of it
 compose-first : (P : List ℕ → Type 0) → ((u : ℕ) (y : List ℕ) → P (0xC3 ∷ u ∷ y)) → (a : ℕ) (x : List ℕ) → P (a ∷ compose x) → P (compose (a ∷ x))

@@ -18,5 +18,5 @@ diaeresisAt s i end =
     choose (ltb (end - i) 3) false (isDecomposed (getD s i 0) (getD s (i + 1) 0) (getD s (i + 2) 0))
 
 -- the row that starts at a place
-abbrev pub row : List ℕ → ℕ → List ℕ
-row rows at = take 24 (drop at rows)
+abbrev pub nameRow : List ℕ → ℕ → List ℕ
+nameRow rows at = take 24 (drop at rows)

@@ -3,15 +3,15 @@ use Prim.Native.Nat.{ℕ, _+_, _*_, _≤_, _<_}
 use mathlib.Core.Path.{_≡_}
 use mathlib.Core.List.{List, []}
 use lib.ListN.{length, getD, take, drop}
-use Rattle.lists.specs.Search.{First, same, firstThat}
+use Rattle.lists.specs.Search.{IsFirst, same, firstThat}
 use Rattle.names.specs.Name.{IsName}
 use Rattle.gate.specs.Gate.{padded}
-use Rattle.names.specs.Row.{row}
+use Rattle.names.specs.Row.{nameRow}
 
 -- the row of a letter holds a name
 pub record RowIs (rows : List ℕ) (l : ℕ) (x : List ℕ) : Type 0 where
   pub is-name : IsName x
-  pub is : row rows (24 * l) ≡ padded 24 x
+  pub is : nameRow rows (24 * l) ≡ padded 24 x
 
 -- the rows hold composed names, those of the letters from 0 on
 abbrev pub HoldNames : List (List ℕ) → List ℕ → Type 0
@@ -25,12 +25,12 @@ pub record OnlyRow (k : ℕ) (old new : List ℕ) : Type 0 where
 -- the first row that is like row `count`
 pub record FirstLike (rows : List ℕ) (count l : ℕ) : Type 0 where
   pub most : l ≤ count
-  pub like : row rows (24 * l) ≡ row rows (24 * count)
-  pub first : (i : ℕ) → i < l → row rows (24 * i) ≡ row rows (24 * count) → ⊥
+  pub like : nameRow rows (24 * l) ≡ nameRow rows (24 * count)
+  pub first : (i : ℕ) → i < l → nameRow rows (24 * i) ≡ nameRow rows (24 * count) → ⊥
 
 -- the first of some composed names that is x; their count where none is
 abbrev pub FirstName : List (List ℕ) → List ℕ → ℕ → Type 0
-FirstName = First []
+FirstName = IsFirst []
 
 -- its number, by a search
 abbrev pub letterOf : List (List ℕ) → List ℕ → ℕ

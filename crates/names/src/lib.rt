@@ -9,7 +9,7 @@ ghost use Rattle.text.specs.Bytes.{stretch};
 ghost use Rattle.names.specs.Name.{oneOf, isUmlaut, isVowel, isDecomposed, umlautOf, IsName, compose};
 ghost use Rattle.names.specs.Scan.{widthOf, partsEnd, nameEndAt, nameFits};
 ghost use Rattle.names.specs.Rows.{HoldNames, FirstLike, FirstName};
-ghost use Rattle.names.specs.Row.{diaeresisAt, row, Stretches};
+ghost use Rattle.names.specs.Row.{diaeresisAt, nameRow, Stretches};
 
 // Where a name ends: the position of the LF behind it.
 pub enum Ending {
@@ -203,7 +203,7 @@ pub fn compose_into(s: &[u8], start: usize, end: usize, rows: &mut [u8], at: usi
 // Whether the rows at a and at b are equal.
 fn same_row(rows: &[u8], a: usize, b: usize) -> bool
     requires { ⌜ (a + 24 ≤ length (now rows)) × (b + 24 ≤ length (now rows)) ⌝ }
-    ensures { λ r. ⌜ Decides r (row (now (rows .entry)) a ≡ row (now (rows .entry)) b) ⌝ }
+    ensures { λ r. ⌜ Decides r (nameRow (now (rows .entry)) a ≡ nameRow (now (rows .entry)) b) ⌝ }
 {
     for i in 0..24usize {
         if rows[a + i] != rows[b + i] {

@@ -11,7 +11,7 @@ use lib.Dec.{eqb, ltb}
 use lib.ListN.{length, List·getD-append}
 use lib.Seq.{getD-append-seam}
 use Rattle.lists.specs.AppendLaws.{length-more}
-use Rattle.lists.specs.Search.{same, First}
+use Rattle.lists.specs.Search.{same, IsFirst}
 use Rattle.lists.specs.SearchLaws.{same-is, same-self, Tells, first-found}
 use Rattle.lists.specs.Choice.{choose}
 use Rattle.automaton.specs.Automaton.{Automaton}
@@ -37,11 +37,11 @@ abbrev pub Listed : Automaton → List Tuple → Tuple → Type 0
 Listed A ts u = (i : ℕ) × (i < length ts) × (tupleAt A ts i ≡ u)
 
 -- the number of a tuple: it is listed there, or nowhere
-pub number-is : (A : Automaton) (u : Tuple) (ts : List Tuple)
+pub tuple-number-is : (A : Automaton) (u : Tuple) (ts : List Tuple)
     → ((tupleNumber u ts < length ts) × (tupleAt A ts (tupleNumber u ts) ≡ u)) ⊎ ((length ts ≤ tupleNumber u ts) × (Listed A ts u → ⊥))
-number-is A u ts = by (first-found (first A) u (sameTuple u) (tells-tuple u) ts) (decLt (tupleNumber u ts) (length ts))
+tuple-number-is A u ts = by (first-found (first A) u (sameTuple u) (tells-tuple u) ts) (decLt (tupleNumber u ts) (length ts))
   where
-    by : First (first A) ts u (tupleNumber u ts) → Dec (tupleNumber u ts < length ts)
+    by : IsFirst (first A) ts u (tupleNumber u ts) → Dec (tupleNumber u ts < length ts)
         → ((tupleNumber u ts < length ts) × (tupleAt A ts (tupleNumber u ts) ≡ u)) ⊎ ((length ts ≤ tupleNumber u ts) × (Listed A ts u → ⊥))
     by f (yes h) = inl (h, f .is h)
     by f (no h) = inr (omega arith, λ (i, l, e). f .first i (omega arith) e)
@@ -72,7 +72,7 @@ step-adds A c ts h l = rw (lt-ltb (c / 8) (length ts) h, lt-ltb (c % 8) (A .k) l
 
 pub stepped : (A : Automaton) (c : ℕ) (ts : List Tuple) → Stepped A c ts (step A c ts)
 unfolding addNew
-stepped A c ts = by (decLt (c / 8) (length ts)) (decLt (c % 8) (A .k)) (number-is A (entered A ts c) ts)
+stepped A c ts = by (decLt (c / 8) (length ts)) (decLt (c % 8) (A .k)) (tuple-number-is A (entered A ts c) ts)
   where
     u : Tuple
     u = entered A ts c

@@ -15,7 +15,7 @@ use borrow.Author.Tests.{lt-ltb, le-ltb}
 use Rattle.parser.specs.PhaseAnswers.{statesAnswer, FillsTable, NamesRead, NumbersRead, FileRead}
 use Rattle.names.specs.Rows.{HoldNames}
 use Rattle.automaton.specs.Graph.{InRange}
-use Rattle.frame.specs.declared.Place.{Place}
+use Rattle.frame.specs.declared.Position.{Position}
 use Rattle.parser.specs.declared.File.{File}
 use Rattle.parser.specs.declared.Names.the-variants as N
 use Rattle.parser.specs.declared.Sizes.{Sizes}
@@ -36,8 +36,8 @@ module _ (t : List ℕ) (zeros : t ≡ cleared t) (long : 128 ≤ length t) wher
       ap (λ (x : List ℕ). take 128 x) in-two ∙
       take-at (replicate 128 0) (replicate (length t - 128) 0) 128 (length-replicate {A = ℕ} 128 0)
 
-  pub rest-zero : drop 128 t ≡ replicate (length t - 128) 0
-  rest-zero =
+  pub behind-zero : drop 128 t ≡ replicate (length t - 128) 0
+  behind-zero =
       ap (λ (x : List ℕ). drop 128 x) in-two ∙
       drop-at (replicate 128 0) (replicate (length t - 128) 0) 128 (length-replicate {A = ℕ} 128 0)
 
@@ -76,7 +76,7 @@ refused-by-names k (refused number line) next t u old rows r e h = ((let d = e .
 refused-by-names k (passed y) next t u old rows r e h = absurd (let d = e .0 in let z : _≡_ {A = ℕ} 0 1 = cc in omega arith)
 
 -- what is known once they are read
-pub record NamesHanded (k : ℕ) (p : Phase Named) (old rows : List ℕ) (place : Place) : Type 0 where
+pub record NamesHanded (k : ℕ) (p : Phase Named) (old rows : List ℕ) (place : Position) : Type 0 where
   pub named : Named
   pub is : p ≡ passed named
   pub at : named .at ≡ place .at
@@ -87,7 +87,7 @@ pub record NamesHanded (k : ℕ) (p : Phase Named) (old rows : List ℕ) (place 
   pub holds : HoldNames (named .names) rows
   pub behind : drop (24 * k) rows ≡ drop (24 * k) old
 
-pub names-pass : (k : ℕ) (p : Phase Named) (old rows : List ℕ) (place : Place) → NamesRead k p old rows (N.Are place) → NamesHanded k p old rows place
+pub names-pass : (k : ℕ) (p : Phase Named) (old rows : List ℕ) (place : Position) → NamesRead k p old rows (N.Are place) → NamesHanded k p old rows place
 names-pass k (refused number line) old rows place e = absurd (let d = e .0 in let z : _≡_ {A = ℕ} 0 1 = cc in omega arith)
 names-pass k (passed y) old rows place e =
     let d : N.Are place ≡ N.Are (record { at = y .at; line = y .line }) = e .0 in
@@ -95,8 +95,8 @@ names-pass k (passed y) old rows place e =
     record {
       named = y;
       is = refl;
-      at = sym (ap (λ (p : Place). p .at) g);
-      line = sym (ap (λ (p : Place). p .line) g);
+      at = sym (ap (λ (p : Position). p .at) g);
+      line = sym (ap (λ (p : Position). p .line) g);
       small-line = rw g (e .1);
       small-at = rw g (e .2);
       all = e .3;

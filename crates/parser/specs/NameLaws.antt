@@ -19,7 +19,7 @@ use Rattle.names.specs.Scan.{nameEndAt}
 use Rattle.names.specs.ScanLaws.{name-is, name-ends}
 use Rattle.names.specs.declared.Ending.{Ending}
 use Rattle.names.specs.declared.Ending.the-variants as E
-use Rattle.format.specs.Format.{nameLine, nameLines, Distinct, NamesRight, NameFault, wrong-name, name-twice}
+use Rattle.format.specs.Format.{nameLine, nameLines, DistinctFrom, NamesRight, NameFault, wrong-name, name-twice}
 use Rattle.format.specs.FormatLaws.{name-parted, name-behind, name-rest}
 use Rattle.parser.specs.Parse.{Named, nameLineAt, namesAt}
 use Rattle.frame.specs.Phase.{Phase, refused, passed}
@@ -88,7 +88,7 @@ abbrev pub NamesOutcome : List ℕ → ℕ → ℕ → List (List ℕ) → ℕ �
 NamesOutcome s line at earlier todo (refused number at-line) = NamesRefused s line at earlier todo number at-line
 NamesOutcome s line at earlier todo (passed p) = NamesPassed s line at earlier todo p
 
-module _ (s : List ℕ) (line at : ℕ) (earlier : List (List ℕ)) (todo e : ℕ) (h : NameLine s at (length earlier) e) (d : Distinct earlier (stretch s (at + 5) e)) where
+module _ (s : List ℕ) (line at : ℕ) (earlier : List (List ℕ)) (todo e : ℕ) (h : NameLine s at (length earlier) e) (d : DistinctFrom earlier (stretch s (at + 5) e)) where
   -- a line more in front
   names-step : (p : Phase Named) →
       NamesOutcome s (line + 1) (e + 1) (earlier ++ (stretch s (at + 5) e ∷ [])) todo p → NamesOutcome s line at earlier (suc todo) p
@@ -184,7 +184,7 @@ module _ (s : List ℕ) (line at : ℕ) (earlier : List (List ℕ)) (todo : ℕ)
       let w : nameLineAt s at (length (map compose earlier)) ≡ E.At e = rw length-map h in
       simp w
 
-  name-next : (x rest : List ℕ) → IsName x → Distinct earlier x → drop at s ≡ nameLine (length earlier) x ++ rest →
+  name-next : (x rest : List ℕ) → IsName x → DistinctFrom earlier x → drop at s ≡ nameLine (length earlier) x ++ rest →
       namesAt s line at (map compose earlier) (suc todo) ≡
       namesAt s (line + 1) (at + 5 + length x + 1) (map compose (earlier ++ (x ∷ []))) todo
   name-next x rest is d e =
@@ -211,7 +211,7 @@ pub record NamesAlong (s rest : List ℕ) (names : List (List ℕ)) (todo line a
 -- a line more in front
 along-step :
     (s rest : List ℕ) (names : List (List ℕ)) (todo line at : ℕ) (earlier : List (List ℕ)) (x after : List ℕ) →
-    length earlier < 1000 → IsName x → Distinct earlier x → drop at s ≡ nameLine (length earlier) x ++ after →
+    length earlier < 1000 → IsName x → DistinctFrom earlier x → drop at s ≡ nameLine (length earlier) x ++ after →
     NamesAlong s rest names todo (line + 1) (at + 5 + length x + 1) (earlier ++ (x ∷ [])) →
     NamesAlong s rest (x ∷ names) todo line at earlier
 along-step s rest names todo line at earlier x after few is d e go =

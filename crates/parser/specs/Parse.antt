@@ -14,7 +14,7 @@ use Rattle.names.specs.Scan.{nameEndAt}
 use Rattle.names.specs.declared.Ending.{Ending}
 use Rattle.names.specs.declared.Ending.the-variants as E
 use Rattle.automaton.specs.Automaton.{Automaton}
-use Rattle.format.specs.Format.{Transition, sheetWord, mostSheet, place}
+use Rattle.format.specs.Format.{Transition, sheetWord, mostSheet, transitionIndex}
 use Rattle.format.specs.Numbers.{inserted}
 use Rattle.frame.specs.Phase.{Phase, refused, passed, andThen, firstPhase, endAt}
 use Rattle.names.specs.Scan.{withEnding}
@@ -97,7 +97,7 @@ statesAt s line at q initial recurring (suc todo) =
 -- a transition in range whose place is not below `least`
 unfoldable pub transitionOf : ℕ → ℕ → ℕ → ℕ → ℕ → ℕ → TransitionLine
 transitionOf n k least from letter to =
-    choose (ltb from n && (ltb letter k && (ltb to n && leb least (place (record { from = from; letter = letter; to = to })))))
+    choose (ltb from n && (ltb letter k && (ltb to n && leb least (transitionIndex (record { from = from; letter = letter; to = to })))))
     (T.Is from letter to) T.Bad
 
 -- the line of a transition, behind its T
@@ -120,7 +120,7 @@ transitionStep s n k line at least table go =
 unfoldable pub transitionsAt : List ℕ → ℕ → ℕ → ℕ → ℕ → ℕ → List ℕ → ℕ → Phase (List ℕ)
 transitionsAt s n k line at least table zero = refused 9 line
 transitionsAt s n k line at least table (suc fuel) =
-    transitionStep s n k line at least table (λ t. transitionsAt s n k (line + 1) (at + 11) (place t + 1) (inserted table t) fuel)
+    transitionStep s n k line at least table (λ t. transitionsAt s n k (line + 1) (at + 11) (transitionIndex t + 1) (inserted table t) fuel)
 
 -- THE WHOLE FILE
 

@@ -8,7 +8,7 @@ use lib.Pow.{pow-add}
 use native.Mathlib.Nat.{one-mul, mul-le-mul-right, sub-eq-zero-of-le}
 use native.Mathlib.Omega.{arith}
 use borrow.Author.Tests.{eq-eqb, ne-eqb}
-use Rattle.format.specs.Format.{place}
+use Rattle.format.specs.Format.{transitionIndex}
 use Rattle.format.specs.Numbers.{inserted}
 use Rattle.parser.specs.Parse.{withFlags, stateLineAt, statesAt, withTransition, transitionLineAt, transitionsAt, nameLineAt, namesAt}
 use Rattle.frame.specs.Phase.{refused, passed, endAt}
@@ -58,7 +58,7 @@ module _ (s : List ℕ) (n k line at least : ℕ) (table : List ℕ) (f g : ℕ)
   pub transitions-turn :
       {w : TransitionLine} → getD s at 0 ≡ 84 → transitionLineAt s at n k least ≡ w →
       transitionsAt s n k line at least table g ≡
-      withTransition w (λ t. transitionsAt s n k (line + 1) (at + 11) (place t + 1) (inserted table t) f) (refused 8 line)
+      withTransition w (λ t. transitionsAt s n k (line + 1) (at + 11) (transitionIndex t + 1) (inserted table t) f) (refused 8 line)
   unfolding transitionsAt
   transitions-turn t e = rw h (simp (eq-eqb _ _ t, e))
 

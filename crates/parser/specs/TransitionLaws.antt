@@ -13,7 +13,7 @@ use native.Mathlib.Nat.{zero-add, add-zero, suc-add}
 use Rattle.lists.specs.Choice.{choose}
 use Rattle.text.specs.Number.{numberAt}
 use Rattle.text.specs.declared.Number.the-variants as N
-use Rattle.format.specs.Format.{Transition, transitionLine, transitionLines, endLine, place, TransitionRight, TransitionsRight, leastAfter, EndFault, wrong-transition, no-end, not-last}
+use Rattle.format.specs.Format.{Transition, transitionLine, transitionLines, endLine, transitionIndex, TransitionRight, TransitionsRight, leastAfter, EndFault, wrong-transition, no-end, not-last}
 use Rattle.format.specs.Numbers.{inserted, tableOf}
 use Rattle.format.specs.FormatLaws.{transition-length, transition-behind}
 use Rattle.format.specs.NumbersLaws.{transition}
@@ -56,7 +56,7 @@ module _ (n k least : ℕ) where
       let h1 = ltb-true from n (e1 .0) in
       let h2 = ltb-true letter k (e2 .0) in
       let h3 = ltb-true to n (e3 .0) in
-      let h4 = leb-true least (place (transition from letter to)) (e3 .1) in
+      let h4 = leb-true least (transitionIndex (transition from letter to)) (e3 .1) in
       (record { from = omega arith; letter = omega arith; to = omega arith; order = omega arith }, a, b, c)
 
   module _ (s : List ℕ) (at : ℕ) where
@@ -114,7 +114,7 @@ module _ (s : List ℕ) (n k line at least : ℕ) (table : List ℕ) where
 -- a line more in front
 transitions-step :
     (s : List ℕ) (n k line at least : ℕ) (table : List ℕ) (t : Transition) → TransitionRight n k least t → drop at s ≡ transitionLine t ++ drop (at + 11) s → (p : Phase (List ℕ)) →
-    TransitionsOutcome s n k (line + 1) (at + 11) (place t + 1) (inserted table t) p → TransitionsOutcome s n k line at least table p
+    TransitionsOutcome s n k (line + 1) (at + 11) (transitionIndex t + 1) (inserted table t) p → TransitionsOutcome s n k line at least table p
 unfolding transitionLines tableOf
 transitions-step s n k line at least table t r e (passed p) h =
     record { transitions = t ∷ h .transitions; right = (r, h .right); text = e ∙ rw (h .text, append-assoc); filled = h .filled }
@@ -130,13 +130,13 @@ transitions-outcome s n k hn hk zero line at least table h =
     let z : drop at s ≡ [] = drop-of-length-le s {i = at} (omega arith) in
     at-once s n k line at least table (rw z (no-end (λ e. omega arith) (λ after e. (let o : _≡_ {A = ℕ} 0 1 = cc in omega arith))))
 transitions-outcome s n k hn hk (suc fuel) line at least table h =
-    by (eqb (getD s at 0) 84) refl (λ t. transitions-outcome s n k hn hk fuel (line + 1) (at + 11) (place t + 1) (inserted table t) (omega arith))
+    by (eqb (getD s at 0) 84) refl (λ t. transitions-outcome s n k hn hk fuel (line + 1) (at + 11) (transitionIndex t + 1) (inserted table t) (omega arith))
   where
     Next : Transition → Type 0
-    Next t = TransitionsOutcome s n k (line + 1) (at + 11) (place t + 1) (inserted table t) (transitionsAt s n k (line + 1) (at + 11) (place t + 1) (inserted table t) fuel)
+    Next t = TransitionsOutcome s n k (line + 1) (at + 11) (transitionIndex t + 1) (inserted table t) (transitionsAt s n k (line + 1) (at + 11) (transitionIndex t + 1) (inserted table t) fuel)
 
     go : Transition → Phase (List ℕ)
-    go t = transitionsAt s n k (line + 1) (at + 11) (place t + 1) (inserted table t) fuel
+    go t = transitionsAt s n k (line + 1) (at + 11) (transitionIndex t + 1) (inserted table t) fuel
 
     line-by : getD s at 0 ≡ 84 → (w : TransitionLine) → transitionLineAt s at n k least ≡ w → ((t : Transition) → Next t) →
         TransitionsOutcome s n k line at least table (withTransition w go (refused 8 line))
@@ -166,7 +166,7 @@ transitions-along s rest n k hn hk (t ∷ ts) fuel line at least table h e =
     let e1 : drop at s ≡ transitionLine t ++ (transitionLines ts ++ rest) = rw append-assoc at e in
     let w = transition-line-of n k least s at t (transitionLines ts ++ rest) hn hk (h .0) e1 in
     let e2 : drop (at + 11) s ≡ transitionLines ts ++ rest = rw transition-length at (stretch-rest s at (transitionLine t) (transitionLines ts ++ rest) e1) in
-    let go = transitions-along s rest n k hn hk ts fuel (line + 1) (at + 11) (place t + 1) (inserted table t) (h .1) e2 in
+    let go = transitions-along s rest n k hn hk ts fuel (line + 1) (at + 11) (transitionIndex t + 1) (inserted table t) (h .1) e2 in
     let a1 : line + 1 + length ts ≡ line + suc (length ts) = omega arith in
     let a2 = transition-behind at t ts in
     rw suc-add (simp (eq-eqb _ _ (w .0), w .1) (go ∙ rw (a1, a2)))

@@ -10,7 +10,7 @@ use Rattle.lists.specs.AppendLaws.{append-same}
 use Rattle.names.specs.Name.{IsName}
 use Rattle.names.specs.declared.Ending.the-variants as E
 use Rattle.automaton.specs.Graph.{InRange}
-use Rattle.format.specs.Format.{State, Transition, Sheet, headLine, nameLine, stateLine, transitionLine, nameLines, stateLines, transitionLines, endLine, NamesRight, FlagsRight, StatesRight, place, TransitionRight, TransitionsRight, FileIs, Faulty}
+use Rattle.format.specs.Format.{State, Transition, Sheet, headLine, nameLine, stateLine, transitionLine, nameLines, stateLines, transitionLines, endLine, NamesRight, FlagsRight, StatesRight, transitionIndex, TransitionRight, TransitionsRight, FileIs, Faulty}
 use Rattle.format.specs.NumbersLaws.{loosened}
 use Rattle.format.specs.FormatLaws.{head-length, name-length, state-length, transition-length, lines-parted}
 use Rattle.parser.specs.declared.Sizes.{Sizes}
@@ -108,7 +108,7 @@ transitions-same n k hn hk least other (u ∷ us) [] h g e = absurd (end-is-no-t
 transitions-same n k hn hk least other (u ∷ us) (v ∷ vs) h g e =
     let f : transitionLine u ++ (transitionLines us ++ endLine) ≡ transitionLine v ++ (transitionLines vs ++ endLine) = sym (append-assoc (transitionLine u) (transitionLines us) endLine) ∙ (e ∙ append-assoc (transitionLine v) (transitionLines vs) endLine) in
     let (a, b) = transition-same (transitionLines us ++ endLine) (transitionLines vs ++ endLine) n k u v hn hk (loosened (h .0)) (loosened (g .0)) f in
-    ap₂ _∷_ a (transitions-same n k hn hk (place u + 1) (place v + 1) us vs (h .1) (g .1) b)
+    ap₂ _∷_ a (transitions-same n k hn hk (transitionIndex u + 1) (transitionIndex v + 1) us vs (h .1) (g .1) b)
 
 -- ONE SHEET
 pub file-unique : (s : List ℕ) (σ τ : Sheet) → FileIs s σ → FileIs s τ → σ ≡ τ

@@ -5,7 +5,7 @@ mod transition_lines;
 pub mod whole_file;
 
 use automaton::Numbers;
-use frame::Place;
+use frame::Position;
 use gate::Refusal;
 
 // The most bytes that a sheet may have.
@@ -20,7 +20,7 @@ pub struct Sizes {
 // The answer of the name lines.
 pub enum Names {
     Refused(Refusal),
-    Are(Place),
+    Are(Position),
 }
 
 // The initial and the must-recur flag of a state line.

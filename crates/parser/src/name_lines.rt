@@ -7,7 +7,7 @@ ghost use Rattle.names.specs.Scan.{nameFits};
 ghost use Rattle.parser.specs.Parse.{nameLineAt, namesAt};
 ghost use Rattle.parser.specs.PhaseAnswers.{NamesRead};
 use super::Names;
-use frame::Place;
+use frame::Position;
 use gate::Refusal;
 use names::Ending;
 
@@ -52,5 +52,5 @@ pub fn read_names(s: &[u8], k: usize, rows: &mut [u8]) -> Names
         at = e + 1;
         l += 1;
     }
-    Names::Are(Place { at, line })
+    Names::Are(Position { at, line })
 }

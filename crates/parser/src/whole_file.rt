@@ -19,12 +19,12 @@ use automaton::Numbers;
 use frame::Bounds;
 use frame::End;
 use frame::First;
-use frame::Place;
+use frame::Position;
 use frame::first_line;
 use gate::Refusal;
 
 // The state lines and what follows, behind the name lines. A refusal leaves the table all zero.
-fn read_numbers(s: &[u8], z: Sizes, place: Place, table: &mut [u16]) -> File
+fn read_numbers(s: &[u8], z: Sizes, place: Position, table: &mut [u16]) -> File
     requires { ⌜ (length (now s) ≤ mostSheet) × InRange (z .n) (z .k) × (place .line ≤ 10) × (place .at ≤ 252)
         × (128 ≤ length (now table)) × (now table ≡ cleared (now table)) ⌝ }
     ensures { λ r. ⌜ ((y : Named) → y .at ≡ place .at → y .line ≡ place .line

@@ -7,14 +7,14 @@ use native.Mathlib.Decide.{decLt}
 use Rattle.automaton.specs.Automaton.{Automaton, Fits}
 use Rattle.tuple.specs.Step.{Tuple, run, colourEntered}
 use Rattle.numbering.specs.Numbering.{tupleAt, Numbering}
-use Rattle.filling.specs.Store.{Store, RoomFits, Fitted}
+use Rattle.filling.specs.TrackerTables.{TrackerTables, EnoughForTracker, Fitted}
 use Rattle.filling.specs.FittedLaws.{fitted-colour, fitted-next, fitted-room}
 use Rattle.passes.specs.declared.Verdict.{Verdict}
 use Rattle.passes.specs.Passes.{LeastOf, Judges}
 use Rattle.passes.specs.TableRun.{TablesFit, reached, enteredIn, TableJudges}
 
 -- The tables g hold the tracker of A
-module _ {A : Automaton} (fits : Fits A) (room count : ℕ) (f g : Store) (fitted : Fitted A room f g count) where
+module _ {A : Automaton} (fits : Fits A) (room count : ℕ) (f g : TrackerTables) (fitted : Fitted A room f g count) where
   abbrev ts : List Tuple
   ts = fitted .list
 
@@ -34,7 +34,7 @@ module _ {A : Automaton} (fits : Fits A) (room count : ℕ) (f g : Store) (fitte
       ]
 
   -- the tables are fit to be judged on
-  pub tables-fit : RoomFits room f → TablesFit (g .tuples) (g .nexts) count
+  pub tables-fit : EnoughForTracker room f → TablesFit (g .tuples) (g .nexts) count
   tables-fit roomy = record { room = fitted-room A fits room count f g fitted roomy; numbers = fitted-next A fits room count f g fitted }
 
   module _ (w : ℕ → ℕ) (letters : (t : ℕ) → w t < A .k) where

@@ -5,7 +5,7 @@ use mathlib.Core.Path.{_≡_}
 use mathlib.Core.List.{List}
 use lib.ListN.{length, getD, take, drop}
 use Rattle.passes.specs.Letter.{letterAt}
-use Rattle.filling.specs.Store.{store, RoomFits}
+use Rattle.filling.specs.TrackerTables.{trackerTables, EnoughForTracker}
 use Rattle.passes.specs.declared.Pass.{Pass}
 use Rattle.passes.specs.declared.Verdict.{Verdict}
 use Rattle.passes.specs.Passes.{FirstRepeat, LeastOf, AnswerIs}
@@ -16,7 +16,7 @@ AllBelow cells m = (i : ℕ) → getD cells i 0 < m
 
 -- what judging asks of the tables of `count` tuples: that they are there, and every next number is one of theirs
 pub record TablesFit (tuples nexts : List ℕ) (count : ℕ) : Type 0 where
-  pub room : RoomFits count (store tuples nexts)
+  pub room : EnoughForTracker count (trackerTables tuples nexts)
   pub numbers : AllBelow nexts count
 
 -- and of the letters: the lead-in's, then the cycle's, each one of 8

@@ -7,7 +7,7 @@ use Rattle.gate.specs.Gate.{refusal, cleared}
 use Rattle.frame.specs.Phase.{Phase, refused, passed}
 use Rattle.frame.specs.declared.End.{End}
 use Rattle.frame.specs.declared.End.the-variants as E
-use Rattle.plan.specs.declared.Lengths.{Lengths}
+use Rattle.plan.specs.declared.PlanLengths.{PlanLengths}
 use Rattle.plan.specs.declared.LetterLine.{LetterLine}
 use Rattle.plan.specs.declared.LetterLine.the-variants as L
 use Rattle.plan.specs.declared.Letters.{Letters}
@@ -15,7 +15,7 @@ use Rattle.plan.specs.declared.Letters.the-variants as A
 use Rattle.plan.specs.declared.Planned.{Planned}
 use Rattle.plan.specs.declared.Planned.the-variants as P
 use Rattle.plan.specs.Plan.{LengthsRight}
-use Rattle.plan.specs.Parse.{lengths, Lettered, Contents}
+use Rattle.plan.specs.Parse.{lengths, Lettered, PlanContents}
 
 -- lengths that are read are in range
 abbrev pub LengthsFit : Planned → Type 0
@@ -39,11 +39,11 @@ LettersRead (refused number line) count t u r = (r ≡ A.Refused (refusal number
 LettersRead (passed y) count t u r = (r ≡ A.Are (record { at = y .at; line = y .line })) × (u ≡ y .letters ++ drop count t)
 
 -- the answer of a plan of lengths z, by that of its last line
-abbrev pub planned : Lengths → End → Planned
+abbrev pub planned : PlanLengths → End → Planned
 planned z (E.Refused r) = P.Refused r
 planned z E.Reached = P.Is z
 
 -- the answer of a plan, and the buffer: all zero, or the letters, and behind them what was there
-abbrev pub PlanRead : Phase Contents → List ℕ → List ℕ → Planned → Type 0
+abbrev pub PlanRead : Phase PlanContents → List ℕ → List ℕ → Planned → Type 0
 PlanRead (refused number line) t u r = (r ≡ P.Refused (refusal number line)) × (u ≡ cleared t)
 PlanRead (passed x) t u r = (r ≡ P.Is (lengths (x .lead) (x .cycle))) × (u ≡ x .letters ++ drop (x .lead + x .cycle) t)

@@ -7,43 +7,43 @@ use lib.ListN.{length, take, drop, length-append}
 use lib.Seq.{take-append-seam, drop-append-seam}
 use native.Mathlib.Omega.{arith}
 use Rattle.text.specs.BytesLaws.{stretch-rest}
-use Rattle.text.specs.LineLaws.{numbers-length}
+use Rattle.text.specs.LineLaws.{numbersLine-length}
 use Rattle.names.specs.Name.{compose}
 use Rattle.format.specs.Format.{Sheet, NamesRight, endLine}
 use Rattle.frame.specs.Phase.{refused, passed, andThen}
 use Rattle.frame.specs.EndLaws.{end-missing, end-behind, end-read}
-use Rattle.plan.specs.Plan.{planWord, planHead, nameLines, PlanIs, Above, NameFault, Faulty}
-use Rattle.plan.specs.Parse.{lengths, lettered, lettersAt, endOf, contents, afterHead, planOf}
-use Rattle.plan.specs.HeadLaws.{head-right, head-range, head-form}
+use Rattle.plan.specs.Plan.{planWord, planHead, planLines, PlanIs, PlanAbove, PlanNameFault, PlanFaulty}
+use Rattle.plan.specs.Parse.{lengths, lettered, lettersAt, endOf, planContents, afterPlanHead, planOf}
+use Rattle.plan.specs.HeadLaws.{plan-head-right, plan-head-range, plan-head-form}
 use Rattle.plan.specs.LineLaws.{letters-fault, letters-along}
 use Rattle.plan.specs.KnownLaws.{known-length}
 
 head-length : (lead cycle : ℕ) → length (planHead lead cycle) ≡ 11
 unfolding planHead
-head-length lead cycle = numbers-length planWord (lead ∷ cycle ∷ [])
+head-length lead cycle = numbersLine-length planWord (lead ∷ cycle ∷ [])
 
 module _ (σ : Sheet) (all : length (σ .names) ≡ σ .k) (right : NamesRight [] (σ .names)) where
   abbrev composed : List (List ℕ)
   composed = map compose (σ .names)
 
   -- behind the first line and some known names
-  module _ (p : List ℕ) (lead cycle : ℕ) (names : List (List ℕ)) (rest : List ℕ) (above : Above σ p lead cycle names rest) where
-    after-head : drop 11 p ≡ nameLines names ++ rest
-    after-head = rw head-length at (stretch-rest p 0 (planHead lead cycle) (nameLines names ++ rest) (above .text))
+  module _ (p : List ℕ) (lead cycle : ℕ) (names : List (List ℕ)) (rest : List ℕ) (above : PlanAbove σ p lead cycle names rest) where
+    after-head : drop 11 p ≡ planLines names ++ rest
+    after-head = rw head-length at (stretch-rest p 0 (planHead lead cycle) (planLines names ++ rest) (above .text))
 
-    plan-head : planOf composed p ≡ afterHead composed p (lengths lead cycle)
+    plan-head : planOf composed p ≡ afterPlanHead composed p (lengths lead cycle)
     unfolding planOf
-    plan-head = simp (head-right p lead cycle (nameLines names ++ rest) (above .range) (above .text))
+    plan-head = simp (plan-head-right p lead cycle (planLines names ++ rest) (above .range) (above .text))
 
     -- a name is due
-    name-fault : {number : ℕ} → length names < lead + cycle → NameFault σ rest number → planOf composed p ≡ refused number (2 + length names)
+    name-fault : {number : ℕ} → length names < lead + cycle → PlanNameFault σ rest number → planOf composed p ≡ refused number (2 + length names)
     name-fault {number} due f =
         let left = lead + cycle - (1 + length names) in
         let (behind, text, goes) = letters-along σ all right p rest (suc left) 2 11 [] (above .known) after-head in
         let e : length names + suc left ≡ lead + cycle = omega arith in
         let w : lettersAt composed p 2 11 [] (lead + cycle) ≡ refused number (2 + length names) =
         ap (lettersAt composed p 2 11 []) (sym e)
-        ∙ (goes ∙ letters-fault σ all p (2 + length names) behind ([] ++ above .letters) left (subst (λ (r : List ℕ). NameFault σ r number) (sym text) f)) in
+        ∙ (goes ∙ letters-fault σ all p (2 + length names) behind ([] ++ above .letters) left (subst (λ (r : List ℕ). PlanNameFault σ r number) (sym text) f)) in
         plan-head ∙ simp w
 
     none-left : (behind : ℕ) → lettersAt composed p (2 + length names) behind (above .letters) 0 ≡ passed (lettered (above .letters) behind (2 + length names))
@@ -52,7 +52,7 @@ module _ (σ : Sheet) (all : length (σ .names) ≡ σ .k) (right : NamesRight [
 
     -- END is due
     end-due : length names ≡ lead + cycle → (behind : ℕ) × (drop behind p ≡ rest)
-        × (planOf composed p ≡ andThen (endOf p (lettered (above .letters) behind (2 + length names))) (λ letters. passed (contents (lengths lead cycle) letters)))
+        × (planOf composed p ≡ andThen (endOf p (lettered (above .letters) behind (2 + length names))) (λ letters. passed (planContents (lengths lead cycle) letters)))
     end-due due =
         let (behind, text, goes) = letters-along σ all right p rest 0 2 11 [] (above .known) after-head in
         let e : length names + 0 ≡ lead + cycle = omega arith in
@@ -73,45 +73,45 @@ module _ (σ : Sheet) (all : length (σ .names) ≡ σ .k) (right : NamesRight [
         let n : 2 + length names + 1 ≡ 3 + length names = omega arith in
         goes ∙ simp (end-behind p behind 12 (2 + length names) (above .letters) after (text ∙ ends) some, n)
 
-    is-last : rest ≡ endLine → length names ≡ lead + cycle → planOf composed p ≡ passed (contents (lengths lead cycle) (above .letters))
+    is-last : rest ≡ endLine → length names ≡ lead + cycle → planOf composed p ≡ passed (planContents (lengths lead cycle) (above .letters))
     unfolding endOf
     is-last ends due =
         let (behind, text, goes) = end-due due in
         goes ∙ simp (end-read p behind 12 (2 + length names) (above .letters) (text ∙ ends))
 
   -- A FAULT is the refusal
-  pub fault-read : (p : List ℕ) (number line : ℕ) → Faulty σ p number line → planOf composed p ≡ refused number line
+  pub fault-read : (p : List ℕ) (number line : ℕ) → PlanFaulty σ p number line → planOf composed p ≡ refused number line
   unfolding planOf
-  fault-read p number line (Faulty.head f) = simp (head-form p f)
-  fault-read p number line (Faulty.range lead cycle rest h g e out) = simp (head-range p lead cycle rest h g e out)
-  fault-read p number line (Faulty.name lead cycle names rest above due f) = name-fault p lead cycle names rest above due f
-  fault-read p number line (Faulty.end lead cycle names rest above due f) = no-end p lead cycle names rest above due f
-  fault-read p number line (Faulty.behind lead cycle names after above due some) =
+  fault-read p number line (PlanFaulty.head f) = simp (plan-head-form p f)
+  fault-read p number line (PlanFaulty.range lead cycle rest h g e out) = simp (plan-head-range p lead cycle rest h g e out)
+  fault-read p number line (PlanFaulty.name lead cycle names rest above due f) = name-fault p lead cycle names rest above due f
+  fault-read p number line (PlanFaulty.end lead cycle names rest above due f) = no-end p lead cycle names rest above due f
+  fault-read p number line (PlanFaulty.behind lead cycle names after above due some) =
       not-last p lead cycle names (endLine ++ after) above after refl due some
 
   -- A PLAN is read
-  pub plan-read : (p lead cycle : List ℕ) → PlanIs σ p lead cycle → planOf composed p ≡ passed (contents (lengths (length lead) (length cycle)) (lead ++ cycle))
+  pub plan-read : (p lead cycle : List ℕ) → PlanIs σ p lead cycle → planOf composed p ≡ passed (planContents (lengths (length lead) (length cycle)) (lead ++ cycle))
   plan-read p lead cycle h =
       is-last p (length lead) (length cycle) (h .names) endLine
       (record { range = h .range; letters = lead ++ cycle; known = h .known; text = h .text }) refl
       (sym (known-length σ (h .known)) ∙ length-append lead cycle)
 
   -- So a file has one fault, one plan, and not both
-  pub fault-unique : (p : List ℕ) (n l m k : ℕ) → Faulty σ p n l → Faulty σ p m k → (n ≡ m) × (l ≡ k)
-  fault-unique p n l m k f g = let e : refused n l ≡ refused m k = sym (fault-read p n l f) ∙ fault-read p m k g in (cc, cc)
+  pub plan-fault-unique : (p : List ℕ) (n l m k : ℕ) → PlanFaulty σ p n l → PlanFaulty σ p m k → (n ≡ m) × (l ≡ k)
+  plan-fault-unique p n l m k f g = let e : refused n l ≡ refused m k = sym (fault-read p n l f) ∙ fault-read p m k g in (cc, cc)
 
-  pub plan-or-fault : (p lead cycle : List ℕ) (n l : ℕ) → PlanIs σ p lead cycle → Faulty σ p n l → ⊥
+  pub plan-or-fault : (p lead cycle : List ℕ) (n l : ℕ) → PlanIs σ p lead cycle → PlanFaulty σ p n l → ⊥
   plan-or-fault p lead cycle n l h f =
-      let e : passed (contents (lengths (length lead) (length cycle)) (lead ++ cycle)) ≡ refused n l = sym (plan-read p lead cycle h) ∙ fault-read p n l f in
+      let e : passed (planContents (lengths (length lead) (length cycle)) (lead ++ cycle)) ≡ refused n l = sym (plan-read p lead cycle h) ∙ fault-read p n l f in
       let z : _≡_ {A = ℕ} 0 1 = cc in omega arith
 
   pub plan-unique : (p lead cycle lead′ cycle′ : List ℕ) → PlanIs σ p lead cycle → PlanIs σ p lead′ cycle′ → (lead ≡ lead′) × (cycle ≡ cycle′)
   plan-unique p lead cycle lead′ cycle′ h g = parted (read (sym (plan-read p lead cycle h) ∙ plan-read p lead′ cycle′ g))
     where
-      read : passed (contents (lengths (length lead) (length cycle)) (lead ++ cycle)) ≡ passed (contents (lengths (length lead′) (length cycle′)) (lead′ ++ cycle′))
+      read : passed (planContents (lengths (length lead) (length cycle)) (lead ++ cycle)) ≡ passed (planContents (lengths (length lead′) (length cycle′)) (lead′ ++ cycle′))
           → (length lead ≡ length lead′) × (lead ++ cycle ≡ lead′ ++ cycle′)
       read e =
-          let f : contents (lengths (length lead) (length cycle)) (lead ++ cycle) ≡ contents (lengths (length lead′) (length cycle′)) (lead′ ++ cycle′) = cc in
+          let f : planContents (lengths (length lead) (length cycle)) (lead ++ cycle) ≡ planContents (lengths (length lead′) (length cycle′)) (lead′ ++ cycle′) = cc in
           (ap (λ x. x .lead) f, ap (λ x. x .letters) f)
 
       parted : (length lead ≡ length lead′) × (lead ++ cycle ≡ lead′ ++ cycle′) → (lead ≡ lead′) × (cycle ≡ cycle′)

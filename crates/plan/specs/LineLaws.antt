@@ -23,7 +23,7 @@ use Rattle.sheet.specs.Letters.{StandsFor}
 use Rattle.frame.specs.Phase.{Phase, refused, passed}
 use Rattle.names.specs.Scan.{withEnding}
 use Rattle.names.specs.Rows.{letterOf}
-use Rattle.plan.specs.Plan.{nameLines, Known, none, more, NameFault, wrong-name, unknown-name}
+use Rattle.plan.specs.Plan.{planLines, Known, none, more, PlanNameFault, wrong-name, unknown-name}
 use Rattle.plan.specs.declared.LetterLine.{LetterLine}
 use Rattle.plan.specs.declared.LetterLine.the-variants as L
 use Rattle.plan.specs.Parse.{Lettered, letterFrom, letterLineAt, withLetter, lettersAt}
@@ -35,7 +35,7 @@ pub record LettersPassed (σ : Sheet) (p : List ℕ) (line at : ℕ) (before : L
   pub letters : List ℕ
   pub known : Known σ names letters
   pub count : length names ≡ todo
-  pub text : drop at p ≡ nameLines names ++ drop (y .at) p
+  pub text : drop at p ≡ planLines names ++ drop (y .at) p
   pub next : y .line ≡ line + length names
   pub are : y .letters ≡ before ++ letters
 
@@ -45,9 +45,9 @@ pub record LettersRefused (σ : Sheet) (p : List ℕ) (line at todo number at-li
   pub rest : List ℕ
   pub known : Known σ names letters
   pub count : length names < todo
-  pub text : drop at p ≡ nameLines names ++ rest
+  pub text : drop at p ≡ planLines names ++ rest
   pub here : at-line ≡ line + length names
-  pub fault : NameFault σ rest number
+  pub fault : PlanNameFault σ rest number
 
 abbrev pub LettersOutcome : Sheet → List ℕ → ℕ → ℕ → List ℕ → ℕ → Phase Lettered → Type 0
 LettersOutcome σ p line at before todo (refused number at-line) = LettersRefused σ p line at todo number at-line
@@ -56,7 +56,7 @@ LettersOutcome σ p line at before todo (passed y) = LettersPassed σ p line at 
 module _ (σ : Sheet) (p : List ℕ) (line at : ℕ) (before : List ℕ) (todo e l : ℕ) (h : NameAt p at e) (known : StandsFor σ (stretch p at e) l) where
   -- a line more in front
   letters-step : (w : Phase Lettered) → LettersOutcome σ p (line + 1) (e + 1) (before ++ (l ∷ [])) todo w → LettersOutcome σ p line at before (suc todo) w
-  unfolding nameLines
+  unfolding planLines
   letters-step (passed y) g = record {
     names = stretch p at e ∷ g .names;
     letters = l ∷ g .letters;
@@ -84,8 +84,8 @@ module _ (σ : Sheet) (all : length (σ .names) ≡ σ .k) where
   -- ONE LINE
   abbrev LineOutcome : List ℕ → ℕ → LetterLine → Type 0
   LineOutcome p at (L.Is l e) = NameAt p at e × StandsFor σ (stretch p at e) l
-  LineOutcome p at L.Unknown = NameFault σ (drop at p) 14
-  LineOutcome p at L.Bad = NameFault σ (drop at p) 12
+  LineOutcome p at L.Unknown = PlanNameFault σ (drop at p) 14
+  LineOutcome p at L.Bad = PlanNameFault σ (drop at p) 12
 
   line-outcome : (p : List ℕ) (at : ℕ) → LineOutcome p at (letterLineAt composed p at)
   unfolding letterLineAt
@@ -105,7 +105,7 @@ module _ (σ : Sheet) (all : length (σ .names) ≡ σ .k) where
 
   -- THE PHASE
   pub letters-outcome : (p : List ℕ) (todo line at : ℕ) (before : List ℕ) → LettersOutcome σ p line at before todo (lettersAt composed p line at before todo)
-  unfolding lettersAt nameLines
+  unfolding lettersAt planLines
   letters-outcome p zero line at before =
       record { names = []; letters = []; known = none; count = refl; text = refl; next = omega arith; are = rw append-nil }
   letters-outcome p (suc todo) line at before =
@@ -115,7 +115,7 @@ module _ (σ : Sheet) (all : length (σ .names) ≡ σ .k) where
       go l e = lettersAt composed p (line + 1) (e + 1) (before ++ (l ∷ [])) todo
 
       -- nothing of the phase is read yet
-      at-once : {number : ℕ} → NameFault σ (drop at p) number → LettersRefused σ p line at (suc todo) number line
+      at-once : {number : ℕ} → PlanNameFault σ (drop at p) number → LettersRefused σ p line at (suc todo) number line
       at-once f = record { names = []; letters = []; rest = drop at p; known = none; count = omega arith; text = refl; here = omega arith; fault = f }
 
       by : (w : LetterLine) → LineOutcome p at w → ((l e : ℕ) → LettersOutcome σ p (line + 1) (e + 1) (before ++ (l ∷ [])) todo (go l e))
@@ -154,7 +154,7 @@ module _ (σ : Sheet) (all : length (σ .names) ≡ σ .k) where
         by (yes l) = absurd (f (letterOf composed (compose x)) (found-stands σ all x is l))
         by (no l) = omega arith
 
-    pub letters-fault : {number : ℕ} → NameFault σ (drop at p) number → lettersAt composed p line at before (suc todo) ≡ refused number line
+    pub letters-fault : {number : ℕ} → PlanNameFault σ (drop at p) number → lettersAt composed p line at before (suc todo) ≡ refused number line
     unfolding lettersAt
     letters-fault (wrong-name f) = simp (line-none f)
     letters-fault (unknown-name x after is e f) = simp (line-unknown x after is e f)
@@ -171,15 +171,15 @@ module _ (σ : Sheet) (all : length (σ .names) ≡ σ .k) where
 
   -- where the phase stands behind the lines of some names
   pub letters-along : NamesRight [] (σ .names) → (p rest : List ℕ) {names : List (List ℕ)} {letters : List ℕ} (todo line at : ℕ) (before : List ℕ)
-      → Known σ names letters → drop at p ≡ nameLines names ++ rest
+      → Known σ names letters → drop at p ≡ planLines names ++ rest
       → (behind : ℕ) × (drop behind p ≡ rest)
       × (lettersAt composed p line at before (length names + todo) ≡ lettersAt composed p (line + length names) behind (before ++ letters) todo)
-  unfolding nameLines
+  unfolding planLines
   letters-along right p rest todo line at before none e = (at, e, simp (zero-add, add-zero, append-nil))
   letters-along right p rest todo line at before (more {x} {l} {xs} {ls} s k) e =
-      let e1 : drop at p ≡ x ++ (lf ∷ (nameLines xs ++ rest)) = e ∙ simp append-assoc in
-      let e2 : drop (at + length x + 1) p ≡ nameLines xs ++ rest = goes-on p (at + length x) lf (nameLines xs ++ rest) (stretch-rest p at x (lf ∷ (nameLines xs ++ rest)) e1) .1 in
+      let e1 : drop at p ≡ x ++ (lf ∷ (planLines xs ++ rest)) = e ∙ simp append-assoc in
+      let e2 : drop (at + length x + 1) p ≡ planLines xs ++ rest = goes-on p (at + length x) lf (planLines xs ++ rest) (stretch-rest p at x (lf ∷ (planLines xs ++ rest)) e1) .1 in
       let (behind, text, goes) = letters-along right p rest todo (line + 1) (at + length x + 1) (before ++ (l ∷ [])) k e2 in
       let n : line + 1 + length xs ≡ line + suc (length xs) = omega arith in
       let a : (before ++ (l ∷ [])) ++ ls ≡ before ++ (l ∷ ls) = append-assoc before (l ∷ []) ls in
-      (behind, text, rw suc-add (letter-next p line at before (length xs + todo) right x (nameLines xs ++ rest) l s e1 ∙ (goes ∙ rw (n, a))))
+      (behind, text, rw suc-add (letter-next p line at before (length xs + todo) right x (planLines xs ++ rest) l s e1 ∙ (goes ∙ rw (n, a))))

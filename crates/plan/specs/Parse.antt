@@ -13,13 +13,13 @@ use Rattle.frame.specs.declared.Bounds.{Bounds}
 use Rattle.frame.specs.Phase.{Phase, refused, passed, andThen, firstPhase, endAt}
 use Rattle.names.specs.Scan.{withEnding}
 use Rattle.names.specs.Rows.{letterOf}
-use Rattle.plan.specs.declared.Lengths.{Lengths}
+use Rattle.plan.specs.declared.PlanLengths.{PlanLengths}
 use Rattle.plan.specs.declared.LetterLine.{LetterLine}
 use Rattle.plan.specs.declared.LetterLine.the-variants as L
 use Rattle.plan.specs.Plan.{planWord}
 
 -- how many letters lead-in and cycle have
-abbrev pub lengths : ℕ → ℕ → Lengths
+abbrev pub lengths : ℕ → ℕ → PlanLengths
 lengths lead cycle = record { lead = lead; cycle = cycle }
 
 -- THE FIRST LINE
@@ -29,8 +29,8 @@ abbrev pub planBounds : Bounds
 planBounds = record { least = 0; most = 200; low = 1; high = 200 }
 
 -- "Is each plan line of its form? No: 12.": PLAN, lead-in length, cycle length, LF. "Are both lengths in range? No: 13."
-unfoldable pub headOf : List ℕ → Phase Lengths
-headOf p = firstPhase (wordAndPair p planWord) planBounds lengths 12 13
+unfoldable pub planHeadOf : List ℕ → Phase PlanLengths
+planHeadOf p = firstPhase (wordAndPair p planWord) planBounds lengths 12 13
 
 -- THE NAME LINES
 
@@ -75,20 +75,20 @@ endOf p y = endAt 12 p (y .line) (y .at) (y .letters)
 -- THE WHOLE FILE
 
 -- what a plan file holds: how long its lead-in and its cycle are, and the letters of both
-pub record Contents : Type 0 where
+pub record PlanContents : Type 0 where
   pub lead : ℕ
   pub cycle : ℕ
   pub letters : List ℕ
 
 -- what was read in each phase, put together
-abbrev pub contents : Lengths → List ℕ → Contents
-contents z letters = record { lead = z .lead; cycle = z .cycle; letters = letters }
+abbrev pub planContents : PlanLengths → List ℕ → PlanContents
+planContents z letters = record { lead = z .lead; cycle = z .cycle; letters = letters }
 
 -- the phases behind the first line
-abbrev pub afterHead : List (List ℕ) → List ℕ → Lengths → Phase Contents
-afterHead names p z =
-    andThen (lettersAt names p 2 11 [] (z .lead + z .cycle)) (λ y. andThen (endOf p y) (λ letters. passed (contents z letters)))
+abbrev pub afterPlanHead : List (List ℕ) → List ℕ → PlanLengths → Phase PlanContents
+afterPlanHead names p z =
+    andThen (lettersAt names p 2 11 [] (z .lead + z .cycle)) (λ y. andThen (endOf p y) (λ letters. passed (planContents z letters)))
 
 -- the whole file
-unfoldable pub planOf : List (List ℕ) → List ℕ → Phase Contents
-planOf names p = andThen (headOf p) (afterHead names p)
+unfoldable pub planOf : List (List ℕ) → List ℕ → Phase PlanContents
+planOf names p = andThen (planHeadOf p) (afterPlanHead names p)

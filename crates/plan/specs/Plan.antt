@@ -19,9 +19,9 @@ unfoldable pub planHead : ℕ → ℕ → List ℕ
 planHead lead cycle = numbersLine planWord (lead ∷ cycle ∷ [])
 
 -- "one name a line, lead-in first"
-unfoldable pub nameLines : List (List ℕ) → List ℕ
-nameLines [] = []
-nameLines (x ∷ xs) = x ++ (lf ∷ nameLines xs)
+unfoldable pub planLines : List (List ℕ) → List ℕ
+planLines [] = []
+planLines (x ∷ xs) = x ++ (lf ∷ planLines xs)
 
 -- THE QUESTIONS
 
@@ -46,34 +46,34 @@ pub record PlanIs (σ : Sheet) (p : List ℕ) (lead cycle : List ℕ) : Type 0 w
   pub range : LengthsRight (length lead) (length cycle)
   pub names : List (List ℕ)
   pub known : Known σ names (lead ++ cycle)
-  pub text : p ≡ planHead (length lead) (length cycle) ++ (nameLines names ++ endLine)
+  pub text : p ≡ planHead (length lead) (length cycle) ++ (planLines names ++ endLine)
 
 -- NO PLAN FILE. The lines above the faulty one are the first line and those of some known names.
-pub record Above (σ : Sheet) (p : List ℕ) (lead cycle : ℕ) (names : List (List ℕ)) (rest : List ℕ) : Type 0 where
+pub record PlanAbove (σ : Sheet) (p : List ℕ) (lead cycle : ℕ) (names : List (List ℕ)) (rest : List ℕ) : Type 0 where
   pub range : LengthsRight lead cycle
   pub letters : List ℕ
   pub known : Known σ names letters
-  pub text : p ≡ planHead lead cycle ++ (nameLines names ++ rest)
+  pub text : p ≡ planHead lead cycle ++ (planLines names ++ rest)
 
 -- the faults where a name is due; the rest of the file starts there
-pub data NameFault (σ : Sheet) (rest : List ℕ) : ℕ → Type 0 where
+pub data PlanNameFault (σ : Sheet) (rest : List ℕ) : ℕ → Type 0 where
   -- "Is each plan line of its form? No: 12."
-  wrong-name : ((x after : List ℕ) → IsName x → rest ≡ x ++ (lf ∷ after) → ⊥) → NameFault σ rest 12
+  wrong-name : ((x after : List ℕ) → IsName x → rest ≡ x ++ (lf ∷ after) → ⊥) → PlanNameFault σ rest 12
   -- "Is each name known? No: 14."
-  unknown-name : (x after : List ℕ) → IsName x → rest ≡ x ++ (lf ∷ after) → ((l : ℕ) → StandsFor σ x l → ⊥) → NameFault σ rest 14
+  unknown-name : (x after : List ℕ) → IsName x → rest ≡ x ++ (lf ∷ after) → ((l : ℕ) → StandsFor σ x l → ⊥) → PlanNameFault σ rest 14
 
 -- THE FAULT of a file: its number and its line
-pub data Faulty (σ : Sheet) (p : List ℕ) : ℕ → ℕ → Type 0 where
+pub data PlanFaulty (σ : Sheet) (p : List ℕ) : ℕ → ℕ → Type 0 where
   -- "Is each plan line of its form? No: 12." The first line
-  head : ((lead cycle : ℕ) (rest : List ℕ) → lead < 1000 → cycle < 1000 → p ≡ planHead lead cycle ++ rest → ⊥) → Faulty σ p 12 1
+  head : ((lead cycle : ℕ) (rest : List ℕ) → lead < 1000 → cycle < 1000 → p ≡ planHead lead cycle ++ rest → ⊥) → PlanFaulty σ p 12 1
   -- "Are both lengths in range? No: 13."
-  range : (lead cycle : ℕ) (rest : List ℕ) → lead < 1000 → cycle < 1000 → p ≡ planHead lead cycle ++ rest → (LengthsRight lead cycle → ⊥) → Faulty σ p 13 1
+  range : (lead cycle : ℕ) (rest : List ℕ) → lead < 1000 → cycle < 1000 → p ≡ planHead lead cycle ++ rest → (LengthsRight lead cycle → ⊥) → PlanFaulty σ p 13 1
   -- 12 and 14: a name is due
-  name : {number : ℕ} (lead cycle : ℕ) (names : List (List ℕ)) (rest : List ℕ) → Above σ p lead cycle names rest → length names < lead + cycle
-      → NameFault σ rest number → Faulty σ p number (2 + length names)
+  name : {number : ℕ} (lead cycle : ℕ) (names : List (List ℕ)) (rest : List ℕ) → PlanAbove σ p lead cycle names rest → length names < lead + cycle
+      → PlanNameFault σ rest number → PlanFaulty σ p number (2 + length names)
   -- all names are there and END is due
-  end : (lead cycle : ℕ) (names : List (List ℕ)) (rest : List ℕ) → Above σ p lead cycle names rest → length names ≡ lead + cycle
-      → ((after : List ℕ) → rest ≡ endLine ++ after → ⊥) → Faulty σ p 12 (2 + length names)
+  end : (lead cycle : ℕ) (names : List (List ℕ)) (rest : List ℕ) → PlanAbove σ p lead cycle names rest → length names ≡ lead + cycle
+      → ((after : List ℕ) → rest ≡ endLine ++ after → ⊥) → PlanFaulty σ p 12 (2 + length names)
   -- "What follows `END` is a fault of the line after it: .. 12 in a plan."
-  behind : (lead cycle : ℕ) (names : List (List ℕ)) (after : List ℕ) → Above σ p lead cycle names (endLine ++ after) → length names ≡ lead + cycle
-      → (after ≡ [] → ⊥) → Faulty σ p 12 (3 + length names)
+  behind : (lead cycle : ℕ) (names : List (List ℕ)) (after : List ℕ) → PlanAbove σ p lead cycle names (endLine ++ after) → length names ≡ lead + cycle
+      → (after ≡ [] → ⊥) → PlanFaulty σ p 12 (3 + length names)

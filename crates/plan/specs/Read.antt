@@ -7,12 +7,12 @@ use Rattle.gate.specs.Gate.{RefusedBy, cleared}
 use Rattle.format.specs.Format.{Sheet}
 use Rattle.plan.specs.declared.Planned.{Planned}
 use Rattle.plan.specs.declared.Planned.the-variants.{Refused, Is}
-use Rattle.plan.specs.Plan.{PlanIs, Faulty}
+use Rattle.plan.specs.Plan.{PlanIs, PlanFaulty}
 
 -- QUESTIONS 12 TO 14 on a plan file over the sheet σ. The buffer was t and is u then: all zero, or the lead-in's letters, the cycle's, and
 -- behind them what was there.
-abbrev pub Reads : Sheet → List ℕ → List ℕ → List ℕ → Planned → Type 0
-Reads σ p t u (Refused r) = RefusedBy (Faulty σ p) r × (u ≡ cleared t)
-Reads σ p t u (Is z) =
+abbrev pub ReadsPlan : Sheet → List ℕ → List ℕ → List ℕ → Planned → Type 0
+ReadsPlan σ p t u (Refused r) = RefusedBy (PlanFaulty σ p) r × (u ≡ cleared t)
+ReadsPlan σ p t u (Is z) =
     (lead : List ℕ) × (cycle : List ℕ) × PlanIs σ p lead cycle
     × (z .lead ≡ length lead) × (z .cycle ≡ length cycle) × (u ≡ lead ++ (cycle ++ drop (z .lead + z .cycle) t))

@@ -10,12 +10,12 @@ use Rattle.frame.specs.Phase.{Phase, refused, passed}
 use Rattle.plan.specs.declared.Planned.{Planned}
 use Rattle.plan.specs.declared.Planned.the-variants.{Refused, Is}
 use Rattle.plan.specs.Plan.{mostPlan}
-use Rattle.plan.specs.Parse.{Contents, lengths, planOf}
+use Rattle.plan.specs.Parse.{PlanContents, lengths, planOf}
 use Rattle.plan.specs.Answers.{PlanRead}
-use Rattle.plan.specs.Read.{Reads}
-use Rattle.plan.specs.ParseLaws.{leadOf, cycleOf, Means, plan-means}
+use Rattle.plan.specs.Read.{ReadsPlan}
+use Rattle.plan.specs.ParseLaws.{leadOf, cycleOf, PlanMeans, plan-means}
 
-means-read : (σ : Sheet) (p t u : List ℕ) (w : Phase Contents) → Means σ p w → (r : Planned) → PlanRead w t u r → Reads σ p t u r
+means-read : (σ : Sheet) (p t u : List ℕ) (w : Phase PlanContents) → PlanMeans σ p w → (r : Planned) → PlanRead w t u r → ReadsPlan σ p t u r
 means-read σ p t u (refused number line) f (Refused r) (e, clear) = ((number, line, f, cc), clear)
 means-read σ p t u (refused number line) f (Is z) (e, clear) = absurd (let o : _≡_ {A = ℕ} 0 1 = cc in omega arith)
 means-read σ p t u (passed x) f (Refused r) e = absurd (let g = e .0 in let o : _≡_ {A = ℕ} 0 1 = cc in omega arith)
@@ -36,5 +36,5 @@ means-read σ p t u (passed x) (n, plan) (Is z) (e, b) =
     )
 
 pub reads : (σ : Sheet) → length (σ .names) ≡ σ .k → (p t u : List ℕ) → length p ≤ mostPlan → (r : Planned)
-    → PlanRead (planOf (map compose (σ .names)) p) t u r → Reads σ p t u r
+    → PlanRead (planOf (map compose (σ .names)) p) t u r → ReadsPlan σ p t u r
 reads σ all p t u size r e = means-read σ p t u (planOf (map compose (σ .names)) p) (plan-means σ all p size) r e

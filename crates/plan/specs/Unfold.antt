@@ -4,5 +4,5 @@ use Rattle.plan.specs.Parse
 use Rattle.plan.specs.Plan
 
 unfoldable pub plan·unfold : Unit {0}
-unfolding parser·unfold Parse.headOf Parse.letterLineAt Parse.lettersAt Parse.endOf Parse.planOf Plan.planHead Plan.nameLines
+unfolding parser·unfold Parse.planHeadOf Parse.letterLineAt Parse.lettersAt Parse.endOf Parse.planOf Plan.planHead Plan.planLines
 plan·unfold = tt

@@ -2,14 +2,14 @@
 mod name_lines;
 pub mod whole_file;
 
-use frame::Place;
+use frame::Position;
 use gate::Refusal;
 
 // The most bytes that a plan may have.
 pub const MOST: usize = 12288;
 
 // How many letters a plan's lead-in and cycle have.
-pub struct Lengths {
+pub struct PlanLengths {
     pub lead: usize,
     pub cycle: usize,
 }
@@ -17,7 +17,7 @@ pub struct Lengths {
 // The answer of reading a plan: a refusal, or its lengths, with the letters in a lent buffer.
 pub enum Planned {
     Refused(Refusal),
-    Is(Lengths),
+    Is(PlanLengths),
 }
 
 // A line with a name.
@@ -33,5 +33,5 @@ pub enum LetterLine {
 // The answer of the name lines: a refusal, or the next line.
 pub enum Letters {
     Refused(Refusal),
-    Are(Place),
+    Are(Position),
 }

@@ -9,7 +9,7 @@ ghost use Rattle.plan.specs.Parse.{letterLineAt, lettersAt};
 ghost use Rattle.plan.specs.Answers.{LineFits, LettersRead, PlaceFits};
 use super::LetterLine;
 use super::Letters;
-use frame::Place;
+use frame::Position;
 use gate::Refusal;
 use names::Ending;
 use names::letter_of;
@@ -75,5 +75,5 @@ pub fn read_letters(
             }
         }
     }
-    Letters::Are(Place { at, line })
+    Letters::Are(Position { at, line })
 }

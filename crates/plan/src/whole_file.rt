@@ -6,9 +6,9 @@ ghost use Rattle.format.specs.Format.{Sheet};
 ghost use Rattle.plan.specs.Plan.{mostPlan};
 ghost use Rattle.plan.specs.Answers.{LengthsFit};
 ghost use Rattle.sheet.specs.Answers.{NamesIn};
-ghost use Rattle.plan.specs.Read.{Reads};
-use super::Lengths;
+ghost use Rattle.plan.specs.Read.{ReadsPlan};
 use super::Letters;
+use super::PlanLengths;
 use super::Planned;
 use super::name_lines::read_letters;
 use frame::Bounds;
@@ -22,7 +22,7 @@ use frame::first_line;
 pub fn read_plan(p: &[u8], rows: &mut [u8], k: usize, letters: &mut [u8]) -> Planned
     requires { ⌜ (length (now p) ≤ mostPlan) × (k ≤ 8) × (216 ≤ length (now rows)) × (400 ≤ length (now letters)) ⌝ }
     ensures { λ r. ⌜ LengthsFit r × ((σ : Sheet) → NamesIn σ k (now (rows .entry))
-        → NamesIn σ k (now (rows .exit)) × Reads σ (now (p .entry)) (now (letters .entry)) (now (letters .exit)) r)
+        → NamesIn σ k (now (rows .exit)) × ReadsPlan σ (now (p .entry)) (now (letters .entry)) (now (letters .exit)) r)
         × OnlyRow k (now (rows .entry)) (now (rows .exit)) ⌝ }
 {
     let bounds = Bounds {
@@ -43,7 +43,7 @@ pub fn read_plan(p: &[u8], rows: &mut [u8], k: usize, letters: &mut [u8]) -> Pla
                     gate::clear_bytes(letters);
                     Planned::Refused(r)
                 }
-                End::Reached => Planned::Is(Lengths { lead, cycle }),
+                End::Reached => Planned::Is(PlanLengths { lead, cycle }),
             },
         },
     }

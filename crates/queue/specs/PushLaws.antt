@@ -9,7 +9,7 @@ use lib.ListN.{getD, set, length-set}
 use lib.Seq.{getD-set-same, getD-set-other}
 use Rattle.sets.specs.Sets.{Member, unionOf}
 use Rattle.sets.specs.SetLaws.{union-in, union-left, union-right, bit-single, single-in}
-use Rattle.queue.specs.Queue.{pair, origin, companions, depth, one, other, Listed, Queue, Keeps, Longer, Only, Open}
+use Rattle.queue.specs.Queue.{pair, origin, companions, depth, one, other, Queued, Queue, Keeps, Longer, Only, Open}
 use Rattle.queue.specs.RoomLaws.{not-listed}
 
 module _ {T : List ℕ} {count d p : ℕ} (q o : ℕ) (a : Open T count d p) (hq : q < 16) (room : count < 256) (new : Member (companions T p) q → ⊥) where
@@ -98,14 +98,14 @@ module _ {T : List ℕ} {count d p : ℕ} (q o : ℕ) (a : Open T count d p) (hq
           let z : i ≡ count = omega arith in
           rw (z, pushed-is .1, pushed-is .2, companions-new) (union-right (companions T p) (2 ^ q) q (bit-single q))
 
-      old : (r s : ℕ) → Listed T count r s → Listed pushed (count + 1) r s
+      old : (r s : ℕ) → Queued T count r s → Queued pushed (count + 1) r s
       old r s (i, l, x, y) = (i, omega arith, rw (keeps i l .0) x, rw (keeps i l .0) y)
 
-      listed-at : (r s : ℕ) → r < 16 → Member (companions pushed r) s → Dec (r ≡ p) → Listed pushed (count + 1) r s
+      listed-at : (r s : ℕ) → r < 16 → Member (companions pushed r) s → Dec (r ≡ p) → Queued pushed (count + 1) r s
       listed-at r s h e (no f) = old r s (a .queue .listed r s h (rw (companions-old r f) at e))
       listed-at r s h e (yes f) = by (union-in (companions T p) (2 ^ q) s (rw (f, companions-new) at e))
         where
-          by : Member (companions T p) s ⊎ Member (2 ^ q) s → Listed pushed (count + 1) r s
+          by : Member (companions T p) s ⊎ Member (2 ^ q) s → Queued pushed (count + 1) r s
           by (inl g) = old r s (a .queue .listed r s h (rw f g))
           by (inr g) = (count, omega arith, pushed-is .1 ∙ sym f, pushed-is .2 ∙ sym (single-in q s g))
 

@@ -27,8 +27,8 @@ abbrev pub other : ℕ → ℕ
 other e = e % 16
 
 -- p and q are a pair of the queue
-abbrev pub Listed : List ℕ → ℕ → ℕ → ℕ → Type 0
-Listed T count p q = (i : ℕ) × (i < count) × (one (pair T i) ≡ p) × (other (pair T i) ≡ q)
+abbrev pub Queued : List ℕ → ℕ → ℕ → ℕ → Type 0
+Queued T count p q = (i : ℕ) × (i < count) × (one (pair T i) ≡ p) × (other (pair T i) ≡ q)
 
 -- p and q are a pair of the queue, at depth d at most
 abbrev pub Has : List ℕ → ℕ → ℕ → ℕ → ℕ → Type 0
@@ -42,7 +42,7 @@ pub record Queue (T : List ℕ) (count : ℕ) : Type 0 where
   pub sorted : (i j : ℕ) → i ≤ j → j < count → depth (pair T i) ≤ depth (pair T j)
   pub once : (i j : ℕ) → i < j → j < count → pair T i % 256 ≡ pair T j % 256 → ⊥
   pub noted : (i : ℕ) → i < count → Member (companions T (one (pair T i))) (other (pair T i))
-  pub listed : (p q : ℕ) → p < 16 → Member (companions T p) q → Listed T count p q
+  pub listed : (p q : ℕ) → p < 16 → Member (companions T p) q → Queued T count p q
 
 -- no pair lies deeper than d
 abbrev pub AtMost : List ℕ → ℕ → ℕ → Type 0

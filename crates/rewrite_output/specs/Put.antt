@@ -8,7 +8,7 @@ use lib.Seq.{sets}
 use Rattle.gate.specs.declared.Refusal.{Refusal}
 use Rattle.lists.specs.Choice.{choose}
 use Rattle.text.specs.Pieces.{pieces}
-use Rattle.automaton.specs.Lent.{Tables, Long}
+use Rattle.automaton.specs.Lent.{WitnessTables, EnoughForWitness}
 use Rattle.report.specs.Report.{refusalLine}
 use Rattle.rewrite_output.specs.Rewrite.{spaced, witnessText, longestRewrite}
 
@@ -17,7 +17,7 @@ abbrev pub spacedCells : List ℕ → ℕ → List ℕ
 spacedCells table count = pieces (λ i. spaced (getD table i 0)) 0 count
 
 -- the line of a refusal, and with a 10 its word and walks
-unfoldable pub refusalText : Refusal → Tables → List ℕ
+unfoldable pub refusalText : Refusal → WitnessTables → List ℕ
 refusalText r w = refusalLine (r .number) (r .line) ++ choose (eqb (r .number) 10) (witnessText w (r .length)) []
 
 -- a text was written at `at` in a buffer that was b and is c; the answer is the place behind it
@@ -31,7 +31,7 @@ pub record CellsThere (table : List ℕ) (count : ℕ) (text : List ℕ) (at : �
   pub room : at + length text ≤ length out
 
 -- what a refusal with its tables asks for
-pub record RefusalFits (r : Refusal) (w : Tables) (out : List ℕ) : Type 0 where
+pub record RefusalFits (r : Refusal) (w : WitnessTables) (out : List ℕ) : Type 0 where
   pub letters : r .length ≤ 136
-  pub long : Long w
+  pub long : EnoughForWitness w
   pub room : longestRewrite ≤ length out

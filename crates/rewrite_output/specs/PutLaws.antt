@@ -18,7 +18,7 @@ use Rattle.text.specs.Bytes.{space}
 use Rattle.text.specs.Column.{column}
 use Rattle.text.specs.ColumnLaws.{column-length}
 use Rattle.text.specs.PiecesLaws.{pieces-most}
-use Rattle.automaton.specs.Lent.{Tables}
+use Rattle.automaton.specs.Lent.{WitnessTables}
 use Rattle.report.specs.Report.{refusalLine}
 use Rattle.report.specs.ReportLaws.{refusal-length}
 use Rattle.rewrite_output.specs.Rewrite.{spaced, cellsLine, witnessText}
@@ -71,7 +71,7 @@ module _ (name table : List ℕ) (count : ℕ) where
   line-most : length (cellsLine name table count) ≤ length name + (count * 3 + 1)
   line-most = omega (arith, cells-line-length, cells-most table count)
 
-module _ (w : Tables) (t : ℕ) where
+module _ (w : WitnessTables) (t : ℕ) where
   -- its three lines
   abbrev first : List ℕ
   first = cellsLine (87 ∷ 79 ∷ 82 ∷ 68 ∷ []) (w .word) t
@@ -92,7 +92,7 @@ module _ (w : Tables) (t : ℕ) where
 
 -- A REFUSAL
 
-module _ (r : Refusal) (w : Tables) where
+module _ (r : Refusal) (w : WitnessTables) where
   pub text-other : (r .number ≡ 10 → ⊥) → refusalText r w ≡ refusalLine (r .number) (r .line)
   unfolding refusalText
   text-other h = simp (ne-eqb (r .number) 10 h) (append-nil (refusalLine (r .number) (r .line)))

@@ -10,7 +10,7 @@ use Rattle.text.specs.Bytes.{lf, space}
 use Rattle.text.specs.Column.{column}
 use Rattle.text.specs.Pieces.{pieces}
 use Rattle.automaton.specs.Automaton.{graphOf}
-use Rattle.automaton.specs.Lent.{Tables, Meets}
+use Rattle.automaton.specs.Lent.{WitnessTables, Meets}
 use Rattle.format.specs.Format.{Sheet, FileIs, Faulty}
 use Rattle.format.specs.Numbers.{numbers}
 use Rattle.sheet.specs.Read.{Accepted}
@@ -30,7 +30,7 @@ unfoldable pub cellsLine : List ℕ → List ℕ → ℕ → List ℕ
 cellsLine name table count = name ++ (pieces (λ i. spaced (getD table i 0)) 0 count ++ (lf ∷ []))
 
 -- `WORD` with the t letters of a witness, and twice `WALK` with the states of a walk
-unfoldable pub witnessText : Tables → ℕ → List ℕ
+unfoldable pub witnessText : WitnessTables → ℕ → List ℕ
 witnessText w t =
     cellsLine (87 ∷ 79 ∷ 82 ∷ 68 ∷ []) (w .word) t
     ++ (cellsLine (87 ∷ 65 ∷ 76 ∷ 75 ∷ []) (w .one) (t + 1) ++ cellsLine (87 ∷ 65 ∷ 76 ∷ 75 ∷ []) (w .other) (t + 1))
@@ -39,8 +39,8 @@ witnessText w t =
 pub data RewriteOutput (s text : List ℕ) : Type 0 where
   -- 2 to 9
   refused : (number line : ℕ) → Faulty s number line → text ≡ refusalLine number line → RewriteOutput s text
-  -- 10, with its witness in tables that were v and are w
-  meeting : (σ : Sheet) → FileIs s σ → (v w : Tables) (r : Refusal) → Meets (graphOf (numbers σ)) v w r
-      → text ≡ refusalLine (r .number) (r .line) ++ witnessText w (r .length) → RewriteOutput s text
+  -- 10, with its witness in some tables
+  meeting : (σ : Sheet) → FileIs s σ → (before after : WitnessTables) (r : Refusal) → Meets (graphOf (numbers σ)) before after r
+      → text ≡ refusalLine (r .number) (r .line) ++ witnessText after (r .length) → RewriteOutput s text
   -- "The writer writes composed letters"
   written : (σ : Sheet) → Accepted s σ → text ≡ writing σ → RewriteOutput s text

@@ -1,7 +1,7 @@
 // The whole of program `rewrite`: from the bytes of standard input to those of standard output.
 ghost use Prim.Native.Nat.{_+_};
 ghost use mathlib.Core.Path.{_≡_};
-ghost use Rattle.automaton.specs.Lent.{tables};
+ghost use Rattle.automaton.specs.Lent.{witnessTables};
 ghost use Rattle.format.specs.Format.{mostSheet};
 ghost use Rattle.report.specs.Output.{Prints};
 ghost use Rattle.rewrite_output.specs.Rewrite.{RewriteOutput, longestRewrite};
@@ -19,8 +19,8 @@ pub const OUTPUT: usize = 22960;
 
 // The line of a refusal, and with a 10 its word and walks. The answer is the count of bytes.
 fn put_refusal_text(r: Refusal, word: &[u16], one: &[u16], other: &[u16], out: &mut [u8]) -> usize
-    requires { ⌜ RefusalFits r (tables (now word) (now one) (now other)) (now out) ⌝ }
-    ensures { λ n. ⌜ WrittenAt (refusalText r (tables (now (word .entry)) (now (one .entry)) (now (other .entry)))) (now (out .entry)) 0 (now (out .exit)) n ⌝ }
+    requires { ⌜ RefusalFits r (witnessTables (now word) (now one) (now other)) (now out) ⌝ }
+    ensures { λ n. ⌜ WrittenAt (refusalText r (witnessTables (now (word .entry)) (now (one .entry)) (now (other .entry)))) (now (out .entry)) 0 (now (out .exit)) n ⌝ }
 {
     let line = report::refusal_line(r);
     text::put_bytes(out, 0, &line);

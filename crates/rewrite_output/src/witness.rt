@@ -5,7 +5,7 @@ ghost use mathlib.Core.List.{_∷_};
 ghost use lib.ListN.{length};
 ghost use Rattle.text.specs.Bytes.{space};
 ghost use Rattle.text.specs.Column.{column};
-ghost use Rattle.automaton.specs.Lent.{tables, Long};
+ghost use Rattle.automaton.specs.Lent.{witnessTables, EnoughForWitness};
 ghost use Rattle.rewrite_output.specs.Rewrite.{spaced, cellsLine, witnessText};
 ghost use Rattle.rewrite_output.specs.Put.{spacedCells, WrittenAt, CellsThere};
 
@@ -54,9 +54,9 @@ fn put_cells_line(out: &mut [u8], at: usize, name: &[u8], table: &[u16], count: 
 
 // The word of t letters, and the two walks. The answer is the place behind them.
 pub fn put(out: &mut [u8], at: usize, word: &[u16], one: &[u16], other: &[u16], t: usize) -> usize
-    requires { ⌜ Long (tables (now word) (now one) (now other)) × (t ≤ 136)
-        × (at + length (witnessText (tables (now word) (now one) (now other)) t) ≤ length (now out)) ⌝ }
-    ensures { λ r. ⌜ WrittenAt (witnessText (tables (now (word .entry)) (now (one .entry)) (now (other .entry))) t) (now (out .entry)) at (now (out .exit)) r ⌝ }
+    requires { ⌜ EnoughForWitness (witnessTables (now word) (now one) (now other)) × (t ≤ 136)
+        × (at + length (witnessText (witnessTables (now word) (now one) (now other)) t) ≤ length (now out)) ⌝ }
+    ensures { λ r. ⌜ WrittenAt (witnessText (witnessTables (now (word .entry)) (now (one .entry)) (now (other .entry))) t) (now (out .entry)) at (now (out .exit)) r ⌝ }
 {
     let first = put_cells_line(out, at, b"WORD", word, t);
     let second = put_cells_line(out, first, b"WALK", one, t + 1);

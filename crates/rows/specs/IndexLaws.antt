@@ -8,7 +8,7 @@ use lib.ListN.{length, getD, set, replicate, length-set, length-replicate}
 use lib.Seq.{getD-set-same, getD-set-other, sets, length-sets}
 use Rattle.gate.specs.GateLaws.{zeros}
 use Rattle.lists.specs.StoreLaws.{part-stored, part-kept}
-use Rattle.rows.specs.Rows.{rowAt, digestOf, Index, Indexed, Sought, Found, Added, FoundOrAdded}
+use Rattle.rows.specs.Rows.{rowAt, digestOf, Index, Indexed, Sought, RowFound, Added, FoundOrAdded}
 
 -- Place p of the walk: one more than a row with digest h, or 0. No row that is looked for stands at p or behind.
 pub record ChainWalk (table : List ℕ) (m : ℕ) (row : List ℕ) (h p : ℕ) : Type 0 where
@@ -41,10 +41,10 @@ module _ {table : List ℕ} {m : ℕ} {row : List ℕ} {h : ℕ} {head link : Li
             i .index .before u t (omega arith) k (dig u r ∙ sym (w .digest t e));
       }
 
-  pub walk-ends : ChainWalk table m row h 0 → Found table m row m
+  pub walk-ends : ChainWalk table m row h 0 → RowFound table m row m
   walk-ends w = record { most = omega arith; is = λ k. absurd (omega arith); none = λ e t k r. let x = w .left t k r in omega arith }
 
-pub walk-finds : {table : List ℕ} {m : ℕ} {row : List ℕ} {t : ℕ} → t < m → rowAt table t ≡ row → Found table m row t
+pub walk-finds : {table : List ℕ} {m : ℕ} {row : List ℕ} {t : ℕ} → t < m → rowAt table t ≡ row → RowFound table m row t
 walk-finds k e = record { most = omega arith; is = λ j. e; none = λ j. absurd (omega arith) }
 
 -- No row
@@ -169,12 +169,12 @@ module _ {table : List ℕ} {m : ℕ} {row : List ℕ} {h : ℕ} {head link : Li
 
 -- The number of a row, found or added
 
-module _ {table : List ℕ} {m : ℕ} {row : List ℕ} {r : ℕ} (f : Found table m row r) where
+module _ {table : List ℕ} {m : ℕ} {row : List ℕ} {r : ℕ} (f : RowFound table m row r) where
   pub number-found : {room : ℕ} {head link : List ℕ} → Indexed table m head link → r < m → FoundOrAdded table table m room row head link r
   number-found i k = record { found = f; kept = λ l. (refl, i); added = λ l. absurd (omega arith) }
 
   module _ (k : m ≤ r) where
-    none-found : Found table m row m
+    none-found : RowFound table m row m
     none-found = let l = f .most in record { most = omega arith; is = λ j. absurd (omega arith); none = λ e. f .none (omega arith) }
 
     pub number-added : {room : ℕ} {table' head link : List ℕ} → Added table table' m row head link → FoundOrAdded table table' m room row head link m

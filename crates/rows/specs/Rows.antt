@@ -56,7 +56,7 @@ pub record Sought (row : List ℕ) (h : ℕ) : Type 0 where
   pub small : h < 1024
 
 -- row r is this row, or, at m, none of the m rows is
-pub record Found (table : List ℕ) (m : ℕ) (row : List ℕ) (r : ℕ) : Type 0 where
+pub record RowFound (table : List ℕ) (m : ℕ) (row : List ℕ) (r : ℕ) : Type 0 where
   pub most : r ≤ m
   pub is : r < m → rowAt table r ≡ row
   pub none : r ≡ m → (t : ℕ) → t < m → rowAt table t ≡ row → ⊥
@@ -68,6 +68,6 @@ pub record Added (before after : List ℕ) (m : ℕ) (row : List ℕ) (head link
 
 -- the number of a row: the table is kept with its index where the row is found, and has it behind its m rows where it is none of them and there is room
 pub record FoundOrAdded (before after : List ℕ) (m room : ℕ) (row : List ℕ) (head link : List ℕ) (r : ℕ) : Type 0 where
-  pub found : Found before m row r
+  pub found : RowFound before m row r
   pub kept : r < m → (after ≡ before) × Indexed after m head link
   pub added : m ≤ r → m < room → Added before after m row head link

@@ -4,7 +4,7 @@ ghost use Prim.Native.Nat.{_<_, _≤_, _*_, _+_};
 ghost use lib.ListN.{length, take, drop};
 ghost use lib.Seq.{sets};
 ghost use Rattle.gate.specs.Gate.{Decides};
-ghost use Rattle.rows.specs.Rows.{rowAt, mix, mixFrom, digestOf, Indexed, Sought, Added, Found, FoundOrAdded};
+ghost use Rattle.rows.specs.Rows.{rowAt, mix, mixFrom, digestOf, Indexed, Sought, Added, RowFound, FoundOrAdded};
 
 // The cells of a row.
 pub const CELLS: usize = 17;
@@ -65,7 +65,7 @@ fn same(table: &[u16], at: usize, row: &[u16]) -> bool
 // The number of a row of digest h among the table's m rows, and m where it is none of them: the chain of the digest is walked.
 fn find(table: &[u16], m: usize, row: &[u16], h: usize, head: &[u16], link: &[u16]) -> usize
     requires { ⌜ Indexed (now table) m (now head) (now link) × Sought (now row) h ⌝ }
-    ensures { λ r. ⌜ Found (now (table .entry)) m (now (row .entry)) r ⌝ }
+    ensures { λ r. ⌜ RowFound (now (table .entry)) m (now (row .entry)) r ⌝ }
 {
     let mut p = head[h] as usize;
     while 0 < p {

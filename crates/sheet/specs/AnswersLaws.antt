@@ -44,8 +44,8 @@ module _ (s t u old rows : List ℕ) where
       cases (refused number line) m e = ((number, line, m, (let d = e .0 in cc)), e .1, e .2)
       cases (passed c) m e = absurd (let d = e .0 in let z : _≡_ {A = ℕ} 0 1 = cc in omega arith)
 
-  pub file-read : (a : Numbers) → FileRead (parse s) t u old rows (F.Is a) → FileAccepted s t u old rows a
-  file-read a = cases (parse s) (parse-means s)
+  pub read-accepted : (a : Numbers) → FileRead (parse s) t u old rows (F.Is a) → FileAccepted s t u old rows a
+  read-accepted a = cases (parse s) (parse-means s)
     where
       cases : (p : Phase Contents) → Means s p → FileRead p t u old rows (F.Is a) → FileAccepted s t u old rows a
       cases (refused number line) m e = absurd (let d = e .0 in let z : _≡_ {A = ℕ} 0 1 = cc in omega arith)
@@ -62,4 +62,4 @@ module _ (s t u old rows : List ℕ) where
 -- the answer on the letters
 pub letters-read : (s t u old rows : List ℕ) (r : File) → FileRead (parse s) t u old rows r → RowsRead s old rows r
 letters-read s t u old rows (F.Refused r) e = let (refuses, table, zero) = file-refused s t u old rows r e in (refuses, zero)
-letters-read s t u old rows (F.Is a) e = let f = file-read s t u old rows a e in (f .letters, f .behind)
+letters-read s t u old rows (F.Is a) e = let f = read-accepted s t u old rows a e in (f .letters, f .behind)

@@ -2,7 +2,7 @@
 use mathlib.Core.List.{List}
 use Prim.Native.Nat.{ℕ}
 use Rattle.automaton.specs.declared.Numbers.{Numbers}
-use Rattle.automaton.specs.Lent.{Long}
+use Rattle.automaton.specs.Lent.{EnoughForWitness}
 use Rattle.format.specs.Format.{Sheet}
 use Rattle.sheet.specs.declared.Found.{Found}
 use Rattle.sheet.specs.Answers.{NamesIn}
@@ -10,6 +10,6 @@ use Rattle.sheet.specs.Read.{ReadTables, SheetRead}
 use Rattle.sheet.specs.Letters.{LetterOf, Finds}
 
 module _ {s : List ℕ} {before after : ReadTables} {a : Numbers} (h : SheetRead s before after a) where
-  pub find-asks : {name : List ℕ} {r : Found} → Long (before .witness) → ((σ : Sheet) → NamesIn σ (a .k) (after .rows) → LetterOf σ name r)
+  pub find-asks : {name : List ℕ} {r : Found} → EnoughForWitness (before .witness) → ((σ : Sheet) → NamesIn σ (a .k) (after .rows) → LetterOf σ name r)
       → Finds s name (before .witness) (after .witness) r
   find-asks long letter = Finds.asked long (h .sheet) (h .accepted) (h .witness) (letter (h .sheet) (h .names))

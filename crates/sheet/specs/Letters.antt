@@ -7,7 +7,7 @@ use lib.ListN.{getD}
 use Rattle.gate.specs.Gate.{refusal}
 use Rattle.gate.specs.declared.Refusal.{Refusal}
 use Rattle.names.specs.Name.{IsName, compose}
-use Rattle.automaton.specs.Lent.{Tables, Long, clearedTables}
+use Rattle.automaton.specs.Lent.{WitnessTables, EnoughForWitness, clearedWitness}
 use Rattle.sheet.specs.declared.Found.{Found}
 use Rattle.sheet.specs.declared.Found.the-variants.{Refused, Letter}
 use Rattle.format.specs.Format.{Sheet, FileIs, Faulty}
@@ -39,11 +39,11 @@ abbrev pub LetterOf : Sheet → List ℕ → Found → Type 0
 LetterOf σ name (Refused r) = ((letter : ℕ) → StandsFor σ name letter → ⊥) × (r ≡ refusal 14 0)
 LetterOf σ name (Letter l) = StandsFor σ name l
 
--- THE SEARCH FOR A NAME in a sheet file s. The witness was v and is w.
-pub data Finds (s name : List ℕ) (v w : Tables) (r : Found) : Type 0 where
+-- THE SEARCH FOR A NAME in a sheet file s. The tables are the witness.
+pub data Finds (s name : List ℕ) (before after : WitnessTables) (r : Found) : Type 0 where
   -- 1, asked first, "touches nothing"
-  short : (Long v → ⊥) → r ≡ Refused (refusal 1 0) → w ≡ v → Finds s name v w r
+  short : (EnoughForWitness before → ⊥) → r ≡ Refused (refusal 1 0) → after ≡ before → Finds s name before after r
   -- 2 to 10
-  refused : Long v → (x : Refusal) → Refuses s v w x → r ≡ Refused x → Finds s name v w r
+  refused : EnoughForWitness before → (x : Refusal) → Refuses s before after x → r ≡ Refused x → Finds s name before after r
   -- 14, or the letter
-  asked : Long v → (σ : Sheet) → Accepted s σ → w ≡ clearedTables v → LetterOf σ name r → Finds s name v w r
+  asked : EnoughForWitness before → (σ : Sheet) → Accepted s σ → after ≡ clearedWitness before → LetterOf σ name r → Finds s name before after r

@@ -9,7 +9,7 @@ use Rattle.gate.specs.declared.Refusal.{Refusal}
 use Rattle.automaton.specs.declared.Numbers.{Numbers}
 use Rattle.automaton.specs.Automaton.{graphOf, AreNumbers}
 use Rattle.automaton.specs.Meeting.{Free, Everywhere}
-use Rattle.automaton.specs.Lent.{Tables, Lengths, clearedTables, lentTable, Meets}
+use Rattle.automaton.specs.Lent.{WitnessTables, EnoughForSheet, clearedWitness, lentTable, Meets}
 use Rattle.sheet.specs.declared.Read.{Read}
 use Rattle.sheet.specs.declared.Read.the-variants.{Refused, Is}
 use Rattle.format.specs.Format.{Sheet, FileIs, Faulty}
@@ -21,23 +21,37 @@ pub record Accepted (s : List ℕ) (σ : Sheet) : Type 0 where
   pub file : FileIs s σ
   pub free : Free (graphOf (numbers σ)) Everywhere
 
--- or the first that is answered no refuses with r; the witness was v and is w then
-pub data Refuses (s : List ℕ) (v w : Tables) (r : Refusal) : Type 0 where
-  faulty : (number line : ℕ) → Faulty s number line → r ≡ refusal number line → w ≡ clearedTables v → Refuses s v w r
-  meeting : (σ : Sheet) → FileIs s σ → Meets (graphOf (numbers σ)) v w r → Refuses s v w r
+-- or the first that is answered no refuses with r. The tables are the witness.
+pub data Refuses (s : List ℕ) (before after : WitnessTables) (r : Refusal) : Type 0 where
+  faulty : (number line : ℕ) → Faulty s number line → r ≡ refusal number line → after ≡ clearedWitness before → Refuses s before after r
+  meeting : (σ : Sheet) → FileIs s σ → Meets (graphOf (numbers σ)) before after r → Refuses s before after r
 
--- the answer of questions 2 to 10, in tables that are long enough. The successor sets' table was t and is u then.
-abbrev pub ReadsLong : List ℕ → List ℕ → List ℕ → Tables → Tables → Read → Type 0
-ReadsLong s t u v w (Refused r) = Refuses s v w r × (u ≡ cleared t)
-ReadsLong s t u v w (Is a) =
-    (σ : Sheet) × Accepted s σ × AreNumbers (numbers σ) a × (u ≡ lentTable (numbers σ .table) t) × (w ≡ clearedTables v)
+-- the lent tables of reading
+pub record SheetTables : Type 0 where
+  -- the successor sets
+  pub successors : List ℕ
+  -- a word and two walks
+  pub witness : WitnessTables
+
+abbrev pub sheetTables : List ℕ → WitnessTables → SheetTables
+sheetTables successors witness = record { successors = successors; witness = witness }
+
+-- the answer of questions 2 to 10, in tables that are long enough
+abbrev pub ReadsLong : List ℕ → SheetTables → SheetTables → Read → Type 0
+ReadsLong s before after (Refused r) = Refuses s (before .witness) (after .witness) r × (after .successors ≡ cleared (before .successors))
+ReadsLong s before after (Is a) =
+    (σ : Sheet)
+    × Accepted s σ
+    × AreNumbers (numbers σ) a
+    × (after .successors ≡ lentTable (numbers σ .table) (before .successors))
+    × (after .witness ≡ clearedWitness (before .witness))
 
 -- READING. "Refusal 1 asked first touches nothing; .. every other refusal leave the tables of that call all zero, except the witness of 10"
-abbrev pub Reads : List ℕ → List ℕ → List ℕ → Tables → Tables → Read → Type 0
-Reads s t u v w (Refused r) =
-    ((Lengths t v → ⊥) × (r ≡ refusal 1 0) × (u ≡ t) × (w ≡ v))
-    ⊎ (Lengths t v × ReadsLong s t u v w (Refused r))
-Reads s t u v w (Is a) = Lengths t v × ReadsLong s t u v w (Is a)
+abbrev pub Reads : List ℕ → SheetTables → SheetTables → Read → Type 0
+Reads s before after (Refused r) =
+    ((EnoughForSheet (before .successors) (before .witness) → ⊥) × (r ≡ refusal 1 0) × (after ≡ before))
+    ⊎ (EnoughForSheet (before .successors) (before .witness) × ReadsLong s before after (Refused r))
+Reads s before after (Is a) = EnoughForSheet (before .successors) (before .witness) × ReadsLong s before after (Is a)
 
 -- THE SAME WITH THE NAMES, for the calls that go on with a sheet once it is read: all that is read of it
 pub record ReadTables : Type 0 where
@@ -46,10 +60,14 @@ pub record ReadTables : Type 0 where
   -- the composed names
   pub rows : List ℕ
   -- the lent witness
-  pub witness : Tables
+  pub witness : WitnessTables
 
-abbrev pub readTables : List ℕ → List ℕ → Tables → ReadTables
+abbrev pub readTables : List ℕ → List ℕ → WitnessTables → ReadTables
 readTables successors rows witness = record { successors = successors; rows = rows; witness = witness }
+
+-- the lent ones cleared, the names as they were
+abbrev pub lentCleared : ReadTables → ReadTables
+lentCleared before = readTables (cleared (before .successors)) (before .rows) (clearedWitness (before .witness))
 
 -- an accepted sheet file, its numbers a and what the tables hold then: "On success every cell of these tables without a meaning is zero"
 pub record SheetRead (s : List ℕ) (before after : ReadTables) (a : Numbers) : Type 0 where
@@ -57,7 +75,7 @@ pub record SheetRead (s : List ℕ) (before after : ReadTables) (a : Numbers) : 
   pub accepted : Accepted s sheet
   pub are : AreNumbers (numbers sheet) a
   pub successors : after .successors ≡ lentTable (numbers sheet .table) (before .successors)
-  pub witness : after .witness ≡ clearedTables (before .witness)
+  pub witness : after .witness ≡ clearedWitness (before .witness)
   pub names : NamesIn sheet (a .k) (after .rows)
   pub behind : drop (24 * a .k) (after .rows) ≡ drop (24 * a .k) (cleared (before .rows))
 

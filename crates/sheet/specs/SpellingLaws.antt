@@ -44,9 +44,9 @@ module _ (s : List ℕ) (at left : ℕ) where
       let m : left ≡ suc (left - 1) = omega arith in
       ap (λ (n : ℕ). lineBelow s at n) m ∙ simp b
 
-  pub below-none : 0 < left → nameEndAt s (at + 5) ≡ E.Bad → lineBelow s at left ≡ at
+  pub line-below-none : 0 < left → nameEndAt s (at + 5) ≡ E.Bad → lineBelow s at left ≡ at
   unfolding lineBelow
-  below-none h b =
+  line-below-none h b =
       let m : left ≡ suc (left - 1) = omega arith in
       rw m (simp b)
 

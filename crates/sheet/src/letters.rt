@@ -1,15 +1,8 @@
-// The names of letters, in a file that is read and in rows.
+// The names of letters in a sheet file.
 ghost use mathlib.Core.Path.{_≡_};
-ghost use Prim.Native.Nat.{ℕ, _+_, _-_, _*_, _<_, _≤_};
-ghost use mathlib.Core.List.{List};
+ghost use Prim.Native.Nat.{_<_, _≤_};
 ghost use lib.ListN.{length};
-ghost use lib.Seq.{sets};
-ghost use Rattle.gate.specs.Gate.{padded};
-ghost use Rattle.text.specs.Bytes.{stretch};
-ghost use Rattle.names.specs.Name.{IsName, compose};
-ghost use Rattle.names.specs.Row.{Stretches};
 ghost use Rattle.sheet.specs.Answers.{RowsRead};
-ghost use Rattle.names.specs.Rows.{HoldNames, FirstName};
 ghost use Rattle.sheet.specs.Spelling.{lineBelow, spelling};
 use names::Ending;
 use parser::File;

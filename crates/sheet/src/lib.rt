@@ -1,10 +1,10 @@
 // The sheet file: read, its names given and found.
 mod finding;
-pub mod letters;
+mod letters;
 pub mod reading;
 
-ghost use Rattle.automaton.specs.Lent.{tables};
-ghost use Rattle.sheet.specs.Read.{Reads};
+ghost use Rattle.automaton.specs.Lent.{witnessTables};
+ghost use Rattle.sheet.specs.Read.{sheetTables, Reads};
 ghost use Rattle.sheet.specs.Letters.{NameIs, NumberIs, Finds};
 use automaton::Numbers;
 use gate::Refusal;
@@ -31,8 +31,9 @@ pub fn read_sheet(
     one: &mut [u16],
     other: &mut [u16],
 ) -> Read
-    ensures { λ r. ⌜ Reads (now (sheet .entry)) (now (table .entry)) (now (table .exit))
-        (tables (now (word .entry)) (now (one .entry)) (now (other .entry))) (tables (now (word .exit)) (now (one .exit)) (now (other .exit))) r ⌝ }
+    ensures { λ r. ⌜ Reads (now (sheet .entry))
+        (sheetTables (now (table .entry)) (witnessTables (now (word .entry)) (now (one .entry)) (now (other .entry))))
+        (sheetTables (now (table .exit)) (witnessTables (now (word .exit)) (now (one .exit)) (now (other .exit)))) r ⌝ }
 {
     if !walks::long_enough(table, word, one, other) {
         return Read::Refused(Refusal {
@@ -96,8 +97,8 @@ pub fn find(
     one: &mut [u16],
     other: &mut [u16],
 ) -> Found
-    ensures { λ r. ⌜ Finds (now (sheet .entry)) (now (name .entry)) (tables (now (word .entry)) (now (one .entry)) (now (other .entry)))
-        (tables (now (word .exit)) (now (one .exit)) (now (other .exit))) r ⌝ }
+    ensures { λ r. ⌜ Finds (now (sheet .entry)) (now (name .entry))
+        (witnessTables (now (word .entry)) (now (one .entry)) (now (other .entry))) (witnessTables (now (word .exit)) (now (one .exit)) (now (other .exit))) r ⌝ }
 {
     let mut table = [0u16; 128];
     if !walks::long_enough(&table, word, one, other) {

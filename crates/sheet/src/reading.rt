@@ -3,7 +3,7 @@ ghost use mathlib.Core.Path.{_≡_};
 ghost use Prim.Native.Nat.{_≤_};
 ghost use lib.ListN.{length};
 ghost use Rattle.gate.specs.Gate.{cleared};
-ghost use Rattle.automaton.specs.Lent.{tables, Lengths, clearedTables};
+ghost use Rattle.automaton.specs.Lent.{witnessTables, EnoughForSheet, clearedWitness};
 ghost use Rattle.sheet.specs.Read.{readTables, ReadsNamed};
 use super::Read;
 use gate::Refusal;
@@ -20,11 +20,11 @@ fn read_cleared(
     one: &mut [u16],
     other: &mut [u16],
 ) -> Read
-    requires { ⌜ Lengths (now table) (tables (now word) (now one) (now other)) × (192 ≤ length (now rows)) × (now table ≡ cleared (now table))
-        × (tables (now word) (now one) (now other) ≡ clearedTables (tables (now word) (now one) (now other))) ⌝ }
+    requires { ⌜ EnoughForSheet (now table) (witnessTables (now word) (now one) (now other)) × (192 ≤ length (now rows)) × (now table ≡ cleared (now table))
+        × (witnessTables (now word) (now one) (now other) ≡ clearedWitness (witnessTables (now word) (now one) (now other))) ⌝ }
     ensures { λ r. ⌜ ReadsNamed (now (sheet .entry))
-        (readTables (now (table .entry)) (now (rows .entry)) (tables (now (word .entry)) (now (one .entry)) (now (other .entry))))
-        (readTables (now (table .exit)) (now (rows .exit)) (tables (now (word .exit)) (now (one .exit)) (now (other .exit)))) r ⌝ }
+        (readTables (now (table .entry)) (now (rows .entry)) (witnessTables (now (word .entry)) (now (one .entry)) (now (other .entry))))
+        (readTables (now (table .exit)) (now (rows .exit)) (witnessTables (now (word .exit)) (now (one .exit)) (now (other .exit)))) r ⌝ }
 {
     match read_file(sheet, table, rows) {
         File::Refused(r) => Read::Refused(r),
@@ -53,10 +53,10 @@ pub fn read_long(
     one: &mut [u16],
     other: &mut [u16],
 ) -> Read
-    requires { ⌜ Lengths (now table) (tables (now word) (now one) (now other)) × (192 ≤ length (now rows)) ⌝ }
+    requires { ⌜ EnoughForSheet (now table) (witnessTables (now word) (now one) (now other)) × (192 ≤ length (now rows)) ⌝ }
     ensures { λ r. ⌜ ReadsNamed (now (sheet .entry))
-        (readTables (now (table .entry)) (now (rows .entry)) (tables (now (word .entry)) (now (one .entry)) (now (other .entry))))
-        (readTables (now (table .exit)) (now (rows .exit)) (tables (now (word .exit)) (now (one .exit)) (now (other .exit)))) r ⌝ }
+        (readTables (now (table .entry)) (now (rows .entry)) (witnessTables (now (word .entry)) (now (one .entry)) (now (other .entry))))
+        (readTables (now (table .exit)) (now (rows .exit)) (witnessTables (now (word .exit)) (now (one .exit)) (now (other .exit)))) r ⌝ }
 {
     gate::clear(table);
     gate::clear(word);

@@ -22,8 +22,8 @@ fields-length : (vs rest : List ℕ) → length (fields vs rest) ≡ 3 * length 
 fields-length [] rest = omega arith
 fields-length (v ∷ vs) rest = omega (arith, length-append (column 3 v) (fields vs rest), column-length 3 v, fields-length vs rest)
 
-pub numbers-length : (opening vs : List ℕ) → length (numbersLine opening vs) ≡ length opening + (3 * length vs + 1)
-numbers-length opening vs = length-append opening (fields vs (lf ∷ [])) ∙ ap (length opening +_) (fields-length vs (lf ∷ []))
+pub numbersLine-length : (opening vs : List ℕ) → length (numbersLine opening vs) ≡ length opening + (3 * length vs + 1)
+numbersLine-length opening vs = length-append opening (fields vs (lf ∷ [])) ∙ ap (length opening +_) (fields-length vs (lf ∷ []))
 
 -- A LINE IN PARTS: its opening, its numbers, and what stands behind it
 
@@ -75,5 +75,5 @@ module _ (s : List ℕ) (at : ℕ) (opening vs : List ℕ) where
   pub numbers-is : noZero opening ≡ true → NumbersAt s at opening vs → Narrow vs × (drop at s ≡ numbersLine opening vs ++ drop (at + length (numbersLine opening vs)) s)
   numbers-is z h =
       let (narrow, behind) = fields-is s (at + length opening) vs (h .numbers) in
-      let p : at + length opening + (3 * length vs + 1) ≡ at + length (numbersLine opening vs) = omega (arith, numbers-length opening vs) in
+      let p : at + length opening + (3 * length vs + 1) ≡ at + length (numbersLine opening vs) = omega (arith, numbersLine-length opening vs) in
       (narrow, starts-is s at opening z (h .starts) ∙ (ap (opening ++_) (rw p at behind) ∙ sym (numbers-parted opening vs (drop (at + length (numbersLine opening vs)) s))))

@@ -60,8 +60,8 @@ module _ {n : ℕ} {E M S U W : ℕ → ℕ → ℕ → Type 0} {K : ℕ → ℕ
   pred t k r s = pred-of t (inside t) k r s
 
   -- L2: set 0 is exactly the set of states that paths from the first tuple's set 0 reach
-  pub reached : (t q : ℕ) → S t 0 q → (x : ℕ → ℕ) × (x t ≡ q) × S 0 0 (x 0) × ((s : ℕ) → s < t → E s (x s) (x (suc s)))
-  reached t q h =
+  pub is-reached : (t q : ℕ) → S t 0 q → (x : ℕ → ℕ) × (x t ≡ q) × S 0 0 (x 0) × ((s : ℕ) → s < t → E s (x s) (x (suc s)))
+  is-reached t q h =
       let (x, e, sets, goes) = trace E (λ t r. S t 0 r) 0 (λ t r l s. pred t 0 r s) t (omega arith) q h in
       (x, e, sets 0 (omega arith) (omega arith), λ s l. goes s (omega arith) l)
 
@@ -74,7 +74,7 @@ module _ {n : ℕ} {E M S U W : ℕ → ℕ → ℕ → Type 0} {K : ℕ → ℕ
       → (g : ℕ → ℕ) × S 0 0 (g 0) × ((s : ℕ) → A ≤ s → g s ≡ f s)
       × ((u : ℕ) → ((s : ℕ) → A ≤ s → s < u → E s (f s) (f (suc s))) → (s : ℕ) → s < u → E s (g s) (g (suc s)))
   lead-in A f l h =
-      let (x, e, first, goes) = reached A (f A) h in
+      let (x, e, first, goes) = is-reached A (f A) h in
       let start : glue x f A 0 ≡ x 0 = glue-lt x f A 0 l in
       (glue x f A, rw start first, glue-ge x f A, λ u more. joined E x f A u e goes more)
 

@@ -187,5 +187,5 @@ module _ (h : LPO) {n : ℕ} {E M S U W : ℕ → ℕ → ℕ → Type 0} {K : �
       by (inl o) ih = (k, record { often = o; from = T; low = low })
       by (inr (T', f)) ih = ih (T + T') (λ t l. let a = low t (omega arith) in let b = f t (omega arith) in omega arith)
 
-  pub least : (c : ℕ) × Least col c
-  least = climb (2 * n + 2) 0 (omega arith) 0 (λ t l. omega arith)
+  pub least-endless : (c : ℕ) × Least col c
+  least-endless = climb (2 * n + 2) 0 (omega arith) 0 (λ t l. omega arith)

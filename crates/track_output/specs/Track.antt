@@ -3,12 +3,12 @@ use Prim.Native.Nat.{ℕ}
 use mathlib.Core.Path.{_≡_}
 use mathlib.Core.List.{List}
 use Rattle.gate.specs.declared.Refusal.{Refusal}
-use Rattle.automaton.specs.Lent.{Tables}
+use Rattle.automaton.specs.Lent.{WitnessTables}
 use Rattle.format.specs.Format.{Sheet}
 use Rattle.format.specs.Numbers.{numbers}
 use Rattle.sheet.specs.Read.{Accepted, Refuses}
 use Rattle.numbering.specs.Numbering.{MoreThan}
-use Rattle.filling.specs.Store.{Store, Fitted}
+use Rattle.filling.specs.TrackerTables.{TrackerTables, Fitted}
 use Rattle.listing_text.specs.Listing.{listing}
 use Rattle.report.specs.Report.{refusalLine}
 use Rattle.report.specs.Output.{programRoom}
@@ -20,9 +20,9 @@ longestTrack = 149525
 -- WHAT `track` PRINTS for the input s
 pub data TrackOutput (s text : List ℕ) : Type 0 where
   -- 2 to 10: "For a refusal either program prints `REF`, number (3), line (5)."
-  refused : (v w : Tables) (r : Refusal) → Refuses s v w r → text ≡ refusalLine (r .number) (r .line) → TrackOutput s text
+  refused : (before after : WitnessTables) (r : Refusal) → Refuses s before after r → text ≡ refusalLine (r .number) (r .line) → TrackOutput s text
   -- 11
   no-room : (σ : Sheet) → Accepted s σ → MoreThan (numbers σ) programRoom → text ≡ refusalLine 11 0 → TrackOutput s text
-  -- the listing of the sheet's tracker, in tables that were f and are g
-  listed : (σ : Sheet) → Accepted s σ → (f g : Store) (count : ℕ) → Fitted (numbers σ) programRoom f g count
-      → text ≡ listing (σ .n) (σ .k) count (g .tuples) (g .nexts) → TrackOutput s text
+  -- the listing of the sheet's tracker
+  listed : (σ : Sheet) → Accepted s σ → (before after : TrackerTables) (count : ℕ) → Fitted (numbers σ) programRoom before after count
+      → text ≡ listing (σ .n) (σ .k) count (after .tuples) (after .nexts) → TrackOutput s text

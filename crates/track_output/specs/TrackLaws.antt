@@ -10,19 +10,19 @@ use Rattle.gate.specs.declared.Refusal.{Refusal}
 use Rattle.gate.specs.declared.Written.{Written}
 use Rattle.gate.specs.declared.Written.the-variants.{Refused, Bytes}
 use Rattle.automaton.specs.Automaton.{AreNumbers}
-use Rattle.automaton.specs.Lent.{Tables, tables}
+use Rattle.automaton.specs.Lent.{witnessTables}
 use Rattle.format.specs.Format.{Sheet, Faulty, mostSheet}
 use Rattle.format.specs.Numbers.{numbers}
 use Rattle.format.specs.NumbersLaws.{sheet-fits}
 use Rattle.parser.specs.UniqueLaws.{fault-unique, file-or-fault}
 use Rattle.sheet.specs.Read.{Refuses}
-use Rattle.filling.specs.Store.{Store}
-use Rattle.tracker.specs.Build.{Lent, Builds}
+use Rattle.filling.specs.TrackerTables.{TrackerTables}
+use Rattle.tracker.specs.Build.{BuildTables, EnoughToBuild, Builds}
 use Rattle.tracker.specs.BuildLaws.{file-built}
 use Rattle.tracker.specs.declared.Tracker.{Tracker}
 use Rattle.tracker.specs.declared.Built.the-variants.{Refused as BuildRefused, Is}
 use Rattle.listing_text.specs.Listing.{listing}
-use Rattle.listing.specs.List.{listingOf, Lists}
+use Rattle.listing.specs.List.{ListTables, listTables, listingOf, Lists}
 use Rattle.listing_text.specs.PutLaws.{listing-length, listing-small}
 use Rattle.listing_text.specs.ListingLaws.{fitted-shown}
 use Rattle.report.specs.Report.{refusalLine, lineOf}
@@ -36,15 +36,15 @@ use Rattle.track_output.specs.Parts.{Behind, Printing}
 
 module _ (s text : List ℕ) (long : mostSheet < length s) where
   only-size : TrackOutput s text → text ≡ refusalLine 2 0
-  only-size (TrackOutput.refused v w r (Refuses.faulty number line h e z) p) =
+  only-size (TrackOutput.refused before after r (Refuses.faulty number line h e z) p) =
       let (a, b) = fault-unique s number 2 line 0 h (Faulty.size long) in
       p ∙ (ap lineOf e ∙ rw (a, b))
-  only-size (TrackOutput.refused v w r (Refuses.meeting σ h m) p) = absurd (file-or-fault s σ 2 0 h (Faulty.size long))
+  only-size (TrackOutput.refused before after r (Refuses.meeting σ h m) p) = absurd (file-or-fault s σ 2 0 h (Faulty.size long))
   only-size (TrackOutput.no-room σ h m p) = absurd (file-or-fault s σ 2 0 (h .file) (Faulty.size long))
-  only-size (TrackOutput.listed σ h f g count x p) = absurd (file-or-fault s σ 2 0 (h .file) (Faulty.size long))
+  only-size (TrackOutput.listed σ h before after count x p) = absurd (file-or-fault s σ 2 0 (h .file) (Faulty.size long))
 
   by-size : text ≡ refusalLine 2 0 → TrackOutput s text
-  by-size p = TrackOutput.refused (tables [] [] []) (tables [] [] []) (refusal 2 0) (Refuses.faulty 2 0 (Faulty.size long) refl refl) p
+  by-size p = TrackOutput.refused (witnessTables [] [] []) (witnessTables [] [] []) (refusal 2 0) (Refuses.faulty 2 0 (Faulty.size long) refl refl) p
 
 pub too-long-track : TooLong TrackOutput mostSheet (refusalLine 2 0)
 too-long-track s text long = (only-size s text long, by-size s text long)
@@ -56,30 +56,31 @@ track-enough = enough too-long-track
 -- THE ANSWERS OF LISTING, in tables and a buffer that are long enough
 
 -- 2 to 11
-refused-output : {s : List ℕ} {t u : List ℕ} {v w : Tables} {f g : Store} {r : Refusal} → Lent programRoom t v f
-    → Builds s programRoom t u v w f g (BuildRefused r) → TrackOutput s (lineOf r)
-refused-output lent (Builds.short n e o p q) = absurd (n lent)
-refused-output {v = v} {w} {r = r} lent (Builds.refused l q x e o z) =
+refused-output : {s : List ℕ} {before after : BuildTables} {r : Refusal} → EnoughToBuild programRoom before
+    → Builds s programRoom before after (BuildRefused r) → TrackOutput s (lineOf r)
+refused-output lent (Builds.short n e same) = absurd (n lent)
+refused-output {before = before} {after} {r} lent (Builds.refused l q x e o z) =
     let k : q ≡ r = cc in
-    TrackOutput.refused v w q x (sym (ap lineOf k))
+    TrackOutput.refused (before .witness) (after .witness) q x (sym (ap lineOf k))
 refused-output lent (Builds.asked l σ x z (m, e, q) o) = TrackOutput.no-room σ x m (ap lineOf e)
 
-same-listing : (x : Tracker) (h : Store) (σ : Sheet) → AreNumbers (numbers σ) (x .numbers)
-    → listingOf x h ≡ listing (σ .n) (σ .k) (x .tuples) (h .tuples) (h .nexts)
+same-listing : (x : Tracker) (tracker : TrackerTables) (σ : Sheet) → AreNumbers (numbers σ) (x .numbers)
+    → listingOf x tracker ≡ listing (σ .n) (σ .k) (x .tuples) (tracker .tuples) (tracker .nexts)
 unfolding numbers
-same-listing x h σ are = rw (are .n, are .k)
+same-listing x tracker σ are = rw (are .n, are .k)
 
 -- the text of a tracker that fits: it is no longer than the longest
-listed-output : {s : List ℕ} {t u : List ℕ} {v w : Tables} {f h : Store} (x : Tracker) → Builds s programRoom t u v w f h (Is x)
-    → TrackOutput s (listingOf x h) × (length (listingOf x h) ≤ longestTrack)
+listed-output : {s : List ℕ} {before built : BuildTables} (x : Tracker) → Builds s programRoom before built (Is x)
+    → TrackOutput s (listingOf x (built .tracker)) × (length (listingOf x (built .tracker)) ≤ longestTrack)
 unfolding numbers
-listed-output {s} {f = f} {h} x built =
-    let (lent, (σ, y, are, o, fitted), z) = file-built built in
-    let e = same-listing x h σ are in
-    let shown = fitted-shown (numbers σ) (sheet-fits s σ (y .file)) programRoom (x .tuples) f h (lent .store) fitted in
+listed-output {s} {before} {built} x builds =
+    let (lent, (σ, y, are, o, fitted), z) = file-built builds in
+    let tracker = built .tracker in
+    let e = same-listing x tracker σ are in
+    let shown = fitted-shown (numbers σ) (sheet-fits s σ (y .file)) programRoom (x .tuples) (before .tracker) tracker (lent .store) fitted in
     let small = listing-small (σ .n) (σ .k) (x .tuples) (shown .sizes) in
-    let l = listing-length (σ .n) (σ .k) (x .tuples) (h .tuples) (h .nexts) in
-    (TrackOutput.listed σ y f h (x .tuples) fitted e, omega (arith, ap length e))
+    let l = listing-length (σ .n) (σ .k) (x .tuples) (tracker .tuples) (tracker .nexts) in
+    (TrackOutput.listed σ y (before .tracker) tracker (x .tuples) fitted e, omega (arith, ap length e))
 
 -- a refusal leaves the buffer all zero
 
@@ -87,12 +88,15 @@ put-behind : (text b c : List ℕ) (l : Written) → Put text b c l → Behind l
 put-behind text b c (Refused r) (short, e, z) = zero-again b c z
 put-behind text b c (Bytes m) put = tt
 
-pub list-behind : {s : List ℕ} {t u : List ℕ} {v w : Tables} {f g : Store} (b c : List ℕ) {l : Written} → Lent programRoom t v f
-    → Lists s programRoom t u v w f g b c l → Behind l c
-list-behind b c lent (Lists.short n e o p q z) = absurd (n lent)
-list-behind b c lent (Lists.refused m r x e z) = subst (λ (l : Written). Behind l c) (sym e) (zero-again b c z)
-list-behind b c {l} lent (Lists.asked m h x built put o p) = put-behind (listingOf x h) b c l put
+pub list-behind : {s : List ℕ} {before after : ListTables} {l : Written} → EnoughToBuild programRoom (before .build) → Lists s programRoom before after l
+    → Behind l (after .output)
+list-behind lent (Lists.short n e same) = absurd (n lent)
+list-behind {before = before} {after} lent (Lists.refused m r x e z) =
+    subst (λ (l : Written). Behind l (after .output)) (sym e) (zero-again (before .output) (after .output) z)
+list-behind {before = before} {after} {l} lent (Lists.asked built x builds put left) =
+    put-behind (listingOf x (built .tracker)) (before .output) (after .output) l put
 
+-- behind listing the buffer is c, and behind the answer d
 module _ (s b c d : List ℕ) (count : ℕ) (long : longestTrack ≤ length b) (kept : length c ≡ length b) where
   line-prints : (r : Refusal) → TrackOutput s (lineOf r) → Printing (Refused r) c d count → Prints (TrackOutput s) longestTrack b d count
   line-prints r o (n, e) =
@@ -105,8 +109,10 @@ module _ (s b c d : List ℕ) (count : ℕ) (long : longestTrack ≤ length b) (
   text-prints text o h (Refused r) (short, e, z) a = absurd (omega arith)
   text-prints text o h (Bytes m) (n, within, z) (k, e) = Prints.printed long text o (k ∙ n) h (e ∙ z)
 
-  pub track-prints : {t u : List ℕ} {v w : Tables} {f g : Store} {l : Written} → Lent programRoom t v f → Lists s programRoom t u v w f g b c l
+  pub track-prints : {before after : BuildTables} {l : Written} → EnoughToBuild programRoom before → Lists s programRoom (listTables before b) (listTables after c) l
       → Printing l c d count → Prints (TrackOutput s) longestTrack b d count
-  track-prints lent (Lists.short n e o p q z) a = absurd (n lent)
+  track-prints lent (Lists.short n e same) a = absurd (n lent)
   track-prints lent (Lists.refused m r x e z) a = line-prints r (refused-output lent x) (subst (λ (l : Written). Printing l c d count) e a)
-  track-prints {l = l} lent (Lists.asked m h x built put o p) a = let (q, k) = listed-output x built in text-prints (listingOf x h) q k l put a
+  track-prints {l = l} lent (Lists.asked built x builds put left) a =
+      let (o, small) = listed-output x builds in
+      text-prints (listingOf x (built .tracker)) o small l put a

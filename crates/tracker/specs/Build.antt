@@ -6,46 +6,80 @@ use Rattle.gate.specs.Gate.{refusal, cleared}
 use Rattle.gate.specs.declared.Refusal.{Refusal}
 use Rattle.automaton.specs.Automaton.{Automaton, graphOf, Fits, AreNumbers}
 use Rattle.automaton.specs.Meeting.{Free, Everywhere}
-use Rattle.automaton.specs.Lent.{Tables, Lengths, clearedTables, NumbersRefuse, lentTable}
+use Rattle.automaton.specs.Lent.{WitnessTables, EnoughForSheet, clearedWitness, NumbersRefuse, lentTable}
 use Rattle.format.specs.Format.{Sheet}
 use Rattle.format.specs.Numbers.{numbers}
 use Rattle.sheet.specs.Read.{Accepted, Refuses}
 use Rattle.numbering.specs.Numbering.{MoreThan}
-use Rattle.filling.specs.Store.{Store, clearedStore, RoomFits, Fitted}
+use Rattle.filling.specs.TrackerTables.{TrackerTables, clearedTracker, EnoughForTracker, Fitted}
 use Rattle.tracker.specs.declared.Built.{Built}
 use Rattle.tracker.specs.declared.Built.the-variants.{Refused, Is}
 
+-- THE LENT TABLES of building from numbers, and those of building from a sheet file
+pub record BuildNumbersTables : Type 0 where
+  -- the word and two walks of a refusal 10
+  pub witness : WitnessTables
+  -- the tuples and nexts
+  pub tracker : TrackerTables
+
+abbrev pub buildNumbersTables : WitnessTables → TrackerTables → BuildNumbersTables
+buildNumbersTables witness tracker = record { witness = witness; tracker = tracker }
+
+pub record BuildTables : Type 0 where
+  -- the successor sets
+  pub successors : List ℕ
+  pub witness : WitnessTables
+  pub tracker : TrackerTables
+
+abbrev pub buildTables : List ℕ → WitnessTables → TrackerTables → BuildTables
+buildTables successors witness tracker = record { successors = successors; witness = witness; tracker = tracker }
+
+-- each table all zero, as long as before
+abbrev pub clearedBuildNumbers : BuildNumbersTables → BuildNumbersTables
+clearedBuildNumbers before = buildNumbersTables (clearedWitness (before .witness)) (clearedTracker (before .tracker))
+
+abbrev pub clearedBuild : BuildTables → BuildTables
+clearedBuild before = buildTables (cleared (before .successors)) (clearedWitness (before .witness)) (clearedTracker (before .tracker))
+
 -- QUESTION 1: "Are the lent tables long enough (128 successor sets; a witness of 136 letters and two walks of 137 states; for room R, 17·R
--- tuple numbers and 8·R next numbers ..), and is R 1 to 1,024?" The successor sets' table is t, the witness v, the tuples and nexts f.
-pub record Lent (room : ℕ) (t : List ℕ) (v : Tables) (f : Store) : Type 0 where
-  pub lengths : Lengths t v
-  pub store : RoomFits room f
+-- tuple numbers and 8·R next numbers ..), and is R 1 to 1,024?"
+pub record EnoughToBuild (room : ℕ) (before : BuildTables) : Type 0 where
+  pub lengths : EnoughForSheet (before .successors) (before .witness)
+  pub store : EnoughForTracker room (before .tracker)
 
--- QUESTION 11 on the automaton A, in tables that were f and are g: the tracker, or 11 with both all zero
-abbrev pub Tracks : Automaton → ℕ → Store → Store → Built → Type 0
-Tracks A room f g (Refused r) = MoreThan A room × (r ≡ refusal 11 0) × (g ≡ clearedStore f)
-Tracks A room f g (Is x) = AreNumbers A (x .numbers) × Fitted A room f g (x .tuples)
+-- where the sheet comes as the numbers A, with its successor sets
+abbrev pub EnoughToBuildNumbers : Automaton → ℕ → BuildNumbersTables → Type 0
+EnoughToBuildNumbers A room before = EnoughToBuild room (buildTables (A .table) (before .witness) (before .tracker))
 
--- BUILDING FROM NUMBERS. The sheet as numbers is A; the witness was v and is w, the tuples and nexts were f and are g.
-pub data BuildsNumbers (A : Automaton) (room : ℕ) (v w : Tables) (f g : Store) (b : Built) : Type 0 where
+-- QUESTION 11 on the automaton A: the tracker, or 11 with both of its tables all zero
+abbrev pub Tracks : Automaton → ℕ → TrackerTables → TrackerTables → Built → Type 0
+Tracks A room before after (Refused r) = MoreThan A room × (r ≡ refusal 11 0) × (after ≡ clearedTracker before)
+Tracks A room before after (Is x) = AreNumbers A (x .numbers) × Fitted A room before after (x .tuples)
+
+-- BUILDING FROM NUMBERS. The sheet as numbers is A.
+pub data BuildsNumbers (A : Automaton) (room : ℕ) (before after : BuildNumbersTables) (b : Built) : Type 0 where
   -- 1, asked first: nothing is touched
-  short : (Lent room (A .table) v f → ⊥) → b ≡ Refused (refusal 1 0) → w ≡ v → g ≡ f → BuildsNumbers A room v w f g b
+  short : (EnoughToBuildNumbers A room before → ⊥) → b ≡ Refused (refusal 1 0) → after ≡ before → BuildsNumbers A room before after b
   -- 4, 7, 8 and 10
-  refused : Lent room (A .table) v f → (r : Refusal) → NumbersRefuse A v w r → b ≡ Refused r → g ≡ clearedStore f → BuildsNumbers A room v w f g b
+  refused : EnoughToBuildNumbers A room before → (r : Refusal) → NumbersRefuse A (before .witness) (after .witness) r → b ≡ Refused r
+      → after .tracker ≡ clearedTracker (before .tracker) → BuildsNumbers A room before after b
   -- 11, or the tracker
-  asked : Lent room (A .table) v f → Fits A → Free (graphOf A) Everywhere → w ≡ clearedTables v → Tracks A room f g b → BuildsNumbers A room v w f g b
+  asked : EnoughToBuildNumbers A room before → Fits A → Free (graphOf A) Everywhere → after .witness ≡ clearedWitness (before .witness)
+      → Tracks A room (before .tracker) (after .tracker) b → BuildsNumbers A room before after b
 
--- a lent table of successor sets, which was t, behind question 11: all zero with a refusal, and the sheet's with its tracker
+-- a lent table of successor sets behind question 11: all zero with a refusal, and the sheet's with its tracker
 abbrev pub TableIs : List ℕ → List ℕ → List ℕ → Built → Type 0
-TableIs sets t u (Refused r) = u ≡ cleared t
-TableIs sets t u (Is x) = u ≡ lentTable sets t
+TableIs sets before after (Refused r) = after ≡ cleared before
+TableIs sets before after (Is x) = after ≡ lentTable sets before
 
--- BUILDING FROM A SHEET FILE s. The successor sets' table was t and is u.
-pub data Builds (s : List ℕ) (room : ℕ) (t u : List ℕ) (v w : Tables) (f g : Store) (b : Built) : Type 0 where
+-- BUILDING FROM A SHEET FILE s
+pub data Builds (s : List ℕ) (room : ℕ) (before after : BuildTables) (b : Built) : Type 0 where
   -- 1, asked first: nothing is touched
-  short : (Lent room t v f → ⊥) → b ≡ Refused (refusal 1 0) → u ≡ t → w ≡ v → g ≡ f → Builds s room t u v w f g b
+  short : (EnoughToBuild room before → ⊥) → b ≡ Refused (refusal 1 0) → after ≡ before → Builds s room before after b
   -- 2 to 10
-  refused : Lent room t v f → (r : Refusal) → Refuses s v w r → b ≡ Refused r → u ≡ cleared t → g ≡ clearedStore f → Builds s room t u v w f g b
+  refused : EnoughToBuild room before → (r : Refusal) → Refuses s (before .witness) (after .witness) r → b ≡ Refused r
+      → after .successors ≡ cleared (before .successors) → after .tracker ≡ clearedTracker (before .tracker) → Builds s room before after b
   -- 11, or the tracker
-  asked : Lent room t v f → (σ : Sheet) → Accepted s σ → w ≡ clearedTables v → Tracks (numbers σ) room f g b → TableIs (numbers σ .table) t u b
-      → Builds s room t u v w f g b
+  asked : EnoughToBuild room before → (σ : Sheet) → Accepted s σ → after .witness ≡ clearedWitness (before .witness)
+      → Tracks (numbers σ) room (before .tracker) (after .tracker) b → TableIs (numbers σ .table) (before .successors) (after .successors) b
+      → Builds s room before after b

@@ -6,9 +6,9 @@ use sheet::reading::read_long;
 use walks::Checked;
 ghost use Rattle.automaton.specs.Automaton.{automaton, Fits};
 ghost use Rattle.gate.specs.Gate.{Decides};
-ghost use Rattle.automaton.specs.Lent.{tables};
-ghost use Rattle.filling.specs.Store.{store, RoomFits};
-ghost use Rattle.tracker.specs.Build.{Lent, Tracks, BuildsNumbers, Builds};
+ghost use Rattle.automaton.specs.Lent.{witnessTables};
+ghost use Rattle.filling.specs.TrackerTables.{trackerTables, EnoughForTracker};
+ghost use Rattle.tracker.specs.Build.{buildNumbersTables, buildTables, EnoughToBuild, Tracks, BuildsNumbers, Builds};
 
 // A tracker that was built: the sheet's numbers, and how many tuples the tables hold.
 pub struct Tracker {
@@ -31,8 +31,8 @@ pub fn enough(
     one: &[u16],
     other: &[u16],
 ) -> bool
-    ensures { λ r. ⌜ Decides r (Lent room (now (table .entry)) (tables (now (word .entry)) (now (one .entry)) (now (other .entry)))
-        (store (now (tuples .entry)) (now (nexts .entry)))) ⌝ }
+    ensures { λ r. ⌜ Decides r (EnoughToBuild room
+        (buildTables (now (table .entry)) (witnessTables (now (word .entry)) (now (one .entry)) (now (other .entry))) (trackerTables (now (tuples .entry)) (now (nexts .entry))))) ⌝ }
 {
     if room < 1 {
         return false;
@@ -51,9 +51,9 @@ pub fn enough(
 
 // Question 11 on an automaton that fits, in tables with any contents.
 pub fn track(a: Numbers, table: &[u16], room: usize, tuples: &mut [u16], nexts: &mut [u16]) -> Built
-    requires { ⌜ Fits (automaton a (now table)) × RoomFits room (store (now tuples) (now nexts)) ⌝ }
+    requires { ⌜ Fits (automaton a (now table)) × EnoughForTracker room (trackerTables (now tuples) (now nexts)) ⌝ }
     ensures { λ r. ⌜ Tracks (automaton a (now (table .entry))) room
-        (store (now (tuples .entry)) (now (nexts .entry))) (store (now (tuples .exit)) (now (nexts .exit))) r ⌝ }
+        (trackerTables (now (tuples .entry)) (now (nexts .entry))) (trackerTables (now (tuples .exit)) (now (nexts .exit))) r ⌝ }
 {
     filling::clear(tuples, nexts);
     let m = filling::fill(a, table, room, tuples, nexts);
@@ -83,8 +83,8 @@ pub fn build_numbers(
     other: &mut [u16],
 ) -> Built
     ensures { λ r. ⌜ BuildsNumbers (automaton a (now (table .entry))) room
-        (tables (now (word .entry)) (now (one .entry)) (now (other .entry))) (tables (now (word .exit)) (now (one .exit)) (now (other .exit)))
-        (store (now (tuples .entry)) (now (nexts .entry))) (store (now (tuples .exit)) (now (nexts .exit))) r ⌝ }
+        (buildNumbersTables (witnessTables (now (word .entry)) (now (one .entry)) (now (other .entry))) (trackerTables (now (tuples .entry)) (now (nexts .entry))))
+        (buildNumbersTables (witnessTables (now (word .exit)) (now (one .exit)) (now (other .exit))) (trackerTables (now (tuples .exit)) (now (nexts .exit)))) r ⌝ }
 {
     if !enough(room, table, tuples, nexts, word, one, other) {
         return Built::Refused(Refusal {
@@ -111,9 +111,9 @@ pub fn build(
     one: &mut [u16],
     other: &mut [u16],
 ) -> Built
-    ensures { λ r. ⌜ Builds (now (sheet .entry)) room (now (table .entry)) (now (table .exit))
-        (tables (now (word .entry)) (now (one .entry)) (now (other .entry))) (tables (now (word .exit)) (now (one .exit)) (now (other .exit)))
-        (store (now (tuples .entry)) (now (nexts .entry))) (store (now (tuples .exit)) (now (nexts .exit))) r ⌝ }
+    ensures { λ r. ⌜ Builds (now (sheet .entry)) room
+        (buildTables (now (table .entry)) (witnessTables (now (word .entry)) (now (one .entry)) (now (other .entry))) (trackerTables (now (tuples .entry)) (now (nexts .entry))))
+        (buildTables (now (table .exit)) (witnessTables (now (word .exit)) (now (one .exit)) (now (other .exit))) (trackerTables (now (tuples .exit)) (now (nexts .exit)))) r ⌝ }
 {
     if !enough(room, table, tuples, nexts, word, one, other) {
         return Built::Refused(Refusal {

@@ -14,7 +14,7 @@ use Rattle.sets.specs.TestLaws.{some-of, none-of, empty-of, full-of}
 use Rattle.finite.specs.Finite.{pigeon-rel}
 use Rattle.theory.specs.Run.{Some, None}
 use Rattle.theory.specs.Basic.{rank-mono}
-use Rattle.tuple.specs.Step.{unlessEmpty, closed, closeUp, Place, statesAt, turns}
+use Rattle.tuple.specs.Step.{unlessEmpty, closed, closeUp, Place, setAtPlace, turns}
 use Rattle.tuple.specs.PassLaws.{In, After, two, kept, own}
 
 -- one more, unless the place is empty
@@ -34,11 +34,11 @@ rank (suc j) [] = zero
 rank (suc j) (x ∷ w) = bump (isEmpty (x .states)) (rank j w)
 
 pub dec-place : (w : List Place) (j : ℕ) → Some (After w j) ⊎ None (After w j)
-dec-place w j = by (two (isEmpty (statesAt w j)))
+dec-place w j = by (two (isEmpty (setAtPlace w j)))
   where
-    by : T (isEmpty (statesAt w j)) ⊎ T (not (isEmpty (statesAt w j))) → Some (After w j) ⊎ None (After w j)
-    by (inl e) = inr (none-of (statesAt w j) e)
-    by (inr e) = inl (some-of (statesAt w j) e)
+    by : T (isEmpty (setAtPlace w j)) ⊎ T (not (isEmpty (setAtPlace w j))) → Some (After w j) ⊎ None (After w j)
+    by (inl e) = inr (none-of (setAtPlace w j) e)
+    by (inr e) = inl (some-of (setAtPlace w j) e)
 
 pub rank-some : (j : ℕ) (w : List Place) → Some (After w j) → rank (suc j) w ≡ suc (rank j w)
 unfolding rank bump

@@ -12,7 +12,7 @@ use Rattle.sets.specs.TestLaws.{none-of, empty-of}
 use Rattle.theory.specs.Run.{Some, None}
 use Rattle.tuple.specs.Colour.{neutral, marked, emptied, dead}
 use Rattle.sets.specs.Sets.{isEmpty}
-use Rattle.tuple.specs.Step.{Place, isEmptied, colourAt, least, deadOr, statesAt, colourOf}
+use Rattle.tuple.specs.Step.{Place, isEmptied, colourAt, least, deadOr, setAtPlace, colourOf}
 use Rattle.tuple.specs.PassLaws.{After, Marked, and-l, and-r, and-i}
 
 -- The colour of one place
@@ -83,19 +83,19 @@ least-source n p i (x ∷ w) = by (decLe (colourAt n i (x .mark) (isEmptied p i 
 -- The colour of the step
 
 module _ (n p : ℕ) (w : List Place) where
-  colour-cases : (T (isEmpty (statesAt w 0)) × (colourOf n p w ≡ dead)) ⊎ (colourOf n p w ≡ least n p 0 w)
+  colour-cases : (T (isEmpty (setAtPlace w 0)) × (colourOf n p w ≡ dead)) ⊎ (colourOf n p w ≡ least n p 0 w)
   unfolding colourOf deadOr
-  colour-cases = by (isEmpty (statesAt w 0)) (λ t. t)
+  colour-cases = by (isEmpty (setAtPlace w 0)) (λ t. t)
     where
-      by : (b : Bool) → (T b → T (isEmpty (statesAt w 0)))
-          → (T (isEmpty (statesAt w 0)) × (deadOr b (least n p 0 w) ≡ dead)) ⊎ (deadOr b (least n p 0 w) ≡ least n p 0 w)
+      by : (b : Bool) → (T b → T (isEmpty (setAtPlace w 0)))
+          → (T (isEmpty (setAtPlace w 0)) × (deadOr b (least n p 0 w) ≡ dead)) ⊎ (deadOr b (least n p 0 w) ≡ least n p 0 w)
       by true f = inl (f tt, refl)
       by false f = inr refl
 
   at-most : (b : ℕ) → dead ≤ b → least n p 0 w ≤ b → colourOf n p w ≤ b
   at-most b d l = by colour-cases
     where
-      by : (T (isEmpty (statesAt w 0)) × (colourOf n p w ≡ dead)) ⊎ (colourOf n p w ≡ least n p 0 w) → colourOf n p w ≤ b
+      by : (T (isEmpty (setAtPlace w 0)) × (colourOf n p w ≡ dead)) ⊎ (colourOf n p w ≡ least n p 0 w) → colourOf n p w ≤ b
       by (inl h) = omega arith
       by (inr h) = omega arith
 
@@ -110,11 +110,11 @@ module _ (n p : ℕ) (w : List Place) where
   col-top = at-most (neutral n) (omega arith) (least-top n p 0 w)
 
   -- a dead step, or the source of the least colour
-  source : (T (isEmpty (statesAt w 0)) × (colourOf n p w ≡ dead)) ⊎ Source n p 0 w (colourOf n p w)
+  source : (T (isEmpty (setAtPlace w 0)) × (colourOf n p w ≡ dead)) ⊎ Source n p 0 w (colourOf n p w)
   source = by colour-cases (least-source n p 0 w)
     where
-      by : (T (isEmpty (statesAt w 0)) × (colourOf n p w ≡ dead)) ⊎ (colourOf n p w ≡ least n p 0 w) → Source n p 0 w (least n p 0 w)
-          → (T (isEmpty (statesAt w 0)) × (colourOf n p w ≡ dead)) ⊎ Source n p 0 w (colourOf n p w)
+      by : (T (isEmpty (setAtPlace w 0)) × (colourOf n p w ≡ dead)) ⊎ (colourOf n p w ≡ least n p 0 w) → Source n p 0 w (least n p 0 w)
+          → (T (isEmpty (setAtPlace w 0)) × (colourOf n p w ≡ dead)) ⊎ Source n p 0 w (colourOf n p w)
       by (inl h) s = inl h
       by (inr h) (from-mark j k e) = inr (from-mark j k (h ∙ e))
       by (inr h) (from-gone j z k e) = inr (from-gone j z k (h ∙ e))
@@ -123,7 +123,7 @@ module _ (n p : ℕ) (w : List Place) where
   pub col-pos : 1 ≤ colourOf n p w
   col-pos = by source
     where
-      by : (T (isEmpty (statesAt w 0)) × (colourOf n p w ≡ dead)) ⊎ Source n p 0 w (colourOf n p w) → 1 ≤ colourOf n p w
+      by : (T (isEmpty (setAtPlace w 0)) × (colourOf n p w ≡ dead)) ⊎ Source n p 0 w (colourOf n p w) → 1 ≤ colourOf n p w
       by (inl h) = omega arith
       by (inr (from-mark j k e)) = omega arith
       by (inr (from-gone j z k e)) = omega arith
@@ -132,7 +132,7 @@ module _ (n p : ℕ) (w : List Place) where
   pub col-even : (i : ℕ) → colourOf n p w ≡ marked i → Marked w i
   col-even i h = by source
     where
-      by : (T (isEmpty (statesAt w 0)) × (colourOf n p w ≡ dead)) ⊎ Source n p 0 w (colourOf n p w) → Marked w i
+      by : (T (isEmpty (setAtPlace w 0)) × (colourOf n p w ≡ dead)) ⊎ Source n p 0 w (colourOf n p w) → Marked w i
       by (inl d) = absurd (omega arith)
       by (inr (from-mark j k e)) = let x : j ≡ i = omega arith in rw (← x) k
       by (inr (from-gone j z k e)) = absurd (omega arith)
@@ -141,9 +141,9 @@ module _ (n p : ℕ) (w : List Place) where
   pub col-odd : (i : ℕ) → colourOf n p w ≡ emptied i → (i ≡ n) ⊎ (None (After w i) × ((i < p) ⊎ (i ≡ 0)))
   col-odd i h = by source
     where
-      by : (T (isEmpty (statesAt w 0)) × (colourOf n p w ≡ dead)) ⊎ Source n p 0 w (colourOf n p w)
+      by : (T (isEmpty (setAtPlace w 0)) × (colourOf n p w ≡ dead)) ⊎ Source n p 0 w (colourOf n p w)
           → (i ≡ n) ⊎ (None (After w i) × ((i < p) ⊎ (i ≡ 0)))
-      by (inl (z, d)) = let x : i ≡ 0 = omega arith in inr (rw x (none-of (statesAt w 0) z), inr x)
+      by (inl (z, d)) = let x : i ≡ 0 = omega arith in inr (rw x (none-of (setAtPlace w 0) z), inr x)
       by (inr (from-mark j k e)) = absurd (omega arith)
       by (inr (from-gone j z k e)) = let x : j ≡ i = omega arith in inr (rw (← x) z, inl (omega arith))
       by (inr (from-none e)) = inl (omega arith)

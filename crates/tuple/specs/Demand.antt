@@ -14,11 +14,11 @@ use Rattle.automaton.specs.EdgeLaws.{edge-dec}
 use Rattle.finite.specs.Paths.{glue, glue-lt, glue-ge, extend}
 use Rattle.finite.specs.Least.{lowest}
 use Rattle.theory.specs.Run.{Path, Often, Alone, Least}
-use Rattle.theory.specs.Endless.{LPO, least}
+use Rattle.theory.specs.Endless.{LPO, least-endless}
 use Rattle.theory.specs.Theorem.{repeating, endless}
 use Rattle.tuple.specs.Step.{setAt, Recurrent, run, colourEntered}
 use Rattle.tuple.specs.PassLaws.{In}
-use Rattle.tuple.specs.TupleLaws.{first-in, first-of}
+use Rattle.tuple.specs.TupleLaws.{first-in, first-member}
 use Rattle.tuple.specs.RunLaws.{run-repeats, is-run, set-zero}
 
 -- The readings of a sheet are the paths of the theory, and to visit must-recur states without end is to take recurrent transitions
@@ -29,7 +29,7 @@ Paths A w x = Path (λ t. Edge (graphOf A) (w t)) (λ t. In (run A w t .sets)) x
 
 path-of : (A : Automaton) (w x : ℕ → ℕ) → Reading (graphOf A) w x → Paths A w x
 unfolding run
-path-of A w x h = record { starts = first-of A (x 0) (h .starts); goes = h .goes }
+path-of A w x h = record { starts = first-member A (x 0) (h .starts); goes = h .goes }
 
 reading-of : (A : Automaton) (w x : ℕ → ℕ) → Paths A w x → Reading (graphOf A) w x
 unfolding run
@@ -102,7 +102,7 @@ module _ {A : Automaton} (fits : Fits A) (Counts : ℕ → Type 0) (count : (w x
 
   -- Any endless word, with the premise LPO: there is a least colour entered without end, and it is even exactly if the sheet passes the word.
   pub least-colour : LPO → (c : ℕ) × Least (colourEntered A w) c
-  least-colour lpo = least lpo (is-run fits w letters) (λ t. edge-dec (graphOf A) (w t)) (λ t j q. member-dec (setAt (run A w t .sets) j) q)
+  least-colour lpo = least-endless lpo (is-run fits w letters) (λ t. edge-dec (graphOf A) (w t)) (λ t j q. member-dec (setAt (run A w t .sets) j) q)
 
   pub demand-endless : LPO → (c : ℕ) → Least (colourEntered A w) c → (c % 2 ≡ 0) ↔ Passes A w
   demand-endless lpo c low =

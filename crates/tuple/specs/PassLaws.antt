@@ -11,14 +11,14 @@ use Rattle.sets.specs.Sets.{Member, minusOf, isWithin, isEmpty}
 use Rattle.sets.specs.SetLaws.{member-dec, no-member, union-in, union-left, union-right, minus-left, minus-not, minus-of}
 use Rattle.sets.specs.TestLaws.{some-of, none-of, within-is, outside}
 use Rattle.theory.specs.Run.{Some}
-use Rattle.tuple.specs.Step.{setAt, unionAll, isMarked, minusEach, removed, Place, place, turns, statesAt, pass}
+use Rattle.tuple.specs.Step.{setAt, unionAll, isMarked, minusEach, removed, Place, place, turns, setAtPlace, pass}
 
 -- state r is in the set at place j, before the pass and after it; place j is marked
 abbrev pub In : List ℕ → ℕ → ℕ → Type 0
 In l j r = Member (setAt l j) r
 
 abbrev pub After : List Place → ℕ → ℕ → Type 0
-After w j r = Member (statesAt w j) r
+After w j r = Member (setAtPlace w j) r
 
 abbrev pub Marked : List Place → ℕ → Type 0
 Marked w j = T (getD w j (place 0 false) .mark)

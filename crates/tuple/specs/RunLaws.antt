@@ -12,13 +12,13 @@ use Rattle.automaton.specs.Automaton.{Automaton, graphOf, Fits}
 use Rattle.automaton.specs.Graph.{Edge}
 use Rattle.automaton.specs.Meeting.{Walk}
 use Rattle.theory.specs.Run.{Run}
-use Rattle.theory.specs.Basic.{reached, reaches}
+use Rattle.theory.specs.Basic.{is-reached, reaches}
 use Rattle.tuple.specs.Step.{colourEntered, Recurrent, setAt, places, Place, pass, first, next, run}
 use Rattle.tuple.specs.PassLaws.{In, front, After, Marked, kept, gone, mark-some, mark-in, mark-out, turns-length}
 use Rattle.tuple.specs.CloseLaws.{rank, rank-some, rank-none, move, move⁻, dec-place}
 use Rattle.tuple.specs.ColourLaws.{col-mark, col-gone, col-pos, col-top, col-even, col-odd}
 use Rattle.tuple.specs.PlaceLaws.{recurrent-dec, places-old, places-old⁻, places-new, places-new⁻, places-none, places-length}
-use Rattle.tuple.specs.TupleLaws.{run-formed, first-in, first-of}
+use Rattle.tuple.specs.TupleLaws.{run-formed, first-in, first-member}
 
 -- from equal tuples on, over a word that repeats, the tuples repeat
 pub run-repeats : (A : Automaton) (w : ℕ → ℕ) (T d : ℕ) → ((t : ℕ) → T ≤ t → w (t + suc d) ≡ w t) → run A w (T + suc d) ≡ run A w T
@@ -88,7 +88,7 @@ module _ {A : Automaton} (fits : Fits A) (w : ℕ → ℕ) (letters : (t : ℕ) 
   set-zero t q = (to, from)
     where
       to : Member (setAt (run A w t .sets) 0) q → (x : ℕ → ℕ) × Walk (graphOf A) w t x × (x t ≡ q)
-      to h = let (x, e, s, goes) = reached is-run t q h in (x, record { starts = first-in A 0 (x 0) s .1; goes = goes }, e)
+      to h = let (x, e, s, goes) = is-reached is-run t q h in (x, record { starts = first-in A 0 (x 0) s .1; goes = goes }, e)
 
       from : ((x : ℕ → ℕ) × Walk (graphOf A) w t x × (x t ≡ q)) → Member (setAt (run A w t .sets) 0) q
-      from (x, h, e) = subst (λ (z : ℕ). Member (setAt (run A w t .sets) 0) z) e (reaches is-run t x (first-of A (x 0) (h .starts)) (h .goes))
+      from (x, h, e) = subst (λ (z : ℕ). Member (setAt (run A w t .sets) 0) z) e (reaches is-run t x (first-member A (x 0) (h .starts)) (h .goes))

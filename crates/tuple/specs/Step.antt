@@ -98,12 +98,12 @@ deadOr true c = dead
 deadOr false c = c
 
 -- the set at place i after the pass, before closing up
-abbrev pub statesAt : List Place → ℕ → ℕ
-statesAt w i = getD w i (place 0 false) .states
+abbrev pub setAtPlace : List Place → ℕ → ℕ
+setAtPlace w i = getD w i (place 0 false) .states
 
 -- "1 if set 0 is empty"
 unfoldable pub colourOf : ℕ → ℕ → List Place → ℕ
-colourOf n p w = deadOr (isEmpty (statesAt w 0)) (least n p 0 w)
+colourOf n p w = deadOr (isEmpty (setAtPlace w 0)) (least n p 0 w)
 
 -- 5. "Close up the gaps, keeping order."
 unfoldable pub unlessEmpty : Bool → ℕ → List ℕ → List ℕ

@@ -10,7 +10,7 @@ use Rattle.sets.specs.Sets.{interOf, isEmpty}
 use Rattle.automaton.specs.Automaton.{Automaton}
 use Rattle.automaton.specs.Successors.{successorsOf}
 use Rattle.automaton.specs.SuccessorLaws.{successors-empty}
-use Rattle.tuple.specs.Step.{setAt, recurrent, places, turns, pass, statesAt, deadOr, colourOf, closeUp, next}
+use Rattle.tuple.specs.Step.{setAt, recurrent, places, turns, pass, setAtPlace, deadOr, colourOf, closeUp, next}
 use Rattle.tuple.specs.PassLaws.{turns-length}
 use Rattle.tuple.specs.CloseLaws.{closeUp-length}
 use Rattle.tuple.specs.PlaceLaws.{places-length}
@@ -21,7 +21,7 @@ use Rattle.lists.specs.SearchLaws.{leading-length}
 use Rattle.tuple.specs.Parts.{Advanced, Swept, Placed, settled}
 
 -- the pass does not touch place 0
-pass-first : (l : List ℕ) → statesAt (pass l) 0 ≡ setAt l 0
+pass-first : (l : List ℕ) → setAtPlace (pass l) 0 ≡ setAt l 0
 unfolding pass turns
 pass-first [] = refl
 pass-first (x ∷ l) = refl
@@ -46,7 +46,7 @@ pub settle-done : (n p : ℕ) (cells result : List ℕ) (c : ℕ) → p < length
     → set result setCells (deadOr (isEmpty (getD cells 0 0)) c) ≡ settled n p cells
 unfolding colourOf
 settle-done n p cells result c h swept =
-    let z : getD cells 0 0 ≡ statesAt (pass (take (p + 1) cells)) 0 =
+    let z : getD cells 0 0 ≡ setAtPlace (pass (take (p + 1) cells)) 0 =
     sym (getD-take (p + 1) cells 0 0 (omega arith)) ∙ sym (pass-first (take (p + 1) cells)) in
     rw (swept .closes, swept .coloured, z)
 

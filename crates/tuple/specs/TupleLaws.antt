@@ -30,9 +30,9 @@ first-in A j q h = let (k, e, a) = move⁻ (first-places A) j q h in at k e a
     at zero e a = (e, a)
     at (suc k) e a = absurd (no-member q a)
 
-pub first-of : (A : Automaton) (q : ℕ) → Member (A .initial) q → In (first A .sets) 0 q
+pub first-member : (A : Automaton) (q : ℕ) → Member (A .initial) q → In (first A .sets) 0 q
 unfolding first first-places closeUp rank
-first-of A q h = move (first-places A) 0 q h
+first-member A q h = move (first-places A) 0 q h
 
 module _ {A : Automaton} (fits : Fits A) where
   pub first-formed : Formed A (first A)

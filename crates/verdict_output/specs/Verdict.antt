@@ -4,11 +4,11 @@ use mathlib.Core.Path.{_≡_}
 use mathlib.Core.List.{List}
 use lib.ListN.{take, drop}
 use Rattle.gate.specs.declared.Refusal.{Refusal}
-use Rattle.automaton.specs.Lent.{Tables}
 use Rattle.format.specs.Format.{Sheet, mostSheet}
 use Rattle.format.specs.Numbers.{numbers}
 use Rattle.sheet.specs.Read.{Accepted}
-use Rattle.filling.specs.Store.{Store, Fitted}
+use Rattle.filling.specs.TrackerTables.{TrackerTables, Fitted}
+use Rattle.tracker.specs.Build.{BuildTables}
 use Rattle.plan.specs.Plan.{mostPlan}
 use Rattle.passes.specs.Passes.{isYes}
 use Rattle.judge.specs.Verdict.{SizesFit, Refusing, Verdicts}
@@ -28,9 +28,9 @@ mostInput = mostSheet + mostPlan
 -- for a sheet s and a plan p
 pub data VerdictOn (s p text : List ℕ) : Type 0 where
   -- 2 to 14: "For a refusal either program prints `REF`, number (3), line (5)."
-  refused : (v w : Tables) (f : Store) (r : Refusal) → Refusing s p programRoom v w f r → text ≡ refusalLine (r .number) (r .line) → VerdictOn s p text
+  refused : (before after : BuildTables) (r : Refusal) → Refusing s p programRoom before after r → text ≡ refusalLine (r .number) (r .line) → VerdictOn s p text
   -- "`YES` or ` NO`, least colour (3), passes (5)"
-  judged : SizesFit s p → (σ : Sheet) → Accepted s σ → (f g : Store) (count : ℕ) → Fitted (numbers σ) programRoom f g count
+  judged : SizesFit s p → (σ : Sheet) → Accepted s σ → (before after : TrackerTables) (count : ℕ) → Fitted (numbers σ) programRoom before after count
       → (lead cycle : List ℕ) (z : Verdict) → Verdicts σ p lead cycle count z
       → text ≡ verdictLine (isYes (z .answer)) (z .least) (z .passes) → VerdictOn s p text
 

@@ -7,11 +7,11 @@ use native.Mathlib.Omega.{arith}
 use lib.ListN.{length, take, drop, length-drop}
 use lib.Seq.{length-take-le}
 use Rattle.gate.specs.Gate.{refusal, lentText}
-use Rattle.automaton.specs.Lent.{Tables, tables}
+use Rattle.automaton.specs.Lent.{witnessTables}
 use Rattle.text.specs.Bytes.{stretch}
 use Rattle.text.specs.BytesLaws.{stretch-end}
-use Rattle.filling.specs.Store.{Store, store}
-use Rattle.tracker.specs.Build.{Lent}
+use Rattle.filling.specs.TrackerTables.{trackerTables}
+use Rattle.tracker.specs.Build.{BuildTables, buildTables, EnoughToBuild}
 use Rattle.passes.specs.Passes.{isYes}
 use Rattle.judge.specs.Verdict.{SizesFit, Refusing, Judgement}
 use Rattle.judge.specs.declared.Outcome.{Outcome}
@@ -34,15 +34,16 @@ no-sizes s e long split fit =
     omega (arith, length-take-le e s h, length-drop e s, fit .sheet, fit .plan)
 
 only-size : (s p text : List ℕ) → (SizesFit s p → ⊥) → VerdictOn s p text → text ≡ refusalLine 2 0
-only-size s p text not (VerdictOn.refused v w f r (Refusing.by-size n e z) q) = q ∙ ap lineOf e
-only-size s p text not (VerdictOn.refused v w f r (Refusing.by-sheet fit x) q) = absurd (not fit)
-only-size s p text not (VerdictOn.refused v w f r (Refusing.by-room fit σ x m e z) q) = absurd (not fit)
-only-size s p text not (VerdictOn.refused v w f r (Refusing.by-plan fit σ x h count g number line y e z) q) = absurd (not fit)
-only-size s p text not (VerdictOn.judged fit σ x f g count h lead cycle z y q) = absurd (not fit)
+only-size s p text not (VerdictOn.refused before after r (Refusing.by-size n e z) q) = q ∙ ap lineOf e
+only-size s p text not (VerdictOn.refused before after r (Refusing.by-sheet fit x) q) = absurd (not fit)
+only-size s p text not (VerdictOn.refused before after r (Refusing.by-room fit σ x m e z) q) = absurd (not fit)
+only-size s p text not (VerdictOn.refused before after r (Refusing.by-plan fit σ x built count h number line y e z) q) = absurd (not fit)
+only-size s p text not (VerdictOn.judged fit σ x before after count h lead cycle z y q) = absurd (not fit)
 
 by-size : (s p text : List ℕ) → (SizesFit s p → ⊥) → text ≡ refusalLine 2 0 → VerdictOn s p text
 by-size s p text not q =
-    VerdictOn.refused (tables [] [] []) (tables [] [] []) (store [] []) (refusal 2 0) (Refusing.by-size not refl refl) q
+    let none = buildTables [] (witnessTables [] [] []) (trackerTables [] []) in
+    VerdictOn.refused none none (refusal 2 0) (Refusing.by-size not refl refl) q
 
 pub too-long-verdict : TooLong VerdictOutput mostInput (refusalLine 2 0)
 too-long-verdict s text long =
@@ -61,15 +62,16 @@ outcome-length : (o : Outcome) → length (outcomeLine o) ≡ 12
 outcome-length (Refused r) = refusal-length (r .number) (r .line)
 outcome-length (Judged z) = verdict-length (isYes (z .answer)) (z .least) (z .passes)
 
-judgement-on : {s p t u : List ℕ} {v w : Tables} {f g : Store} {o : Outcome} → Lent programRoom t v f → Judgement s p programRoom t u v w f g o
+judgement-on : {s p : List ℕ} {before after : BuildTables} {o : Outcome} → EnoughToBuild programRoom before → Judgement s p programRoom before after o
     → VerdictOn s p (outcomeLine o)
-judgement-on lent (Judgement.short n e x y z) = absurd (n lent)
-judgement-on {v = v} {w} {f} lent (Judgement.refused l r x e y z) = VerdictOn.refused v w f r x (ap outcomeLine e)
-judgement-on {f = f} {g} lent (Judgement.judged l fit σ x count h lead cycle z y e p q) = VerdictOn.judged fit σ x f g count h lead cycle z y (ap outcomeLine e)
+judgement-on lent (Judgement.short n e same) = absurd (n lent)
+judgement-on {before = before} {after} lent (Judgement.refused l r x e y z) = VerdictOn.refused before after r x (ap outcomeLine e)
+judgement-on {before = before} {after} lent (Judgement.judged l fit σ x count h lead cycle z y e p q) =
+    VerdictOn.judged fit σ x (before .tracker) (after .tracker) count h lead cycle z y (ap outcomeLine e)
 
 -- the sheet is what stands before its end, and the plan is the rest
-pub judgement-output : {s t u : List ℕ} {v w : Tables} {f g : Store} {o : Outcome} (e : ℕ) → SheetEnds s e → Lent programRoom t v f
-    → Judgement (take e s) (stretch s e (length s)) programRoom t u v w f g o → VerdictOutput s (outcomeLine o)
+pub judgement-output : {s : List ℕ} {before after : BuildTables} {o : Outcome} (e : ℕ) → SheetEnds s e → EnoughToBuild programRoom before
+    → Judgement (take e s) (stretch s e (length s)) programRoom before after o → VerdictOutput s (outcomeLine o)
 judgement-output {s} {o = o} e split lent j =
     record { end = e; split = split; on = subst (λ (p : List ℕ). VerdictOn (take e s) p (outcomeLine o)) (stretch-end s e) (judgement-on lent j) }
 

@@ -4,7 +4,7 @@ ghost use Rattle.gate.specs.Gate.{Decides};
 ghost use Rattle.automaton.specs.Automaton.{automaton};
 ghost use Rattle.automaton.specs.Graph.{graph};
 ghost use Rattle.automaton.specs.Meeting.{Everywhere};
-ghost use Rattle.automaton.specs.Lent.{tables, Lengths, clearedTables};
+ghost use Rattle.automaton.specs.Lent.{witnessTables, EnoughForSheet, clearedWitness};
 ghost use Rattle.meeting.specs.Answer.{Asked, Answered};
 ghost use Rattle.walks.specs.Check.{Checks, ChecksLong};
 use automaton::GraphNumbers;
@@ -26,15 +26,15 @@ pub fn ask(
     one: &mut [u16],
     other: &mut [u16],
 ) -> usize
-    requires { ⌜ Asked (graph g (now table)) (tables (now word) (now one) (now other)) ⌝ }
-    ensures { λ r. ⌜ Answered (graph g (now (table .entry))) Everywhere (tables (now (word .entry)) (now (one .entry)) (now (other .entry))) (tables (now (word .exit)) (now (one .exit)) (now (other .exit))) r ⌝ }
+    requires { ⌜ Asked (graph g (now table)) (witnessTables (now word) (now one) (now other)) ⌝ }
+    ensures { λ r. ⌜ Answered (graph g (now (table .entry))) Everywhere (witnessTables (now (word .entry)) (now (one .entry)) (now (other .entry))) (witnessTables (now (word .exit)) (now (one .exit)) (now (other .exit))) r ⌝ }
 {
     meeting::search(g, table, 65535, word, one, other)
 }
 
 // Question 1 of a call that takes a sheet.
 pub fn long_enough(table: &[u16], word: &[u16], one: &[u16], other: &[u16]) -> bool
-    ensures { λ r. ⌜ Decides r (Lengths (now (table .entry)) (tables (now (word .entry)) (now (one .entry)) (now (other .entry)))) ⌝ }
+    ensures { λ r. ⌜ Decides r (EnoughForSheet (now (table .entry)) (witnessTables (now (word .entry)) (now (one .entry)) (now (other .entry)))) ⌝ }
 {
     if table.len() < 128 {
         return false;
@@ -59,8 +59,8 @@ fn check_cleared(
     one: &mut [u16],
     other: &mut [u16],
 ) -> Checked
-    requires { ⌜ Lengths (now table) (tables (now word) (now one) (now other)) × (tables (now word) (now one) (now other) ≡ clearedTables (tables (now word) (now one) (now other))) ⌝ }
-    ensures { λ r. ⌜ ChecksLong (automaton a (now (table .entry))) (tables (now (word .entry)) (now (one .entry)) (now (other .entry))) (tables (now (word .exit)) (now (one .exit)) (now (other .exit))) r ⌝ }
+    requires { ⌜ EnoughForSheet (now table) (witnessTables (now word) (now one) (now other)) × (witnessTables (now word) (now one) (now other) ≡ clearedWitness (witnessTables (now word) (now one) (now other))) ⌝ }
+    ensures { λ r. ⌜ ChecksLong (automaton a (now (table .entry))) (witnessTables (now (word .entry)) (now (one .entry)) (now (other .entry))) (witnessTables (now (word .exit)) (now (one .exit)) (now (other .exit))) r ⌝ }
 {
     let number = automaton::first_no(a, table);
     if number != 0 {
@@ -89,8 +89,8 @@ pub fn check_long(
     one: &mut [u16],
     other: &mut [u16],
 ) -> Checked
-    requires { ⌜ Lengths (now table) (tables (now word) (now one) (now other)) ⌝ }
-    ensures { λ r. ⌜ ChecksLong (automaton a (now (table .entry))) (tables (now (word .entry)) (now (one .entry)) (now (other .entry))) (tables (now (word .exit)) (now (one .exit)) (now (other .exit))) r ⌝ }
+    requires { ⌜ EnoughForSheet (now table) (witnessTables (now word) (now one) (now other)) ⌝ }
+    ensures { λ r. ⌜ ChecksLong (automaton a (now (table .entry))) (witnessTables (now (word .entry)) (now (one .entry)) (now (other .entry))) (witnessTables (now (word .exit)) (now (one .exit)) (now (other .exit))) r ⌝ }
 {
     gate::clear(word);
     gate::clear(one);
@@ -107,7 +107,8 @@ pub fn check(
     one: &mut [u16],
     other: &mut [u16],
 ) -> Checked
-    ensures { λ r. ⌜ Checks (automaton a (now (table .entry))) (tables (now (word .entry)) (now (one .entry)) (now (other .entry))) (tables (now (word .exit)) (now (one .exit)) (now (other .exit))) r ⌝ }
+    ensures { λ r. ⌜ Checks (automaton a (now (table .entry)))
+        (witnessTables (now (word .entry)) (now (one .entry)) (now (other .entry))) (witnessTables (now (word .exit)) (now (one .exit)) (now (other .exit))) r ⌝ }
 {
     if !long_enough(table, word, one, other) {
         return Checked::Refused(Refusal {

@@ -12,15 +12,15 @@ use Rattle.automaton.specs.Automaton.{Automaton, graphOf, Fits}
 use Rattle.automaton.specs.Graph.{Graph, GraphFits}
 use Rattle.automaton.specs.EdgeLaws.{edge-of, edge-state}
 use Rattle.automaton.specs.QuestionLaws.{fits-graph}
-use Rattle.format.specs.Format.{Distinct, NamesRight, StatesRight, TransitionRight, TransitionsRight, Right, place, FileIs, nameLines}
-use Rattle.format.specs.Written.{statesOf, places, placed, whereMember, transitionsOf, sheetOf, writtenSheet, written}
+use Rattle.format.specs.Format.{DistinctFrom, NamesRight, StatesRight, TransitionRight, TransitionsRight, Right, transitionIndex, FileIs, nameLines}
+use Rattle.format.specs.Written.{statesOf, mostTransitions, placed, whereMember, transitionsOf, sheetOf, writtenSheet, written}
 use Rattle.format.specs.FormatLaws.{name-length}
-use Rattle.writer.specs.LengthLaws.{statesOf-length, transitionsOf-most, states-length, transitions-length}
-use Rattle.writer.specs.TextLaws.{written-length}
+use Rattle.sheet_text.specs.LengthLaws.{statesOf-length, transitionsOf-most, states-length, transitions-length}
+use Rattle.sheet_text.specs.TextLaws.{written-length}
 
 -- The names
 
-distinct-composed : (xs : List (List ℕ)) (x : List ℕ) → Distinct xs x → Distinct (map compose xs) (compose x)
+distinct-composed : (xs : List (List ℕ)) (x : List ℕ) → DistinctFrom xs x → DistinctFrom (map compose xs) (compose x)
 distinct-composed [] x d = tt
 distinct-composed (y ∷ ys) x d = ((λ e. d .0 (sym (compose-idempotent y) ∙ e ∙ compose-idempotent x)), distinct-composed ys x (d .1))
 
@@ -63,11 +63,11 @@ module _ (G : Graph) (fits : GraphFits G) where
   transitions-right (suc left) i least h =
       by (bit (getD (G .table) (i / 16) 0) (i % 16)) refl
       (transitions-right left (suc i) least (omega arith))
-      (transitions-right left (suc i) (place (placed i) + 1) (omega arith))
+      (transitions-right left (suc i) (transitionIndex (placed i) + 1) (omega arith))
     where
       by : (b : ℕ) → bit (getD (G .table) (i / 16) 0) (i % 16) ≡ b
           → TransitionsRight (G .n) (G .k) least (transitionsOf (G .table) (suc i) left)
-          → TransitionsRight (G .n) (G .k) (place (placed i) + 1) (transitionsOf (G .table) (suc i) left)
+          → TransitionsRight (G .n) (G .k) (transitionIndex (placed i) + 1) (transitionsOf (G .table) (suc i) left)
           → TransitionsRight (G .n) (G .k) least (whereMember b (placed i) (transitionsOf (G .table) (suc i) left))
       by zero e same after = same
       by (suc b) e same after = (right i least h (omega (arith, bit-lt (getD (G .table) (i / 16) 0) (i % 16))), after)
@@ -81,7 +81,7 @@ module _ (A : Automaton) (fits : Fits A) (names : List (List ℕ)) (right : Name
     range = fits .range;
     names = names-composed names [] right;
     states = states-right (A .initial) (A .recurring) (A .n) 0;
-    transitions = transitions-right (graphOf A) (fits-graph fits) places 0 0 (omega arith);
+    transitions = transitions-right (graphOf A) (fits-graph fits) mostTransitions 0 0 (omega arith);
   }
 
   -- 12 for the first line, 8 names of 30, 16 states and 2048 transitions of 11, 4 for END
@@ -90,8 +90,8 @@ module _ (A : Automaton) (fits : Fits A) (names : List (List ℕ)) (right : Name
       let composed = names-composed names [] right in
       let k : length (map compose names) ≡ A .k = length-map names compose ∙ all in
       let states = states-length 0 (statesOf (A .initial) (A .recurring) 0 (A .n)) in
-      let transitions = transitions-length (transitionsOf (A .table) 0 places) in
-      omega (arith, written-length A names, names-most (map compose names) [] 0 composed, statesOf-length (A .initial) (A .recurring) (A .n) 0, transitionsOf-most (A .table) places 0, fits .range)
+      let transitions = transitions-length (transitionsOf (A .table) 0 mostTransitions) in
+      omega (arith, written-length A names, names-most (map compose names) [] 0 composed, statesOf-length (A .initial) (A .recurring) (A .n) 0, transitionsOf-most (A .table) mostTransitions 0, fits .range)
 
   -- WHAT IS WRITTEN IS THE FILE of the sheet that is written
   pub written-file : FileIs (written A names) (writtenSheet A names)

@@ -1,15 +1,7 @@
 pub mod Write
 pub mod Same
-pub mod Places
-pub mod RowNames
-pub mod Text
-pub mod StatesLaws
-pub mod LineLaws
-pub mod PlacesLaws
-pub mod RowNamesLaws
+pub mod Ask
 pub mod NumbersLaws
-pub mod LengthLaws
-pub mod TextLaws
 pub mod FileLaws
 pub mod TrimmedLaws
 pub mod RoundTrip

@@ -12,9 +12,9 @@ use Rattle.sets.specs.SetLaws.{bit-lt, bit-out, bit-zero, ext, small-of-within,
 use Rattle.automaton.specs.Automaton.{Automaton, Fits}
 use Rattle.format.specs.Format.{State, Transition}
 use Rattle.format.specs.Numbers.{flagSet, inserted, tableOf, numbers}
-use Rattle.format.specs.Written.{stateOf, statesOf, places, placed, whereMember, transitionsOf, sheetOf, writtenSheet}
+use Rattle.format.specs.Written.{stateOf, statesOf, mostTransitions, placed, whereMember, transitionsOf, sheetOf, writtenSheet}
 use Rattle.format.specs.NumbersLaws.{unflagged, flags-set, inserted-length, inserted-new, inserted-other, table-length}
-use Rattle.writer.specs.LengthLaws.{statesOf-length}
+use Rattle.sheet_text.specs.LengthLaws.{statesOf-length}
 use Rattle.writer.specs.Same.{trimmed}
 
 -- The states' flags
@@ -102,23 +102,23 @@ module _ (T : List ℕ) where
 
   -- the transitions of a table of 128 sets of states below 16 give it back
   table-back : 128 ≤ length T → ((c q : ℕ) → Member (getD T c 0) q → q < 16) → (empty : List ℕ) → length empty ≡ 128 → ((c : ℕ) → c < 128 → getD empty c 0 ≡ 0)
-      → tableOf empty (transitionsOf T 0 places) ≡ take 128 T
+      → tableOf empty (transitionsOf T 0 mostTransitions) ≡ take 128 T
   table-back h within empty k z =
-      ext-getD 0 (tableOf empty (transitionsOf T 0 places)) (take 128 T) (size ∙ sym (length-take-le 128 T h))
+      ext-getD 0 (tableOf empty (transitionsOf T 0 mostTransitions)) (take 128 T) (size ∙ sym (length-take-le 128 T h))
       (λ c l. let l′ : c < 128 = omega (arith, size) in rw (getD-take 128 T c 0 l′) (cell c l′))
     where
-      size : length (tableOf empty (transitionsOf T 0 places)) ≡ 128
-      size = table-length (transitionsOf T 0 places) empty ∙ k
+      size : length (tableOf empty (transitionsOf T 0 mostTransitions)) ≡ 128
+      size = table-length (transitionsOf T 0 mostTransitions) empty ∙ k
 
-      cell : (c : ℕ) → c < 128 → getD (tableOf empty (transitionsOf T 0 places)) c 0 ≡ getD T c 0
+      cell : (c : ℕ) → c < 128 → getD (tableOf empty (transitionsOf T 0 mostTransitions)) c 0 ≡ getD T c 0
       cell c l = ext _ _ (λ q. at q (decLt q 16))
         where
           none : (q : ℕ) → bit (getD empty c 0) q ≡ 0
           none q = ap (λ (x : ℕ). bit x q) (z c l) ∙ bit-zero q
 
-          at : (q : ℕ) → Dec (q < 16) → bit (getD (tableOf empty (transitionsOf T 0 places)) c 0) q ≡ bit (getD T c 0) q
-          at q (yes s) = gains places 0 empty c q (omega arith) s (omega arith) (omega arith) (none q)
-          at q (no s) = keeps places 0 empty c q (λ j u f g. s (omega arith)) ∙ none q ∙ sym (bit-out (getD T c 0) q (λ m. s (within c q m)))
+          at : (q : ℕ) → Dec (q < 16) → bit (getD (tableOf empty (transitionsOf T 0 mostTransitions)) c 0) q ≡ bit (getD T c 0) q
+          at q (yes s) = gains mostTransitions 0 empty c q (omega arith) s (omega arith) (omega arith) (none q)
+          at q (no s) = keeps mostTransitions 0 empty c q (λ j u f g. s (omega arith)) ∙ none q ∙ sym (bit-out (getD T c 0) q (λ m. s (within c q m)))
 
 -- The numbers
 
@@ -132,7 +132,7 @@ numbers-written A names fits h = λ i. record { n = A .n; k = A .k; initial = in
     recurrings : flagSet (λ z. z .recurring) 0 (statesOf (A .initial) (A .recurring) 0 (A .n)) ≡ A .recurring
     recurrings = flags-back (A .initial) (A .recurring) (λ z. z .recurring) (A .recurring) (λ q. refl) (A .n) (small-of-within (A .recurring) (A .n) (fits .states .1))
 
-    cells : tableOf (replicate 128 0) (transitionsOf (A .table) 0 places) ≡ take 128 (A .table)
+    cells : tableOf (replicate 128 0) (transitionsOf (A .table) 0 mostTransitions) ≡ take 128 (A .table)
     cells =
         table-back (A .table) h (λ c q m. let l = fits .cells c .within q m in omega (arith, fits .range))
         (replicate 128 0) refl (λ c l. getD-replicate 128 c 0 0 l)

@@ -12,11 +12,11 @@ use Rattle.automaton.specs.Graph.{Edge}
 use Rattle.automaton.specs.Meeting.{Walk, Free, Everywhere}
 use Rattle.format.specs.Format.{Sheet, lines, endLine}
 use Rattle.format.specs.Numbers.{numbers}
-use Rattle.format.specs.Written.{places, whereMember, placed, transitionsOf, sheetOf, writtenSheet, written}
+use Rattle.format.specs.Written.{mostTransitions, whereMember, placed, transitionsOf, sheetOf, writtenSheet, written}
 use Rattle.format.specs.NumbersLaws.{numbers-length}
 use Rattle.writer.specs.Same.{trimmed}
 
-transitions-trimmed : (T : List ℕ) (left i : ℕ) → i + left ≤ places → transitionsOf (take 128 T) i left ≡ transitionsOf T i left
+transitions-trimmed : (T : List ℕ) (left i : ℕ) → i + left ≤ mostTransitions → transitionsOf (take 128 T) i left ≡ transitionsOf T i left
 unfolding transitionsOf
 transitions-trimmed T zero i h = refl
 transitions-trimmed T (suc left) i h =
@@ -45,7 +45,7 @@ sheet-trimmed : (A : Automaton) (names : List (List ℕ)) → sheetOf (trimmed A
 unfolding sheetOf
 sheet-trimmed A names =
     let σ = sheetOf A names in
-    λ i. record { n = σ .n; k = σ .k; names = σ .names; states = σ .states; transitions = transitions-trimmed (A .table) places 0 (omega arith) i }
+    λ i. record { n = σ .n; k = σ .k; names = σ .names; states = σ .states; transitions = transitions-trimmed (A .table) mostTransitions 0 (omega arith) i }
 
 pub written-trimmed : (A : Automaton) (names : List (List ℕ)) → written (trimmed A) names ≡ written A names
 unfolding written writtenSheet

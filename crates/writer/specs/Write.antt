@@ -1,4 +1,4 @@
--- What writing a sheet answers, and what the lent tables hold then. The witness was v and is w then, the buffer was b and is c.
+-- What writing a sheet answers, and what the lent tables hold then.
 use Prim.Native.Nat.{ℕ}
 use mathlib.Core.Path.{_≡_}
 use mathlib.Core.List.{List}
@@ -6,7 +6,7 @@ use Rattle.gate.specs.Gate.{refusal, cleared, Put}
 use Rattle.gate.specs.declared.Refusal.{Refusal}
 use Rattle.automaton.specs.Automaton.{Automaton, graphOf, Fits}
 use Rattle.automaton.specs.Meeting.{Free, Everywhere}
-use Rattle.automaton.specs.Lent.{Tables, Long, clearedTables, NumbersRefuse, Lengths}
+use Rattle.automaton.specs.Lent.{WitnessTables, EnoughForWitness, clearedWitness, NumbersRefuse, EnoughForSheet}
 use Rattle.format.specs.Format.{Sheet}
 use Rattle.format.specs.Written.{written}
 use Rattle.sheet.specs.Read.{Accepted, Refuses}
@@ -14,21 +14,33 @@ use Rattle.gate.specs.declared.Written.{Written}
 use Rattle.gate.specs.declared.Written.the-variants.{Refused}
 use Rattle.writer.specs.Same.{writing}
 
--- WRITING FROM A FILE s: "The writer writes composed letters"
-pub data Writes (s : List ℕ) (v w : Tables) (b c : List ℕ) (r : Written) : Type 0 where
-  -- 1, asked first, "touches nothing"
-  short : (Long v → ⊥) → r ≡ Refused (refusal 1 0) → w ≡ v → c ≡ b → Writes s v w b c r
-  -- 2 to 10
-  refused : Long v → (x : Refusal) → Refuses s v w x → r ≡ Refused x → c ≡ cleared b → Writes s v w b c r
-  -- 1, asked last, or the text
-  asked : Long v → (σ : Sheet) → Accepted s σ → w ≡ clearedTables v → Put (writing σ) b c r → Writes s v w b c r
+-- the lent tables of writing
+pub record WriteTables : Type 0 where
+  -- a word and two walks
+  pub witness : WitnessTables
+  -- the bytes of the text
+  pub output : List ℕ
 
--- WRITING FROM NUMBERS A with a file s for the names. Questions 2 to 10:
+abbrev pub writeTables : WitnessTables → List ℕ → WriteTables
+writeTables witness output = record { witness = witness; output = output }
+
+-- WRITING FROM A FILE s: "The writer writes composed letters"
+pub data Writes (s : List ℕ) (before after : WriteTables) (r : Written) : Type 0 where
+  -- 1, asked first, "touches nothing"
+  short : (EnoughForWitness (before .witness) → ⊥) → r ≡ Refused (refusal 1 0) → after ≡ before → Writes s before after r
+  -- 2 to 10
+  refused : EnoughForWitness (before .witness) → (x : Refusal) → Refuses s (before .witness) (after .witness) x → r ≡ Refused x
+      → after .output ≡ cleared (before .output) → Writes s before after r
+  -- 1, asked last, or the text
+  asked : EnoughForWitness (before .witness) → (σ : Sheet) → Accepted s σ → after .witness ≡ clearedWitness (before .witness)
+      → Put (writing σ) (before .output) (after .output) r → Writes s before after r
+
+-- WRITING FROM NUMBERS A with a file s for the names. Questions 2 to 10; the tables are the witness:
 -- "that file's questions come first, then a differing k is 4, line 0, then the questions on the numbers"
-pub data NamedRefuse (A : Automaton) (s : List ℕ) (v w : Tables) (x : Refusal) : Type 0 where
-  by-names : Refuses s v w x → NamedRefuse A s v w x
-  by-letters : (σ : Sheet) → Accepted s σ → (σ .k ≡ A .k → ⊥) → x ≡ refusal 4 0 → w ≡ clearedTables v → NamedRefuse A s v w x
-  by-numbers : (σ : Sheet) → Accepted s σ → σ .k ≡ A .k → NumbersRefuse A v w x → NamedRefuse A s v w x
+pub data NamedRefuse (A : Automaton) (s : List ℕ) (before after : WitnessTables) (x : Refusal) : Type 0 where
+  by-names : Refuses s before after x → NamedRefuse A s before after x
+  by-letters : (σ : Sheet) → Accepted s σ → (σ .k ≡ A .k → ⊥) → x ≡ refusal 4 0 → after ≡ clearedWitness before → NamedRefuse A s before after x
+  by-numbers : (σ : Sheet) → Accepted s σ → σ .k ≡ A .k → NumbersRefuse A before after x → NamedRefuse A s before after x
 
 -- all answered yes: s is the file of σ
 pub record NamedAccepted (A : Automaton) (s : List ℕ) (σ : Sheet) : Type 0 where
@@ -37,10 +49,12 @@ pub record NamedAccepted (A : Automaton) (s : List ℕ) (σ : Sheet) : Type 0 wh
   pub fits : Fits A
   pub free : Free (graphOf A) Everywhere
 
-pub data WritesNumbers (A : Automaton) (s : List ℕ) (v w : Tables) (b c : List ℕ) (r : Written) : Type 0 where
+pub data WritesNumbers (A : Automaton) (s : List ℕ) (before after : WriteTables) (r : Written) : Type 0 where
   -- 1, asked first, "touches nothing"
-  short : (Lengths (A .table) v → ⊥) → r ≡ Refused (refusal 1 0) → w ≡ v → c ≡ b → WritesNumbers A s v w b c r
+  short : (EnoughForSheet (A .table) (before .witness) → ⊥) → r ≡ Refused (refusal 1 0) → after ≡ before → WritesNumbers A s before after r
   -- 2 to 10
-  refused : Lengths (A .table) v → (x : Refusal) → NamedRefuse A s v w x → r ≡ Refused x → c ≡ cleared b → WritesNumbers A s v w b c r
+  refused : EnoughForSheet (A .table) (before .witness) → (x : Refusal) → NamedRefuse A s (before .witness) (after .witness) x → r ≡ Refused x
+      → after .output ≡ cleared (before .output) → WritesNumbers A s before after r
   -- 1, asked last, or the text
-  asked : Lengths (A .table) v → (σ : Sheet) → NamedAccepted A s σ → w ≡ clearedTables v → Put (written A (σ .names)) b c r → WritesNumbers A s v w b c r
+  asked : EnoughForSheet (A .table) (before .witness) → (σ : Sheet) → NamedAccepted A s σ → after .witness ≡ clearedWitness (before .witness)
+      → Put (written A (σ .names)) (before .output) (after .output) r → WritesNumbers A s before after r

@@ -1,48 +1,20 @@
 // Writing a sheet file.
-ghost use mathlib.Core.Path.{_≡_};
 ghost use Prim.Native.Nat.{_≤_};
 ghost use lib.ListN.{length};
-ghost use lib.Seq.{sets};
 ghost use Rattle.automaton.specs.Automaton.{automaton};
 ghost use Rattle.gate.specs.Gate.{Put};
-ghost use Rattle.automaton.specs.Lent.{tables, Lengths};
-ghost use Rattle.writer.specs.Write.{Writes, WritesNumbers};
-ghost use Rattle.writer.specs.Text.{rowsText, Writable, Asks};
-
-mod lines;
-mod name_lines;
-mod state_lines;
-mod transition_lines;
-
+ghost use Rattle.automaton.specs.Lent.{witnessTables, EnoughForSheet};
+ghost use Rattle.writer.specs.Write.{writeTables, Writes, WritesNumbers};
+ghost use Rattle.sheet_text.specs.Text.{rowsText, Writable};
+ghost use Rattle.writer.specs.Ask.{Asks};
 use automaton::Numbers;
 use gate::Refusal;
 use gate::Written;
 use sheet::Read;
 use sheet::reading::read_long;
+use sheet_text::put_text;
+use sheet_text::text_length;
 use walks::Checked;
-
-// How many bytes the text of a sheet has.
-fn text_length(a: Numbers, table: &[u16], rows: &[u8]) -> usize
-    requires { ⌜ Writable (automaton a (now table)) × (192 ≤ length (now rows)) ⌝ }
-    ensures { λ r. ⌜ r ≡ length (rowsText (automaton a (now (table .entry))) (now (rows .entry))) ⌝ }
-{
-    16
-        + name_lines::names_length(rows, a.k)
-        + 11 * a.n
-        + 11 * transition_lines::count_transitions(table)
-}
-
-// The text of a sheet.
-fn put_text(a: Numbers, table: &[u16], rows: &[u8], out: &mut [u8])
-    requires { ⌜ Writable (automaton a (now table)) × (192 ≤ length (now rows)) × (length (rowsText (automaton a (now table)) (now rows)) ≤ length (now out)) ⌝ }
-    ensures { λ _. ⌜ now (out .exit) ≡ sets (now (out .entry)) 0 (rowsText (automaton a (now (table .entry))) (now (rows .entry))) ⌝ }
-{
-    lines::put_head(out, 0, a.n, a.k);
-    let states = name_lines::put_names(out, 12, rows, a.k);
-    let transitions = state_lines::put_states(out, states, a.n, a.initial, a.recurring);
-    let end = transition_lines::put_transitions(out, transitions, table);
-    text::put_bytes(out, end, b"END\n");
-}
 
 // The last question, whether the output is long enough, and the text with zeros behind it. The names are in rows.
 fn finish(a: Numbers, table: &[u16], rows: &[u8], out: &mut [u8]) -> Written
@@ -71,8 +43,9 @@ pub fn write(
     other: &mut [u16],
     out: &mut [u8],
 ) -> Written
-    ensures { λ r. ⌜ Writes (now (sheet .entry)) (tables (now (word .entry)) (now (one .entry)) (now (other .entry)))
-        (tables (now (word .exit)) (now (one .exit)) (now (other .exit))) (now (out .entry)) (now (out .exit)) r ⌝ }
+    ensures { λ r. ⌜ Writes (now (sheet .entry))
+        (writeTables (witnessTables (now (word .entry)) (now (one .entry)) (now (other .entry))) (now (out .entry)))
+        (writeTables (witnessTables (now (word .exit)) (now (one .exit)) (now (other .exit))) (now (out .exit))) r ⌝ }
 {
     let mut table = [0u16; 128];
     if !walks::long_enough(&table, word, one, other) {
@@ -103,9 +76,9 @@ fn ask(
     one: &mut [u16],
     other: &mut [u16],
 ) -> Checked
-    requires { ⌜ Lengths (now table) (tables (now word) (now one) (now other)) × (192 ≤ length (now rows)) ⌝ }
+    requires { ⌜ EnoughForSheet (now table) (witnessTables (now word) (now one) (now other)) × (192 ≤ length (now rows)) ⌝ }
     ensures { λ r. ⌜ Asks (automaton a (now (table .entry))) (now (names .entry)) (now (rows .exit))
-        (tables (now (word .entry)) (now (one .entry)) (now (other .entry))) (tables (now (word .exit)) (now (one .exit)) (now (other .exit))) r ⌝ }
+        (witnessTables (now (word .entry)) (now (one .entry)) (now (other .entry))) (witnessTables (now (word .exit)) (now (one .exit)) (now (other .exit))) r ⌝ }
 {
     let mut successors = [0u16; 128];
     match read_long(names, &mut successors, rows, word, one, other) {
@@ -134,8 +107,9 @@ pub fn write_numbers(
     other: &mut [u16],
     out: &mut [u8],
 ) -> Written
-    ensures { λ r. ⌜ WritesNumbers (automaton a (now (table .entry))) (now (names .entry)) (tables (now (word .entry)) (now (one .entry)) (now (other .entry)))
-        (tables (now (word .exit)) (now (one .exit)) (now (other .exit))) (now (out .entry)) (now (out .exit)) r ⌝ }
+    ensures { λ r. ⌜ WritesNumbers (automaton a (now (table .entry))) (now (names .entry))
+        (writeTables (witnessTables (now (word .entry)) (now (one .entry)) (now (other .entry))) (now (out .entry)))
+        (writeTables (witnessTables (now (word .exit)) (now (one .exit)) (now (other .exit))) (now (out .exit))) r ⌝ }
 {
     if !walks::long_enough(table, word, one, other) {
         return Written::Refused(Refusal {

@@ -4,7 +4,7 @@ use mathlib.Core.Path.{_≡_, refl, sym, _∙_}
 use native.Mathlib.Omega.{arith}
 use lib.ListN.{length}
 use Rattle.automaton.specs.Automaton.{automaton}
-use Rattle.filling.specs.Store.{store}
+use Rattle.filling.specs.TrackerTables.{trackerTables}
 use Rattle.filling.specs.Fill.{Filled}
 use Rattle.filling.specs.FillLaws.{filled-begins, fills-over, fills-all}
 use borrow.Author.Needs.{needs}
@@ -111,7 +111,7 @@ returns-2 c =
     let a = start b .args in
     let l = c .before .loop in
     let h = c .loop-test .left in
-    fills-all (l .inv .0) (store (a .tuples .now) (a .nexts .now)) (sym (l .inv .1 ∙ b .begin .kept .1 .0)) (sym (l .inv .2)) (omega arith)
+    fills-all (l .inv .0) (trackerTables (a .tuples .now) (a .nexts .now)) (sym (l .inv .1 ∙ b .begin .kept .1 .0)) (sym (l .inv .2)) (omega arith)
 
 pub fill-spec : {M : Type 1} → statement M
 fill-spec =

@@ -4,15 +4,15 @@ use native.Mathlib.Omega.{arith}
 use lib.ListN.{replicate, take}
 use lib.Seq.{length-take-le}
 use Rattle.automaton.specs.Automaton.{automaton}
-use Rattle.automaton.specs.Lent.{Tables, tables}
+use Rattle.automaton.specs.Lent.{WitnessTables, witnessTables}
 use Rattle.sheet.specs.Read.{readTables, ReadsNamed}
+use Rattle.sheet.specs.ReadLaws.{read-fits, few-letters}
 use Rattle.sheet.specs.declared.Read.{Read}
 use Rattle.sheet.specs.declared.Read.the-variants.{Is}
 use Rattle.tracker.specs.declared.Built.{Built}
-use Rattle.filling.specs.Store.{Store, store}
+use Rattle.filling.specs.TrackerTables.{TrackerTables, trackerTables}
 use Rattle.tracker.specs.Build.{Tracks}
-use Rattle.filling.specs.StoreLaws.{store-cleared}
-use Rattle.judge.specs.VerdictLaws.{sheet-refused, sheet-fit, letters-few, room-refused, tracker-tables, plan-refused, plan-judged}
+use Rattle.judge.specs.VerdictLaws.{sheet-refused, room-refused, tracker-tables, plan-refused, plan-judged}
 use borrow.Author.Needs.{needs}
 use Rattle.judge.proofs.judge_long.Statement.{statement}
 use Rattle.judge.proofs.judge_long.Tie as tie
@@ -21,15 +21,15 @@ use Rattle.judge.proofs.judge_long.Tie as tie
 abbrev start : tie.After-read-long → tie.Start
 start c = c .before .before .before .before .before .before .before .before .before .before .before .before .before .before
 
-abbrev witness : tie.After-read-long → Tables
-witness c = let a = start c .args in tables (a .word .now) (a .one .now) (a .other .now)
+abbrev witness : tie.After-read-long → WitnessTables
+witness c = let a = start c .args in witnessTables (a .word .now) (a .one .now) (a .other .now)
 
-abbrev lent-store : tie.After-read-long → Store
-lent-store c = let a = start c .args in store (a .tuples .now) (a .nexts .now)
+abbrev lent-store : tie.After-read-long → TrackerTables
+lent-store c = let a = start c .args in trackerTables (a .tuples .now) (a .nexts .now)
 
 -- what is read
-abbrev left : tie.After-read-long → Tables
-left c = let w = c .read-long .last .1 .1 .1 in tables (w .0) (w .1 .0) (w .1 .1 .0)
+abbrev left : tie.After-read-long → WitnessTables
+left c = let w = c .read-long .last .1 .1 .1 in witnessTables (w .0) (w .1 .0) (w .1 .1 .0)
 
 abbrev Read-as : tie.After-read-long → Read → Type 0
 Read-as c r =
@@ -54,8 +54,18 @@ sheet-of c = c .before .before .before .before .before
 tracked : (c : tie.After-track) (b : Built) → c .track .result ≡ b →
     let told = sheet-of c in
     Tracks (automaton (told .a .given .0 .0) (take 128 (behind told .read-long .last .1 .0))) (start (behind told) .args .room) (lent-store (behind told))
-    (let w = c .track .last .1 .1 .1 in store (w .0) (w .1 .0)) b
+    (let w = c .track .last .1 .1 .1 in trackerTables (w .0) (w .1 .0)) b
 tracked c b told = rw told at (c .track .ensures)
+
+abbrev built-from : tie.After-x → tie.After-track
+built-from c = c .before .before .before .before .before .before
+
+-- and its plan
+abbrev tracker-of : tie.After-judge-plan → tie.After-x
+tracker-of c = c .before .before .before .before .before
+
+abbrev reading-of : tie.After-judge-plan → tie.After-read-long
+reading-of c = behind (sheet-of (built-from (tracker-of c)))
 
 slice-aggregate-read-long : tie.Need-slice-aggregate-read-long
 slice-aggregate-read-long c = search needs
@@ -68,9 +78,6 @@ enum-known-r c = search needs
 
 clear-requires : tie.Need-clear-requires
 clear-requires c κs = search needs
-
-clear-requires-2 : tie.Need-clear-requires-2
-clear-requires-2 c κs = search needs
 
 enum-known-a : tie.Need-enum-known-a
 enum-known-a c = search needs
@@ -87,13 +94,13 @@ track-requires : tie.Need-track-requires
 track-requires c κs =
     let told = c .before .before .before .before in
     let pre = start (behind told) .pre in
-    (sheet-fit (pre .0) (pre .1) (accepted told), pre .0 .store)
+    (read-fits (accepted told), pre .0 .store)
 
 enum-known-r-2 : tie.Need-enum-known-r-2
 enum-known-r-2 c = search needs
 
-clear-requires-3 : tie.Need-clear-requires-3
-clear-requires-3 c κs = search needs
+clear-requires-2 : tie.Need-clear-requires-2
+clear-requires-2 c κs = search needs
 
 enum-known-x : tie.Need-enum-known-x
 enum-known-x c = search needs
@@ -104,25 +111,22 @@ slice-aggregate-judge-plan c = search needs
 judge-plan-requires : tie.Need-judge-plan-requires
 judge-plan-requires c κs =
     let told = c .before .before .before .before in
-    let built = told .before .before .before .before .before .before in
+    let built = built-from told in
     let sheet = sheet-of built in
     let read = accepted sheet in
     let pre = start (behind sheet) .pre in (
       (pre .1 .plan, tracker-tables (pre .0) (pre .1) read (tracked built _ (told .x .given .1))),
-      (omega (arith, behind sheet .read-long .kept .1 .1 .0), letters-few (pre .0) (pre .1) read, (read .sheet, read .names)),
+      (omega (arith, behind sheet .read-long .kept .1 .1 .0), few-letters read, (read .sheet, read .names)),
     )
 
 enum-known-r-3 : tie.Need-enum-known-r-3
 enum-known-r-3 c = search needs
 
+clear-requires-3 : tie.Need-clear-requires-3
+clear-requires-3 c κs = search needs
+
 clear-requires-4 : tie.Need-clear-requires-4
 clear-requires-4 c κs = search needs
-
-clear-requires-5 : tie.Need-clear-requires-5
-clear-requires-5 c κs = search needs
-
-clear-requires-6 : tie.Need-clear-requires-6
-clear-requires-6 c κs = search needs
 
 enum-known-v : tie.Need-enum-known-v
 enum-known-v c = search needs
@@ -147,13 +151,12 @@ same-length-6 c = search needs
 
 returns : tie.Need-returns
 returns c =
-    let second = c .before .before in
-    let first = second .before .before .before .before in
-    let told = first .before .before .before in
+    let cleared = c .before .before .before .before in
+    let told = cleared .before .before .before .before in
     let read = told .before .before .before .before .before .before .before .before .before .before .before in
     let pre = start read .pre in
     let h = read-as read _ (told .r .given .1) in
-    sheet-refused (pre .0) (pre .1) (h .0) (h .1) (store-cleared (lent-store read) (first .clear .ensures) (second .clear2 .ensures))
+    sheet-refused (pre .0) (pre .1) (h .0) (h .1) (cleared .clear .ensures)
 
 same-length-7 : tie.Need-same-length-7
 same-length-7 c = search needs
@@ -180,13 +183,12 @@ returns-2 c =
     let built = told .before .before .before .before .before .before in
     let sheet = sheet-of built in
     let pre = start (behind sheet) .pre in
-    room-refused (pre .0) (pre .1) (accepted sheet) (behind sheet .read-long .kept .1 .0) (tracked built _ (told .r2 .given .1)) (cleared .clear3 .ensures)
+    room-refused (pre .0) (pre .1) (accepted sheet) (behind sheet .read-long .kept .1 .0) (tracked built _ (told .r2 .given .1)) (cleared .clear2 .ensures)
 
 same-length-13 : tie.Need-same-length-13
 same-length-13 c =
-    let first = c .before .before .before .before .before .before .before .before .before .before in
-    let read = first .before .before .before .before .before .before .before .before .before .before .before .before .before .before .before .before .before .before .before .before .before .before .before .before .before .before .before .before .before .before .before .before .before in
-    omega (arith, first .clear4 .kept .0, read .read-long .kept .1 .0)
+    let first = c .before .before .before .before .before .before .before .before .before in
+    omega (arith, first .clear3 .kept .0, reading-of (first .before .before .before .before .before .before) .read-long .kept .1 .0)
 
 same-length-14 : tie.Need-same-length-14
 same-length-14 c = search needs
@@ -195,32 +197,31 @@ same-length-15 : tie.Need-same-length-15
 same-length-15 c = search needs
 
 same-length-16 : tie.Need-same-length-16
-same-length-16 c = let read = c .before .before .before .before .before .before .before .before .before .before .before .before .before .before .before .before .before .before .before .before .before .before .before .before .before .before .before .before .before .before .before .before .before .before .before .before .before .before .before .before .before .before .before in read .read-long .kept .1 .1 .1 .0
+same-length-16 c = reading-of (c .before .before .before .before .before .before .before .before .before .before .before .before .before .before .before) .read-long .kept .1 .1 .1 .0
 
 same-length-17 : tie.Need-same-length-17
-same-length-17 c = let read = c .before .before .before .before .before .before .before .before .before .before .before .before .before .before .before .before .before .before .before .before .before .before .before .before .before .before .before .before .before .before .before .before .before .before .before .before .before .before .before .before .before .before .before in read .read-long .kept .1 .1 .1 .1 .0
+same-length-17 c = reading-of (c .before .before .before .before .before .before .before .before .before .before .before .before .before .before .before) .read-long .kept .1 .1 .1 .1 .0
 
 same-length-18 : tie.Need-same-length-18
-same-length-18 c = let read = c .before .before .before .before .before .before .before .before .before .before .before .before .before .before .before .before .before .before .before .before .before .before .before .before .before .before .before .before .before .before .before .before .before .before .before .before .before .before .before .before .before .before .before in read .read-long .kept .1 .1 .1 .1 .1 .0
+same-length-18 c = reading-of (c .before .before .before .before .before .before .before .before .before .before .before .before .before .before .before) .read-long .kept .1 .1 .1 .1 .1 .0
 
 returns-3 : tie.Need-returns-3
 returns-3 c =
-    let third = c .before .before in
-    let second = third .before .before .before .before in
-    let first = second .before .before .before .before in
+    let second = c .before .before .before .before in
+    let first = second .before .before .before .before .before in
     let told = first .before .before .before in
     let judged = told .before .before .before in
-    let tracker = judged .before .before .before .before .before in
-    let built = tracker .before .before .before .before .before .before in
+    let tracker = tracker-of judged in
+    let built = built-from tracker in
     let sheet = sheet-of built in
     let read = accepted sheet in
     let pre = start (behind sheet) .pre in
     let h = (rw (told .r3 .given .1) at (judged .judge-plan .ensures)) (read .sheet) (read .names) in
     plan-refused (pre .0) (pre .1) read (tracked built _ (tracker .x .given .1)) (behind sheet .read-long .kept .1 .0) h
-    (first .clear4 .ensures) (second .clear5 .ensures) (third .clear6 .ensures)
+    (first .clear3 .ensures) (second .clear4 .ensures)
 
 same-length-19 : tie.Need-same-length-19
-same-length-19 c = let read = c .before .before .before .before .before .before .before .before .before .before .before .before .before .before .before .before .before .before .before .before .before .before .before .before .before .before .before .before .before .before .before in read .read-long .kept .1 .0
+same-length-19 c = reading-of (c .before .before .before .before) .read-long .kept .1 .0
 
 same-length-20 : tie.Need-same-length-20
 same-length-20 c = search needs
@@ -229,20 +230,20 @@ same-length-21 : tie.Need-same-length-21
 same-length-21 c = search needs
 
 same-length-22 : tie.Need-same-length-22
-same-length-22 c = let read = c .before .before .before .before .before .before .before .before .before .before .before .before .before .before .before .before .before .before .before .before .before .before .before .before .before .before .before .before .before .before .before in read .read-long .kept .1 .1 .1 .0
+same-length-22 c = reading-of (c .before .before .before .before) .read-long .kept .1 .1 .1 .0
 
 same-length-23 : tie.Need-same-length-23
-same-length-23 c = let read = c .before .before .before .before .before .before .before .before .before .before .before .before .before .before .before .before .before .before .before .before .before .before .before .before .before .before .before .before .before .before .before in read .read-long .kept .1 .1 .1 .1 .0
+same-length-23 c = reading-of (c .before .before .before .before) .read-long .kept .1 .1 .1 .1 .0
 
 same-length-24 : tie.Need-same-length-24
-same-length-24 c = let read = c .before .before .before .before .before .before .before .before .before .before .before .before .before .before .before .before .before .before .before .before .before .before .before .before .before .before .before .before .before .before .before in read .read-long .kept .1 .1 .1 .1 .1 .0
+same-length-24 c = reading-of (c .before .before .before .before) .read-long .kept .1 .1 .1 .1 .1 .0
 
 returns-4 : tie.Need-returns-4
 returns-4 c =
     let told = c .before in
     let judged = told .before .before .before in
-    let tracker = judged .before .before .before .before .before in
-    let built = tracker .before .before .before .before .before .before in
+    let tracker = tracker-of judged in
+    let built = built-from tracker in
     let sheet = sheet-of built in
     let read = accepted sheet in
     let pre = start (behind sheet) .pre in
@@ -257,20 +258,18 @@ judge-long-spec =
     read-long-requires
     enum-known-r
     clear-requires
-    clear-requires-2
     enum-known-a
     slice-reshare-prefix-track
     slice-aggregate-track
     track-requires
     enum-known-r-2
-    clear-requires-3
+    clear-requires-2
     enum-known-x
     slice-aggregate-judge-plan
     judge-plan-requires
     enum-known-r-3
+    clear-requires-3
     clear-requires-4
-    clear-requires-5
-    clear-requires-6
     enum-known-v
     same-length
     same-length-2

@@ -6,7 +6,7 @@ use lib.ListN.{replicate}
 use denote.Ref.{now}
 use Rattle.format.specs.Format.{Sheet}
 use Rattle.sheet.specs.Answers.{NamesIn}
-use Rattle.plan.specs.Read.{Reads}
+use Rattle.plan.specs.Read.{ReadsPlan}
 use Rattle.plan.specs.declared.Planned.{Planned}
 use Rattle.judge.specs.PlanLaws.{letters-fit, judged-plan}
 use borrow.Author.Needs.{needs}
@@ -22,8 +22,8 @@ few c σ names = let k = names .letters in let m = start c .pre .1 .1 in omega a
 
 -- what is read of the plan over it
 plan-of : (c : tie.After-read-plan) (σ : Sheet) → NamesIn σ (start c .args .k) (now (start c .args .rows)) → (r : Planned) → c .read-plan .result ≡ r
-    → Reads σ (now (start c .args .plan)) (replicate 400 0) (c .read-plan .last .1 .1 .1 .0) r
-plan-of c σ names r told = subst (Reads σ (now (start c .args .plan)) (replicate 400 0) (c .read-plan .last .1 .1 .1 .0)) told (c .read-plan .ensures .1 σ names .1)
+    → ReadsPlan σ (now (start c .args .plan)) (replicate 400 0) (c .read-plan .last .1 .1 .1 .0) r
+plan-of c σ names r told = subst (ReadsPlan σ (now (start c .args .plan)) (replicate 400 0) (c .read-plan .last .1 .1 .1 .0)) told (c .read-plan .ensures .1 σ names .1)
 
 slice-aggregate-read-plan : tie.Need-slice-aggregate-read-plan
 slice-aggregate-read-plan c = search needs

@@ -1,5 +1,7 @@
 -- Questions 1 and 2 are answered first, and the others behind them. Assumes nothing.
 use mathlib.Core.Path.{refl}
+use Rattle.automaton.specs.Lent.{witnessTables}
+use Rattle.automaton.specs.LentLaws.{tables-cleared}
 use Rattle.judge.specs.Verdict.{Refusing, Judgement}
 use borrow.Author.Needs.{needs}
 use borrow.Author.Tests.{not-true, not-false}
@@ -31,10 +33,22 @@ same-length-6 : tie.Need-same-length-6
 same-length-6 c = search needs
 
 returns : tie.Need-returns
-returns c = Judgement.short (c .before .before .enough .ensures .1 (not-true _ (c .if1 .taken))) refl refl refl refl
+returns c = Judgement.short (c .before .before .enough .ensures .1 (not-true _ (c .if1 .taken))) refl refl
 
-clear-all-requires : tie.Need-clear-all-requires
-clear-all-requires c κs = search needs
+clear-requires : tie.Need-clear-requires
+clear-requires c κs = search needs
+
+clear-requires-2 : tie.Need-clear-requires-2
+clear-requires-2 c κs = search needs
+
+clear-requires-3 : tie.Need-clear-requires-3
+clear-requires-3 c κs = search needs
+
+clear-requires-4 : tie.Need-clear-requires-4
+clear-requires-4 c κs = search needs
+
+clear-requires-5 : tie.Need-clear-requires-5
+clear-requires-5 c κs = search needs
 
 same-length-7 : tie.Need-same-length-7
 same-length-7 c = search needs
@@ -56,11 +70,17 @@ same-length-12 c = search needs
 
 returns-2 : tie.Need-returns-2
 returns-2 c =
-    let cleared = c .before .before .before .before .before .before .before .before .before .before .before .before in
-    let long = cleared .before .before .before .before .before .before .before in
+    let fifth = c .before .before in
+    let fourth = fifth .before .before .before .before in
+    let third = fourth .before .before .before .before in
+    let second = third .before .before .before .before .before .before in
+    let first = second .before .before .before .before .before in
+    let long = first .before .before in
     let asked = long .before .before in
-    let (table, witness, store) = cleared .clear-all .ensures in
-    Judgement.refused (asked .before .enough .ensures .0 (not-false _ (long .before .if1 .left))) _ (Refusing.by-size (asked .sizes-fit .ensures .1 (not-true _ (long .if2 .taken))) refl witness) refl table store
+    let a = asked .before .before .before .before .before .before .before .before .before .before .before .before .before .before .before .before .args in
+    let witness = tables-cleared (witnessTables (a .word .now) (a .one .now) (a .other .now)) (third .clear3 .ensures) (fourth .clear4 .ensures) (fifth .clear5 .ensures) in
+    Judgement.refused (asked .before .enough .ensures .0 (not-false _ (long .before .if1 .left))) _
+    (Refusing.by-size (asked .sizes-fit .ensures .1 (not-true _ (long .if2 .taken))) refl witness) refl (first .clear .ensures) (second .clear2 .ensures)
 
 judge-long-requires : tie.Need-judge-long-requires
 judge-long-requires c κs =
@@ -102,7 +122,11 @@ verdict-spec =
     same-length-5
     same-length-6
     returns
-    clear-all-requires
+    clear-requires
+    clear-requires-2
+    clear-requires-3
+    clear-requires-4
+    clear-requires-5
     same-length-7
     same-length-8
     same-length-9

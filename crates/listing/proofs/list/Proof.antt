@@ -2,7 +2,7 @@
 use Prim.Native.Nat.{ℕ}
 use mathlib.Core.Path.{ap, _∙_}
 use lib.ListN.{replicate}
-use Rattle.listing.specs.ListLaws.{file-refused, file-sized, file-last, file-bytes}
+use Rattle.listing.specs.ListLaws.{list-file-refused, file-sized, file-last, file-bytes}
 use borrow.Author.Needs.{needs}
 use Rattle.listing.proofs.list.Statement.{statement}
 use Rattle.listing.proofs.list.Tie as tie
@@ -62,7 +62,7 @@ returns : tie.Need-returns
 returns c =
     let refused = c .before .before in
     let told = refused .before .before .before in
-    file-refused (behind (told .before .before) .build .ensures) (told .r .given .1) (refused .refuse .ensures)
+    list-file-refused (behind (told .before .before) .build .ensures) (told .r .given .1) (refused .refuse .ensures)
 
 same-length-8 : tie.Need-same-length-8
 same-length-8 c = search needs

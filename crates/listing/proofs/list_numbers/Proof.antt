@@ -1,5 +1,5 @@
 -- Each answer is that of building, or of the last question. Assumes nothing.
-use Rattle.listing.specs.ListLaws.{numbers-refused, numbers-sized, numbers-finished}
+use Rattle.listing.specs.ListLaws.{list-numbers-refused, numbers-sized, numbers-finished}
 use borrow.Author.Needs.{needs}
 use Rattle.listing.proofs.list_numbers.Statement.{statement}
 use Rattle.listing.proofs.list_numbers.Tie as tie
@@ -47,7 +47,7 @@ returns : tie.Need-returns
 returns c =
     let refused = c .before .before in
     let told = refused .before .before .before in
-    numbers-refused (behind (told .before .before) .build-numbers .ensures) (told .r .given .1) (refused .refuse .ensures)
+    list-numbers-refused (behind (told .before .before) .build-numbers .ensures) (told .r .given .1) (refused .refuse .ensures)
 
 same-length-7 : tie.Need-same-length-7
 same-length-7 c = search needs

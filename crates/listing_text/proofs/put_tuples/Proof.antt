@@ -4,7 +4,7 @@ use mathlib.Core.Path.{_≡_}
 use mathlib.Core.List.{List}
 use native.Mathlib.Omega.{arith}
 use lib.ListN.{length}
-use Rattle.filling.specs.StoreLaws.{room-less}
+use Rattle.filling.specs.TrackerTablesLaws.{room-less}
 use Rattle.listing_text.specs.Listing.{tupleLine}
 use Rattle.listing_text.specs.Put.{lineBytes}
 use Rattle.text.specs.PiecesLaws.{Putting, put-none, put-room, put-more, put-all}

@@ -3,7 +3,7 @@ use Prim.Native.Nat.{ℕ, suc, _/_, _-_, _≤_, _<_}
 use mathlib.Core.Path.{_≡_, refl, subst, _∙_}
 use native.Mathlib.Omega.{arith}
 use lib.ListN.{length}
-use Rattle.automaton.specs.Lent.{tables}
+use Rattle.automaton.specs.Lent.{witnessTables}
 use Rattle.queue.specs.Queue.{pair, depth}
 use Rattle.meeting.specs.Trace.{Leads}
 use Rattle.meeting.specs.TraceLaws.{leads-step}
@@ -14,7 +14,7 @@ use Rattle.meeting.proofs.trace.Tie as tie
 abbrev Inv-loop : tie.InvT-loop
 Inv-loop queue head d word₀ one₀ other₀ i₀ t₀ word one other i t =
     (i ≤ head) × (t ≤ d) × (depth (pair queue i) ≡ t) × (length word ≡ length word₀) × (length one ≡ length one₀) × (length other ≡ length other₀)
-    × Leads queue head d t i (tables word₀ one₀ other₀) (tables word one other)
+    × Leads queue head d t i (witnessTables word₀ one₀ other₀) (witnessTables word one other)
 
 abbrev μ-loop : tie.MeasureT-loop
 μ-loop queue head d word₀ one₀ other₀ i₀ t₀ word one other i t = t
@@ -95,7 +95,7 @@ returns c =
     let a = c .before .before .before .before .before .before .args in
     let l = c .before .loop in
     let e : l .t ≡ 0 = omega arith in
-    (l .i, subst (λ (t : ℕ). Leads (a .queue .now) (a .head) (a .d) t (l .i) (tables (a .word .now) (a .one .now) (a .other .now)) (tables (l .word) (l .one) (l .other))) e (l .inv .6))
+    (l .i, subst (λ (t : ℕ). Leads (a .queue .now) (a .head) (a .d) t (l .i) (witnessTables (a .word .now) (a .one .now) (a .other .now)) (witnessTables (l .word) (l .one) (l .other))) e (l .inv .6))
 
 pub trace-spec : {M : Type 1} → statement M
 trace-spec =

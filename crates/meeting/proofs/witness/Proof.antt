@@ -4,7 +4,7 @@ use mathlib.Core.Path.{sym, ap, _∙_}
 use native.Mathlib.Omega.{arith}
 use lib.ListN.{length-set}
 use Rattle.queue.specs.Queue.{depth}
-use Rattle.meeting.specs.JoinLaws.{common-none}
+use Rattle.pair_search.specs.JoinLaws.{common-none}
 use Rattle.meeting.specs.WitnessLaws.{found-letter, witness-of}
 use Rattle.meeting.specs.TraceLaws.{linked}
 use borrow.Author.Needs.{needs}

@@ -3,13 +3,13 @@ use Prim.Native.Nat.{ℕ, _-_, _*_, _≤_, _<_}
 use mathlib.Core.Path.{_≡_, refl}
 use native.Mathlib.Omega.{arith}
 use borrow.Author.Count.{below-more}
-use Rattle.names.specs.Row.{row}
+use Rattle.names.specs.Row.{nameRow}
 use borrow.Author.Needs.{needs}
 use Rattle.names.proofs.first_like.Statement.{statement}
 use Rattle.names.proofs.first_like.Tie as tie
 
 abbrev Inv-loop : tie.InvT-loop
-Inv-loop rows count l₀ l = (l ≤ count) × ((i : ℕ) → i < l → row rows (24 * i) ≡ row rows (24 * count) → ⊥)
+Inv-loop rows count l₀ l = (l ≤ count) × ((i : ℕ) → i < l → nameRow rows (24 * i) ≡ nameRow rows (24 * count) → ⊥)
 
 abbrev μ-loop : tie.MeasureT-loop
 μ-loop rows count l₀ l = count - l

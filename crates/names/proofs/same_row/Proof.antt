@@ -5,13 +5,13 @@ use native.Mathlib.Omega.{arith}
 use denote.Ref.{now}
 use Rattle.gate.specs.GateLaws.{decides-yes, decides-no}
 use Rattle.lists.specs.CellsLaws.{part-length, part-at, SameUpTo, same-none, same-more, same-all, same-cell}
-use Rattle.names.specs.Row.{row}
+use Rattle.names.specs.Row.{nameRow}
 use borrow.Author.Needs.{needs}
 use Rattle.names.proofs.same_row.Statement.{statement}
 use Rattle.names.proofs.same_row.Tie as tie
 
 abbrev Inv-loop : tie.InvT-loop
-Inv-loop rows a b i₀ i = SameUpTo rows a 24 (row rows b) i
+Inv-loop rows a b i₀ i = SameUpTo rows a 24 (nameRow rows b) i
 
 abbrev μ-loop : tie.MeasureT-loop
 μ-loop rows a b i₀ i = 24 - i
@@ -35,7 +35,7 @@ returns : tie.Need-returns Inv-loop μ-loop
 returns c =
     let i = c .before .before .before .before .loop .i in
     let a = c .before .before .before .before .before .args in
-    decides-no (λ e. c .if1 .taken (same-cell (now (a .rows)) (a .a) 24 (row (now (a .rows)) (a .b)) e i (omega arith) ∙ part-at (now (a .rows)) (a .b) 24 i (omega arith)))
+    decides-no (λ e. c .if1 .taken (same-cell (now (a .rows)) (a .a) 24 (nameRow (now (a .rows)) (a .b)) e i (omega arith) ∙ part-at (now (a .rows)) (a .b) 24 i (omega arith)))
 
 add-i : tie.Need-add-i Inv-loop μ-loop
 add-i c = search needs

@@ -1,6 +1,6 @@
 -- The line, and with a 10 the witness behind it. Assumes nothing.
 use native.Mathlib.Omega.{arith}
-use Rattle.automaton.specs.Lent.{tables}
+use Rattle.automaton.specs.Lent.{witnessTables}
 use Rattle.rewrite_output.specs.PutLaws.{witness-most, written-other, written-ten}
 use borrow.Author.Needs.{needs}
 use Rattle.rewrite_output.proofs.put_refusal_text.Statement.{statement}
@@ -19,7 +19,7 @@ put-requires : tie.Need-put-requires
 put-requires c κs =
     let s = c .before .before .before .before .before .before .before .before .before .before .before .before .before in
     let a = s .args in
-    let w = tables (a .word .now) (a .one .now) (a .other .now) in
+    let w = witnessTables (a .word .now) (a .one .now) (a .other .now) in
     (s .pre .long, s .pre .letters, omega (arith, witness-most w (a .r .length) (s .pre .letters)))
 
 same-length : tie.Need-same-length
@@ -32,7 +32,7 @@ returns c =
     let line = put .before .before .before in
     let s = line .before .before .before .before .before in
     let a = s .args in
-    written-ten (a .r) (tables (a .word .now) (a .one .now) (a .other .now)) (line .refusal-line .ensures) (put .put-bytes .ensures) (ten .if1 .taken) (c .before .before .put .ensures)
+    written-ten (a .r) (witnessTables (a .word .now) (a .one .now) (a .other .now)) (line .refusal-line .ensures) (put .put-bytes .ensures) (ten .if1 .taken) (c .before .before .put .ensures)
 
 same-length-2 : tie.Need-same-length-2
 same-length-2 c = search needs
@@ -43,7 +43,7 @@ returns-2 c =
     let line = put .before .before .before in
     let s = line .before .before .before .before .before in
     let a = s .args in
-    written-other (a .r) (tables (a .word .now) (a .one .now) (a .other .now)) (line .refusal-line .ensures) (put .put-bytes .ensures) (c .if1 .left)
+    written-other (a .r) (witnessTables (a .word .now) (a .one .now) (a .other .now)) (line .refusal-line .ensures) (put .put-bytes .ensures) (c .if1 .left)
 
 pub put-refusal-text-spec : {M : Type 1} → statement M
 put-refusal-text-spec =

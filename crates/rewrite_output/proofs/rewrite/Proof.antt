@@ -2,17 +2,28 @@
 use mathlib.Core.Path.{refl, subst}
 use lib.ListN.{replicate}
 use native.Mathlib.Omega.{arith}
-use Rattle.automaton.specs.Lent.{tables, Long}
-use Rattle.writer.specs.Write.{Writes}
+use Rattle.gate.specs.declared.Written.{Written}
+use Rattle.automaton.specs.Lent.{WitnessTables, witnessTables, EnoughForWitness}
+use Rattle.writer.specs.Write.{writeTables, Writes}
 use Rattle.report.specs.Output.{Prints}
 use Rattle.rewrite_output.specs.RewriteLaws.{bytes-printed, refused-short, refused-printed}
 use borrow.Author.Needs.{needs}
 use Rattle.rewrite_output.proofs.rewrite.Statement.{statement}
 use Rattle.rewrite_output.proofs.rewrite.Tie as tie
 
--- the tables that writing is lent
-long : Long (tables (replicate 136 0) (replicate 137 0) (replicate 137 0))
+-- the witness that writing is lent
+abbrev lent : WitnessTables
+lent = witnessTables (replicate 136 0) (replicate 137 0) (replicate 137 0)
+
+long : EnoughForWitness lent
 long = record { word = omega arith; one = omega arith; other = omega arith }
+
+-- the sheet is written
+abbrev Wrote-as : tie.After-write → Written → Type 0
+Wrote-as c x =
+    let a = c .before .before .before .before .before .before .before .before .args in
+    let w = c .write .last .1 in
+    Writes (a .input .now) (writeTables lent (a .out .now)) (writeTables (witnessTables (w .0) (w .1 .0) (w .1 .1 .0)) (w .1 .1 .1 .0)) x
 
 returns : tie.Need-returns
 returns c = (Prints.short (omega arith) refl refl, refl)
@@ -49,7 +60,7 @@ put-refusal-text-requires c κs =
     let told = c .before .before .before .before .before in
     let wrote = told .before .before .before .before .before .before .before in
     let room = wrote .before .before .before .before .before .if1 .left in
-    record { letters = refused-short room long (subst (Writes _ _ _ _ _) (told .r .given .1) (wrote .write .ensures)); long = search needs; room = search needs }
+    record { letters = refused-short (subst (Wrote-as wrote) (told .r .given .1) (wrote .write .ensures)) long room; long = search needs; room = search needs }
 
 same-length : tie.Need-same-length
 same-length c = search needs
@@ -59,7 +70,7 @@ returns-2 c =
     let told = c .before in
     let wrote = told .before .before .before .before .before .before .before in
     let room = wrote .before .before .before .before .before .if1 .left in
-    (bytes-printed room (subst (Writes _ _ _ _ _) (told .m .given .1) (wrote .write .ensures)), refl)
+    (bytes-printed (subst (Wrote-as wrote) (told .m .given .1) (wrote .write .ensures)) room, refl)
 
 same-length-2 : tie.Need-same-length-2
 same-length-2 c = search needs
@@ -70,7 +81,7 @@ returns-3 c =
     let told = put .before .before .before .before .before .before in
     let wrote = told .before .before .before .before .before .before .before in
     let room = wrote .before .before .before .before .before .if1 .left in
-    (refused-printed room long (subst (Writes _ _ _ _ _) (told .r .given .1) (wrote .write .ensures)) (put .put-refusal-text .ensures), refl)
+    (refused-printed (subst (Wrote-as wrote) (told .r .given .1) (wrote .write .ensures)) long room (put .put-refusal-text .ensures), refl)
 
 pub rewrite-spec : {M : Type 1} → statement M
 rewrite-spec =

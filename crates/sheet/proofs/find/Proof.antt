@@ -3,7 +3,7 @@ use mathlib.Core.Path.{refl, subst}
 use native.Mathlib.Omega.{arith}
 use lib.ListN.{replicate}
 use borrow.Author.Tests.{not-true, not-false}
-use Rattle.automaton.specs.Lent.{Tables, tables, Long}
+use Rattle.automaton.specs.Lent.{WitnessTables, witnessTables, EnoughForWitness}
 use Rattle.sheet.specs.declared.Read.{Read}
 use Rattle.sheet.specs.declared.Read.the-variants as R
 use Rattle.sheet.specs.Read.{ReadTables, readTables, ReadsNamed}
@@ -17,11 +17,11 @@ use Rattle.sheet.proofs.find.Tie as tie
 abbrev start : tie.Else1 → tie.Start
 start c = c .before .before .before .before .before .before .before .before .before .before .before
 
-abbrev lent : tie.Start → Tables
-lent s = tables (s .args .word .now) (s .args .one .now) (s .args .other .now)
+abbrev lent : tie.Start → WitnessTables
+lent s = witnessTables (s .args .word .now) (s .args .one .now) (s .args .other .now)
 
 -- question 1 is passed
-enough : (c : tie.Else1) → Long (lent (start c))
+enough : (c : tie.Else1) → EnoughForWitness (lent (start c))
 enough c = c .before .long-enough .ensures .0 (not-false _ (c .if1 .left)) .long
 
 -- the file is read
@@ -31,7 +31,7 @@ asked c = c .before .before .before .before .before .before
 abbrev after : tie.After-read-long → ReadTables
 after c =
     let w = c .read-long .last .1 in
-    readTables (w .0) (w .1 .0) (tables (w .1 .1 .0) (w .1 .1 .1 .0) (w .1 .1 .1 .1 .0))
+    readTables (w .0) (w .1 .0) (witnessTables (w .1 .1 .0) (w .1 .1 .1 .0) (w .1 .1 .1 .1 .0))
 
 abbrev Read-as : tie.After-read-long → Read → Type 0
 Read-as c x =

@@ -4,7 +4,7 @@ use mathlib.Core.Logic._⊎_.{inl}
 use native.Mathlib.Omega.{arith}
 use lib.ListN.{replicate}
 use borrow.Author.Tests.{not-true, not-false}
-use Rattle.automaton.specs.Lent.{Tables, tables, Lengths}
+use Rattle.automaton.specs.Lent.{WitnessTables, witnessTables, EnoughForSheet}
 use Rattle.sheet.specs.Read.{readTables}
 use Rattle.sheet.specs.ReadLaws.{reads-asked}
 use borrow.Author.Needs.{needs}
@@ -14,10 +14,10 @@ use Rattle.sheet.proofs.read_sheet.Tie as tie
 abbrev start : tie.Else1 → tie.Start
 start c = c .before .before .before .before .before .before .before .before .before .before .before
 
-abbrev lent : tie.Start → Tables
-lent s = tables (s .args .word .now) (s .args .one .now) (s .args .other .now)
+abbrev lent : tie.Start → WitnessTables
+lent s = witnessTables (s .args .word .now) (s .args .one .now) (s .args .other .now)
 
-enough : (c : tie.Else1) → Lengths (start c .args .table .now) (lent (start c))
+enough : (c : tie.Else1) → EnoughForSheet (start c .args .table .now) (lent (start c))
 enough c = c .before .long-enough .ensures .0 (not-false _ (c .if1 .left))
 
 long-enough-requires : tie.Need-long-enough-requires
@@ -36,7 +36,7 @@ same-length-4 : tie.Need-same-length-4
 same-length-4 c = search needs
 
 returns : tie.Need-returns
-returns c = inl (c .before .long-enough .ensures .1 (not-true _ (c .if1 .taken)), refl, refl, refl)
+returns c = inl (c .before .long-enough .ensures .1 (not-true _ (c .if1 .taken)), refl, refl)
 
 slice-aggregate-read-long : tie.Need-slice-aggregate-read-long
 slice-aggregate-read-long c = search needs
@@ -61,7 +61,7 @@ returns-2 c =
     let g = c .before .before .before .before .before .before .before .before .before .read-long in
     let asked = c .before .before .before .before .before .before .before .before .before .before .before .before .before .before .before in
     let s = start asked in
-    let after = readTables (g .last .1 .0) (g .last .1 .1 .0) (tables (g .last .1 .1 .1 .0) (g .last .1 .1 .1 .1 .0) (g .last .1 .1 .1 .1 .1 .0)) in
+    let after = readTables (g .last .1 .0) (g .last .1 .1 .0) (witnessTables (g .last .1 .1 .1 .0) (g .last .1 .1 .1 .1 .0) (g .last .1 .1 .1 .1 .1 .0)) in
     reads-asked (s .args .sheet .now) (readTables (s .args .table .now) (replicate 192 0) (lent s)) after (g .result) (enough asked) (g .ensures)
 
 pub read-sheet-spec : {M : Type 1} → statement M

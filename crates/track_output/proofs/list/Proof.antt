@@ -28,8 +28,7 @@ list-requires c κs = search needs
 answer-requires : tie.Need-answer-requires
 answer-requires c κs =
     let listed = c .before .before .before .before .before .before .before .before .before in
-    let start = listed .before .before .before .before .before .before .before .before .before .before in
-    (search needs, list-behind (start .args .out .now) _ (search needs) (listed .list .ensures))
+    (search needs, list-behind (search needs) (listed .list .ensures))
 
 same-length : tie.Need-same-length
 same-length c = search needs

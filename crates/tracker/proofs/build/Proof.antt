@@ -5,13 +5,13 @@ use native.Mathlib.Omega.{arith}
 use lib.ListN.{length, replicate}
 use lib.Seq.{length-take-le}
 use borrow.Author.Tests.{not-true, not-false}
-use Rattle.automaton.specs.Lent.{Tables, tables}
+use Rattle.automaton.specs.Lent.{WitnessTables, witnessTables}
 use Rattle.sheet.specs.Read.{ReadTables, readTables, ReadsNamed}
 use Rattle.sheet.specs.ReadLaws.{read-fits}
 use Rattle.sheet.specs.declared.Read.{Read}
 use Rattle.sheet.specs.declared.Read.the-variants.{Is}
-use Rattle.filling.specs.Store.{store}
-use Rattle.tracker.specs.Build.{Lent, Builds}
+use Rattle.filling.specs.TrackerTables.{trackerTables}
+use Rattle.tracker.specs.Build.{buildTables, EnoughToBuild, Builds}
 use Rattle.tracker.specs.BuildLaws.{file-over, file-is}
 use borrow.Author.Needs.{needs}
 use Rattle.tracker.proofs.build.Statement.{statement}
@@ -20,13 +20,13 @@ use Rattle.tracker.proofs.build.Tie as tie
 abbrev start : tie.Else1 → tie.Start
 start c = c .before .before .before .before .before .before .before .before .before .before .before .before .before .before .before
 
-abbrev witness : tie.Start → Tables
-witness s = tables (s .args .word .now) (s .args .one .now) (s .args .other .now)
+abbrev witness : tie.Start → WitnessTables
+witness s = witnessTables (s .args .word .now) (s .args .one .now) (s .args .other .now)
 
 -- question 1 is passed
 lent : (c : tie.Else1) →
     let a = start c .args in
-    Lent (a .room) (a .table .now) (witness (start c)) (store (a .tuples .now) (a .nexts .now))
+    EnoughToBuild (a .room) (buildTables (a .table .now) (witness (start c)) (trackerTables (a .tuples .now) (a .nexts .now)))
 lent c = c .before .enough .ensures .0 (not-false _ (c .if1 .left))
 
 -- the file is read
@@ -36,7 +36,7 @@ asked c = c .before .before .before .before .before .before
 abbrev after : tie.After-read-long → ReadTables
 after c =
     let w = c .read-long .last .1 in
-    readTables (w .0) (w .1 .0) (tables (w .1 .1 .0) (w .1 .1 .1 .0) (w .1 .1 .1 .1 .0))
+    readTables (w .0) (w .1 .0) (witnessTables (w .1 .1 .0) (w .1 .1 .1 .0) (w .1 .1 .1 .1 .0))
 
 abbrev Read-as : tie.After-read-long → Read → Type 0
 Read-as c x =
@@ -75,7 +75,7 @@ same-length-6 : tie.Need-same-length-6
 same-length-6 c = search needs
 
 returns : tie.Need-returns
-returns c = Builds.short (c .before .enough .ensures .1 (not-true _ (c .if1 .taken))) refl refl refl refl
+returns c = Builds.short (c .before .enough .ensures .1 (not-true _ (c .if1 .taken))) refl refl
 
 slice-aggregate-read-long : tie.Need-slice-aggregate-read-long
 slice-aggregate-read-long c = search needs

@@ -2,12 +2,12 @@
 use mathlib.Core.Path.{refl, subst}
 use borrow.Author.Tests.{not-true, not-false}
 use Rattle.automaton.specs.Automaton.{automaton}
-use Rattle.automaton.specs.Lent.{Tables, tables}
+use Rattle.automaton.specs.Lent.{WitnessTables, witnessTables}
 use Rattle.walks.specs.Check.{ChecksLong}
 use Rattle.walks.specs.declared.Checked.{Checked}
 use Rattle.walks.specs.declared.Checked.the-variants.{Accepted}
-use Rattle.filling.specs.Store.{store}
-use Rattle.tracker.specs.Build.{Lent, BuildsNumbers}
+use Rattle.filling.specs.TrackerTables.{trackerTables}
+use Rattle.tracker.specs.Build.{buildNumbersTables, EnoughToBuildNumbers, BuildsNumbers}
 use borrow.Author.Needs.{needs}
 use Rattle.tracker.proofs.build_numbers.Statement.{statement}
 use Rattle.tracker.proofs.build_numbers.Tie as tie
@@ -15,13 +15,13 @@ use Rattle.tracker.proofs.build_numbers.Tie as tie
 abbrev start : tie.Else1 → tie.Start
 start c = c .before .before .before .before .before .before .before .before .before .before .before .before .before
 
-abbrev witness : tie.Start → Tables
-witness s = tables (s .args .word .now) (s .args .one .now) (s .args .other .now)
+abbrev witness : tie.Start → WitnessTables
+witness s = witnessTables (s .args .word .now) (s .args .one .now) (s .args .other .now)
 
 -- question 1 is passed
 lent : (c : tie.Else1) →
     let a = start c .args in
-    Lent (a .room) (a .table .now) (witness (start c)) (store (a .tuples .now) (a .nexts .now))
+    EnoughToBuildNumbers (automaton (a .a) (a .table .now)) (a .room) (buildNumbersTables (witness (start c)) (trackerTables (a .tuples .now) (a .nexts .now)))
 lent c = c .before .enough .ensures .0 (not-false _ (c .if1 .left))
 
 -- the numbers are checked
@@ -32,7 +32,7 @@ abbrev Checked-as : tie.After-check-long → Checked → Type 0
 Checked-as c x =
     let s = start (asked c) in
     let w = c .check-long .last .1 .1 in
-    ChecksLong (automaton (s .args .a) (s .args .table .now)) (witness s) (tables (w .0) (w .1 .0) (w .1 .1 .0)) x
+    ChecksLong (automaton (s .args .a) (s .args .table .now)) (witness s) (witnessTables (w .0) (w .1 .0) (w .1 .1 .0)) x
 
 -- an accepted sheet
 abbrev checking : tie.After-enum-told → tie.After-check-long
@@ -60,7 +60,7 @@ same-length-5 : tie.Need-same-length-5
 same-length-5 c = search needs
 
 returns : tie.Need-returns
-returns c = BuildsNumbers.short (c .before .enough .ensures .1 (not-true _ (c .if1 .taken))) refl refl refl
+returns c = BuildsNumbers.short (c .before .enough .ensures .1 (not-true _ (c .if1 .taken))) refl refl
 
 check-long-requires : tie.Need-check-long-requires
 check-long-requires c κs = lent (c .before .before .before) .lengths

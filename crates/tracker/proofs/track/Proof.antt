@@ -1,9 +1,9 @@
 -- Cleared tables are filled, and cleared again where the tuples are too many. Assumes nothing.
 use mathlib.Core.Path.{refl, sym, subst, _∙_}
 use Rattle.automaton.specs.Automaton.{automaton}
-use Rattle.filling.specs.Store.{Store, store, Fitted}
+use Rattle.filling.specs.TrackerTables.{TrackerTables, trackerTables, Fitted}
 use Rattle.filling.specs.Fill.{Filling}
-use Rattle.filling.specs.StoreLaws.{cleared-alike}
+use Rattle.filling.specs.TrackerTablesLaws.{cleared-alike}
 use Rattle.filling.specs.FillLaws.{cleared-filling, cleared-fitted}
 use borrow.Author.Needs.{needs}
 use Rattle.tracker.proofs.track.Statement.{statement}
@@ -13,8 +13,8 @@ use Rattle.tracker.proofs.track.Tie as tie
 abbrev start : tie.After-clear → tie.Start
 start c = c .before .before .before .before .before .before
 
-abbrev lent : tie.Start → Store
-lent c = store (c .args .tuples .now) (c .args .nexts .now)
+abbrev lent : tie.Start → TrackerTables
+lent c = trackerTables (c .args .tuples .now) (c .args .nexts .now)
 
 clear-requires : tie.Need-clear-requires
 clear-requires c κs = search needs
@@ -41,7 +41,7 @@ returns c =
     let filled = emptied .before .before .before .before .before .before .before .before in
     let cleared = filled .before .before .before .before .before .before .before in
     let f = filled .fill in
-    let v = store (f .last .1 .1 .1 .0) (f .last .1 .1 .1 .1 .0) in
+    let v = trackerTables (f .last .1 .1 .1 .0) (f .last .1 .1 .1 .1 .0) in
     let k = cleared .clear .kept in
     let q = cleared-alike v (lent (start cleared)) (f .kept .1 .1 .1 .0 ∙ k .0) (f .kept .1 .1 .1 .1 .0 ∙ k .1 .0) in
     (f .ensures .over (emptied .before .before .before .if1 .taken), refl, emptied .clear2 .ensures ∙ q)
@@ -59,8 +59,8 @@ returns-2 c =
     let s = start cleared in
     let f = filled .fill in
     let A = automaton (s .args .a) (s .args .table .now) in
-    let w = store (f .last .1 .1 .1 .0) (f .last .1 .1 .1 .1 .0) in
-    let h = subst (λ (x : Store). Fitted A (s .args .room) x w (f .result)) (cleared .clear .ensures) (f .ensures .fitting (c .if1 .left)) in
+    let w = trackerTables (f .last .1 .1 .1 .0) (f .last .1 .1 .1 .1 .0) in
+    let h = subst (λ (x : TrackerTables). Fitted A (s .args .room) x w (f .result)) (cleared .clear .ensures) (f .ensures .fitting (c .if1 .left)) in
     (record { n = refl; k = refl; initial = refl; recurring = refl }, cleared-fitted A (s .args .room) (lent s) w (f .result) h)
 
 pub track-spec : {M : Type 1} → statement M

@@ -4,7 +4,7 @@ use Rattle.automaton.specs.Automaton.{automaton, graphOf, Fits}
 use Rattle.automaton.specs.Graph.{Graph, graph}
 use Rattle.automaton.specs.QuestionLaws.{same-graph, fits-graph}
 use Rattle.automaton.specs.Meeting.{Everywhere}
-use Rattle.automaton.specs.Lent.{Tables, tables, NumbersRefuse}
+use Rattle.automaton.specs.Lent.{WitnessTables, witnessTables, NumbersRefuse}
 use Rattle.meeting.specs.Answer.{Asked, Answered}
 use Rattle.walks.specs.CheckLaws.{free-answered, meets-answered}
 use borrow.Author.Needs.{needs}
@@ -14,8 +14,8 @@ use Rattle.walks.proofs.check_cleared.Tie as tie
 abbrev start : tie.After-first-no → tie.Start
 start c = c .before .before .before .before .before
 
-abbrev lent : tie.Start → Tables
-lent s = tables (s .args .word .now) (s .args .one .now) (s .args .other .now)
+abbrev lent : tie.Start → WitnessTables
+lent s = witnessTables (s .args .word .now) (s .args .one .now) (s .args .other .now)
 
 -- behind questions 4, 7 and 8 the numbers fit
 fits : (c : tie.Else1) →
@@ -37,11 +37,12 @@ same c = let a = start (c .before .before) .args in same-graph (a .a) (a .table 
 answer : (c : tie.After-ask) →
     let s = start (c .before .before .before .before .before .before) in
     let l = c .ask .last .1 .1 in
-    Answered (graphOf (automaton (s .args .a) (s .args .table .now))) Everywhere (lent s) (tables (l .0) (l .1 .0) (l .1 .1 .0)) (c .ask .result)
+    Answered (graphOf (automaton (s .args .a) (s .args .table .now))) Everywhere (lent s) (witnessTables (l .0) (l .1 .0) (l .1 .1 .0)) (c .ask .result)
 answer c =
     let s = start (c .before .before .before .before .before .before) in
     let l = c .ask .last .1 .1 in
-    subst (λ (G : Graph). Answered G Everywhere (lent s) (tables (l .0) (l .1 .0) (l .1 .1 .0)) (c .ask .result)) (same (c .before .before .before .before)) (c .ask .ensures)
+    subst (λ (G : Graph). Answered G Everywhere (lent s) (witnessTables (l .0) (l .1 .0) (l .1 .1 .0)) (c .ask .result))
+    (same (c .before .before .before .before)) (c .ask .ensures)
 
 first-no-requires : tie.Need-first-no-requires
 first-no-requires c κs = search needs
@@ -58,7 +59,8 @@ ask-requires : tie.Need-ask-requires
 ask-requires c κs =
     let passed = c .before .before .before .before in
     let p = start (passed .before) .pre in
-    subst (λ (G : Graph). Asked G (lent (start (passed .before)))) (sym (same (c .before .before .before))) (record { fits = fits-graph (fits passed); lengths = p .0; zeros = p .1 })
+    subst (λ (G : Graph). Asked G (lent (start (passed .before)))) (sym (same (c .before .before .before)))
+    (record { fits = fits-graph (fits passed); lengths = p .0; zeros = p .1 })
 
 same-length : tie.Need-same-length
 same-length c = search needs

@@ -1,7 +1,7 @@
 -- Cleared tables are all zero and as long as before. Assumes nothing.
 use mathlib.Core.Path.{_≡_}
 use Rattle.automaton.specs.Automaton.{automaton}
-use Rattle.automaton.specs.Lent.{Tables, tables, clearedTables}
+use Rattle.automaton.specs.Lent.{WitnessTables, witnessTables, clearedWitness}
 use Rattle.automaton.specs.LentLaws.{tables-cleared}
 use Rattle.walks.specs.CheckLaws.{ready, checked}
 use borrow.Author.Needs.{needs}
@@ -11,14 +11,14 @@ use Rattle.walks.proofs.check_long.Tie as tie
 abbrev start : tie.After-clear3 → tie.Start
 start c = c .before .before .before .before .before .before .before .before .before .before .before .before .before .before
 
-abbrev lent : tie.Start → Tables
-lent s = tables (s .args .word .now) (s .args .one .now) (s .args .other .now)
+abbrev lent : tie.Start → WitnessTables
+lent s = witnessTables (s .args .word .now) (s .args .one .now) (s .args .other .now)
 
 -- all three tables are cleared
 empty : (c : tie.After-clear3) →
     let one = c .before .before .before .before in
     let word = one .before .before .before .before in
-    tables (word .clear .last .0) (one .clear2 .last .0) (c .clear3 .last .0) ≡ clearedTables (lent (start c))
+    witnessTables (word .clear .last .0) (one .clear2 .last .0) (c .clear3 .last .0) ≡ clearedWitness (lent (start c))
 empty c =
     let one = c .before .before .before .before in
     tables-cleared (lent (start c)) (one .before .before .before .before .clear .ensures) (one .clear2 .ensures) (c .clear3 .ensures)
@@ -52,7 +52,7 @@ returns c =
     let k = c .before .before .before .before .before .before .before .before .before .before .before .before in
     let a = start k .args in
     checked (lent (start k)) (empty k) (automaton (a .a) (a .table .now))
-    (tables (g .last .1 .1 .0) (g .last .1 .1 .1 .0) (g .last .1 .1 .1 .1 .0)) (g .result) (g .ensures)
+    (witnessTables (g .last .1 .1 .0) (g .last .1 .1 .1 .0) (g .last .1 .1 .1 .1 .0)) (g .result) (g .ensures)
 
 pub check-long-spec : {M : Type 1} → statement M
 check-long-spec =

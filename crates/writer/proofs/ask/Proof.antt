@@ -3,7 +3,7 @@ use mathlib.Core.Path.{refl, subst}
 use native.Mathlib.Omega.{arith}
 use lib.ListN.{replicate}
 use Rattle.automaton.specs.Automaton.{Automaton, automaton}
-use Rattle.automaton.specs.Lent.{tables}
+use Rattle.automaton.specs.Lent.{witnessTables}
 use Rattle.sheet.specs.declared.Read.{Read}
 use Rattle.sheet.specs.declared.Read.the-variants as R
 use Rattle.sheet.specs.Read.{ReadTables, readTables, ReadsNamed}
@@ -21,12 +21,12 @@ given s = automaton (s .args .a) (s .args .table .now)
 
 -- the names' file is read
 abbrev before : tie.Start → ReadTables
-before s = readTables (replicate 128 0) (s .args .rows .now) (tables (s .args .word .now) (s .args .one .now) (s .args .other .now))
+before s = readTables (replicate 128 0) (s .args .rows .now) (witnessTables (s .args .word .now) (s .args .one .now) (s .args .other .now))
 
 abbrev after : tie.After-read-long → ReadTables
 after c =
     let w = c .read-long .last .1 in
-    readTables (w .0) (w .1 .0) (tables (w .1 .1 .0) (w .1 .1 .1 .0) (w .1 .1 .1 .1 .0))
+    readTables (w .0) (w .1 .0) (witnessTables (w .1 .1 .0) (w .1 .1 .1 .0) (w .1 .1 .1 .1 .0))
 
 abbrev Read-as : tie.After-read-long → Read → Type 0
 Read-as c x = ReadsNamed (start c .args .names .now) (before (start c)) (after c) x
@@ -108,7 +108,7 @@ returns-3 c =
     let check = c .before .before .before .before .before .before .check-long in
     let told = c .before .before .before .before .before .before .before .before .before .before .before .before .before .before in
     ask-numbers (given (start (reading told))) (accepted told) (c .before .before .before .before .before .before .before .before .before .before .if1 .left)
-    (tables (check .last .1 .1 .0) (check .last .1 .1 .1 .0) (check .last .1 .1 .1 .1 .0)) (check .result) (check .ensures)
+    (witnessTables (check .last .1 .1 .0) (check .last .1 .1 .1 .0) (check .last .1 .1 .1 .1 .0)) (check .result) (check .ensures)
 
 pub ask-spec : {M : Type 1} → statement M
 ask-spec =

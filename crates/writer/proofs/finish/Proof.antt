@@ -3,7 +3,7 @@ use mathlib.Core.Path.{refl}
 use native.Mathlib.Omega.{arith}
 use Rattle.gate.specs.GateLaws.{text-lent}
 use Rattle.automaton.specs.Automaton.{automaton}
-use Rattle.writer.specs.Text.{rowsText}
+use Rattle.sheet_text.specs.Text.{rowsText}
 use borrow.Author.Needs.{needs}
 use Rattle.writer.proofs.finish.Statement.{statement}
 use Rattle.writer.proofs.finish.Tie as tie

@@ -3,7 +3,7 @@ use mathlib.Core.Path.{refl, subst}
 use native.Mathlib.Omega.{arith}
 use lib.ListN.{replicate}
 use borrow.Author.Tests.{not-true, not-false}
-use Rattle.automaton.specs.Lent.{Tables, tables, Long}
+use Rattle.automaton.specs.Lent.{WitnessTables, witnessTables, EnoughForWitness}
 use Rattle.sheet.specs.declared.Read.{Read}
 use Rattle.sheet.specs.declared.Read.the-variants as R
 use Rattle.sheet.specs.Read.{ReadTables, readTables, ReadsNamed}
@@ -16,11 +16,11 @@ use Rattle.writer.proofs.write.Tie as tie
 abbrev start : tie.Else1 → tie.Start
 start c = c .before .before .before .before .before .before .before .before .before .before .before
 
-abbrev lent : tie.Start → Tables
-lent s = tables (s .args .word .now) (s .args .one .now) (s .args .other .now)
+abbrev lent : tie.Start → WitnessTables
+lent s = witnessTables (s .args .word .now) (s .args .one .now) (s .args .other .now)
 
 -- question 1 is passed
-enough : (c : tie.Else1) → Long (lent (start c))
+enough : (c : tie.Else1) → EnoughForWitness (lent (start c))
 enough c = c .before .long-enough .ensures .0 (not-false _ (c .if1 .left)) .long
 
 -- the file is read
@@ -30,7 +30,7 @@ asked c = c .before .before .before .before .before .before
 abbrev after : tie.After-read-long → ReadTables
 after c =
     let w = c .read-long .last .1 in
-    readTables (w .0) (w .1 .0) (tables (w .1 .1 .0) (w .1 .1 .1 .0) (w .1 .1 .1 .1 .0))
+    readTables (w .0) (w .1 .0) (witnessTables (w .1 .1 .0) (w .1 .1 .1 .0) (w .1 .1 .1 .1 .0))
 
 abbrev Read-as : tie.After-read-long → Read → Type 0
 Read-as c x =
@@ -59,7 +59,7 @@ same-length-3 : tie.Need-same-length-3
 same-length-3 c = search needs
 
 returns : tie.Need-returns
-returns c = Writes.short (λ l. c .before .long-enough .ensures .1 (not-true _ (c .if1 .taken)) (record { cells = omega arith; long = l })) refl refl refl
+returns c = Writes.short (λ l. c .before .long-enough .ensures .1 (not-true _ (c .if1 .taken)) (record { cells = omega arith; long = l })) refl refl
 
 slice-aggregate-read-long : tie.Need-slice-aggregate-read-long
 slice-aggregate-read-long c = search needs

@@ -3,11 +3,11 @@ use mathlib.Core.Path.{refl, subst}
 use native.Mathlib.Omega.{arith}
 use borrow.Author.Tests.{not-true, not-false}
 use Rattle.automaton.specs.Automaton.{Automaton, automaton}
-use Rattle.automaton.specs.Lent.{Tables, tables, Lengths}
+use Rattle.automaton.specs.Lent.{WitnessTables, witnessTables, EnoughForSheet}
 use Rattle.walks.specs.declared.Checked.{Checked}
 use Rattle.walks.specs.declared.Checked.the-variants as K
 use Rattle.writer.specs.Write.{WritesNumbers}
-use Rattle.writer.specs.Text.{Asks}
+use Rattle.writer.specs.Ask.{Asks}
 use Rattle.writer.specs.WriteLaws.{writable, numbers-finishes}
 use borrow.Author.Needs.{needs}
 use Rattle.writer.proofs.write_numbers.Statement.{statement}
@@ -19,11 +19,11 @@ start c = c .before .before .before .before .before .before .before .before .bef
 abbrev given : tie.Start → Automaton
 given s = automaton (s .args .a) (s .args .table .now)
 
-abbrev lent : tie.Start → Tables
-lent s = tables (s .args .word .now) (s .args .one .now) (s .args .other .now)
+abbrev lent : tie.Start → WitnessTables
+lent s = witnessTables (s .args .word .now) (s .args .one .now) (s .args .other .now)
 
 -- question 1 is passed
-enough : (c : tie.Else1) → Lengths (given (start c) .table) (lent (start c))
+enough : (c : tie.Else1) → EnoughForSheet (given (start c) .table) (lent (start c))
 enough c = c .before .long-enough .ensures .0 (not-false _ (c .if1 .left))
 
 -- the questions are asked
@@ -34,7 +34,7 @@ abbrev Asked-as : tie.After-ask → Checked → Type 0
 Asked-as c x =
     let s = start (long c) in
     let w = c .ask .last .1 .1 .1 in
-    Asks (given s) (s .args .names .now) (w .0) (lent s) (tables (w .1 .0) (w .1 .1 .0) (w .1 .1 .1 .0)) x
+    Asks (given s) (s .args .names .now) (w .0) (lent s) (witnessTables (w .1 .0) (w .1 .1 .0) (w .1 .1 .1 .0)) x
 
 abbrev asking : tie.After-enum-told → tie.After-ask
 asking c = c .before .before .before .before .before .before .before .before .before
@@ -55,7 +55,7 @@ same-length-3 : tie.Need-same-length-3
 same-length-3 c = search needs
 
 returns : tie.Need-returns
-returns c = WritesNumbers.short (c .before .long-enough .ensures .1 (not-true _ (c .if1 .taken))) refl refl refl
+returns c = WritesNumbers.short (c .before .long-enough .ensures .1 (not-true _ (c .if1 .taken))) refl refl
 
 slice-aggregate-ask : tie.Need-slice-aggregate-ask
 slice-aggregate-ask c = search needs

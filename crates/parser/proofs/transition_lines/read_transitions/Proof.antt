@@ -7,7 +7,7 @@ use denote.Ref.{now}
 use lib.ListN.{length, getD, take, drop, length-set, take-append-drop}
 use lib.Seq.{drop-set-lt, take-set-lt, getD-take}
 use Rattle.gate.specs.GateLaws.{same-cleared}
-use Rattle.format.specs.Format.{place}
+use Rattle.format.specs.Format.{transitionIndex}
 use Rattle.format.specs.Numbers.{inserted}
 use Rattle.parser.specs.declared.TransitionLine.{TransitionLine}
 use Rattle.parser.specs.Parse.{withTransition, transitionsAt}
@@ -43,7 +43,7 @@ turn : (c : tie.After-transition-line Inv-loop μ-loop) →
     let l = c .before .before .before .loop in
     let a = c .before .before .before .before .before .before .args in
     (w : TransitionLine) → c .transition-line .result ≡ w →
-    withTransition w (λ t. transitionsAt (a .s .now) (a .n) (a .k) (l .line + 1) (l .at + 11) (place t + 1) (inserted (take 128 (l .table)) t) (length (a .s .now) + 1 + a .first - (l .line + 1)))
+    withTransition w (λ t. transitionsAt (a .s .now) (a .n) (a .k) (l .line + 1) (l .at + 11) (transitionIndex t + 1) (inserted (take 128 (l .table)) t) (length (a .s .now) + 1 + a .first - (l .line + 1)))
     (refused 8 (l .line)) ≡
     transitionsAt (a .s .now) (a .n) (a .k) (a .first) (a .start) 0 (take 128 (a .table .now)) (length (a .s .now) + 1)
 turn c w e =

@@ -10,7 +10,7 @@ use Rattle.frame.specs.Phase.{Phase, andThen}
 use Rattle.parser.specs.PhaseAnswers.{FillsTable}
 use Rattle.parser.specs.declared.Sets.{Sets}
 use Rattle.frame.specs.declared.End.{End}
-use Rattle.parser.specs.FileLaws.{sets-zero, rest-zero, refused-by-states, states-pass, refused-by-transitions, transitions-pass}
+use Rattle.parser.specs.FileLaws.{sets-zero, behind-zero, refused-by-states, states-pass, refused-by-transitions, transitions-pass}
 use borrow.Author.Needs.{needs}
 use Rattle.parser.proofs.whole_file.read_numbers.Statement.{statement}
 use Rattle.parser.proofs.whole_file.read_numbers.Tie as tie
@@ -101,7 +101,7 @@ returns-3 c y here there =
     let g = start (stated (told d)) in
     let t = now (g .args .table) in
     rw (there, here, states-passed (told d) _)
-    (transitions-pass (g .args .z) y (q (told d)) (transitions (told d)) t (left d) (filled d _ (c .enum-told .given .1)) (rest-zero t (g .pre .5) (g .pre .4)))
+    (transitions-pass (g .args .z) y (q (told d)) (transitions (told d)) t (left d) (filled d _ (c .enum-told .given .1)) (behind-zero t (g .pre .5) (g .pre .4)))
 
 pub read-numbers-spec : {M : Type 1} → statement M
 read-numbers-spec =

@@ -9,7 +9,7 @@ use Rattle.text.specs.Pair.{wordAndPair}
 use Rattle.names.specs.Name.{compose}
 use Rattle.names.specs.RowsLaws.{only-none}
 use Rattle.format.specs.Format.{Sheet}
-use Rattle.frame.specs.declared.Place.{Place}
+use Rattle.frame.specs.declared.Position.{Position}
 use Rattle.frame.specs.declared.End.{End}
 use Rattle.frame.specs.declared.End.the-variants as E
 use Rattle.frame.specs.Phase.{passed}
@@ -18,10 +18,10 @@ use Rattle.frame.specs.FirstLaws.{first-passed, first-refused}
 use Rattle.plan.specs.declared.Letters.{Letters}
 use Rattle.plan.specs.declared.Planned.the-variants as P
 use Rattle.plan.specs.Plan.{planWord, LengthsRight}
-use Rattle.plan.specs.Parse.{lengths, planBounds, headOf, lettersAt, planOf}
+use Rattle.plan.specs.Parse.{lengths, planBounds, planHeadOf, lettersAt, planOf}
 use Rattle.plan.specs.Answers.{PlaceFits, LettersRead, planned}
 use Rattle.sheet.specs.Answers.{NamesIn}
-use Rattle.plan.specs.Read.{Reads}
+use Rattle.plan.specs.Read.{ReadsPlan}
 use Rattle.plan.specs.ReadLaws.{reads}
 use Rattle.plan.specs.StepLaws.{EndLeaves, letters-refused, plan-ended}
 use borrow.Author.Needs.{needs}
@@ -46,8 +46,8 @@ in-range c =
     let h = subst (FirstFits planBounds) (c .before .lead .given .1) (lined c .first-line .ensures .1) in
     record { lead-most = h .1; cycle-some = h .2; cycle-most = h .3 }
 
-read : (c : tie.After-known-told2) → headOf (start (lined c) .args .p .now) ≡ passed (lengths (lead c) (cycle c))
-unfolding headOf
+read : (c : tie.After-known-told2) → planHeadOf (start (lined c) .args .p .now) ≡ passed (lengths (lead c) (cycle c))
+unfolding planHeadOf
 read c =
     first-passed planBounds lengths 12 13 (wordAndPair (start (lined c) .args .p .now) planWord) (lead c) (cycle c)
     (sym (c .before .lead .given .1) ∙ lined c .first-line .ensures .0)
@@ -72,7 +72,7 @@ lettered-as c w e σ g =
     )
 
 -- behind the last line: its answer, and what the buffer holds then
-abbrev place : tie.After-end-line → Place
+abbrev place : tie.After-end-line → Position
 place c = c .before .before .place .given .0 .0
 
 abbrev letters : tie.After-end-line → tie.After-read-letters
@@ -84,7 +84,7 @@ ended : (c : tie.After-end-line) (r : End) → c .end-line .result ≡ r →
     let a = start (lined h) .args in
     (v : List ℕ) → EndLeaves (a .letters .now) (d .read-letters .last .1 .1 .1 .1 .0) v r →
     (σ : Sheet) → NamesIn σ (a .k) (a .rows .now) →
-    NamesIn σ (a .k) (d .read-letters .last .1 .0) × Reads σ (a .p .now) (a .letters .now) v (planned (lengths (lead h) (cycle h)) r)
+    NamesIn σ (a .k) (d .read-letters .last .1 .0) × ReadsPlan σ (a .p .now) (a .letters .now) v (planned (lengths (lead h) (cycle h)) r)
 unfolding planOf
 ended c r e v left σ g =
     let d = letters c in
@@ -148,7 +148,7 @@ same-length : tie.Need-same-length
 same-length c = search needs
 
 returns : tie.Need-returns
-unfolding planOf headOf
+unfolding planOf planHeadOf
 returns c =
     let told = c .before .before .before .before .before in
     let l = told .before .before in

@@ -4,7 +4,7 @@ use mathlib.Core.Path.{_≡_}
 use mathlib.Core.List.{[], _∷_}
 use native.Mathlib.Omega.{arith}
 use lib.ListN.{length}
-use Rattle.automaton.specs.Lent.{Tables, tables}
+use Rattle.automaton.specs.Lent.{WitnessTables, witnessTables}
 use Rattle.rewrite_output.specs.Rewrite.{cellsLine, witnessText}
 use Rattle.rewrite_output.specs.PutLaws.{witness-length, written-append}
 use borrow.Author.Needs.{needs}
@@ -12,8 +12,8 @@ use Rattle.rewrite_output.proofs.witness.put.Statement.{statement}
 use Rattle.rewrite_output.proofs.witness.put.Tie as tie
 
 -- the witness, and its three lines
-abbrev witness : tie.Start → Tables
-witness c = tables (c .args .word .now) (c .args .one .now) (c .args .other .now)
+abbrev witness : tie.Start → WitnessTables
+witness c = witnessTables (c .args .word .now) (c .args .one .now) (c .args .other .now)
 
 size : (c : tie.Start)
     → length (witnessText (witness c) (c .args .t))

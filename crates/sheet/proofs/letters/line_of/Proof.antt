@@ -4,7 +4,7 @@ use mathlib.Core.Path.{_≡_, refl, sym, _∙_}
 use native.Mathlib.Omega.{arith}
 use denote.Ref.{now}
 use Rattle.sheet.specs.Spelling.{lineBelow}
-use Rattle.sheet.specs.SpellingLaws.{below-next, below-none, below-done}
+use Rattle.sheet.specs.SpellingLaws.{below-next, line-below-none, below-done}
 use borrow.Author.Needs.{needs}
 use Rattle.sheet.proofs.letters.line_of.Statement.{statement}
 use Rattle.sheet.proofs.letters.line_of.Tie as tie
@@ -39,7 +39,7 @@ returns c =
     let l = c .before .before .before .before .loop in
     let a = c .before .before .before .before .before .before .args in (
       sym
-          (below-none (now (a .s)) (l .at) (l .left) (omega arith) (sym (c .before .before .name-end .ensures .0) ∙ c .enum-told .given .1)) ∙
+          (line-below-none (now (a .s)) (l .at) (l .left) (omega arith) (sym (c .before .before .name-end .ensures .0) ∙ c .enum-told .given .1)) ∙
           l .inv .1,
       omega arith,
     )

@@ -4,11 +4,11 @@ use mathlib.Core.Path.{_≡_, sym, _∙_, ap, subst}
 use native.Mathlib.Omega.{arith}
 use lib.ListN.{length, replicate}
 use lib.Seq.{length-take-le}
-use Rattle.automaton.specs.Lent.{Tables, tables, clearedTables}
+use Rattle.automaton.specs.Lent.{WitnessTables, witnessTables, clearedWitness}
 use Rattle.parser.specs.Parse.{parse}
 use Rattle.parser.specs.PhaseAnswers.{FileRead}
 use Rattle.parser.specs.declared.File.{File}
-use Rattle.sheet.specs.AnswersLaws.{FileAccepted, file-read}
+use Rattle.sheet.specs.AnswersLaws.{FileAccepted, read-accepted}
 use Rattle.sheet.specs.ReadLaws.{asked, free-accepts, meeting-refuses, fault-refuses}
 use borrow.Author.Needs.{needs}
 use Rattle.sheet.proofs.reading.read_cleared.Statement.{statement}
@@ -17,8 +17,8 @@ use Rattle.sheet.proofs.reading.read_cleared.Tie as tie
 abbrev start : tie.After-read-file → tie.Start
 start c = c .before .before .before .before .before .before .before .before .before
 
-abbrev lent : tie.Start → Tables
-lent s = tables (s .args .word .now) (s .args .one .now) (s .args .other .now)
+abbrev lent : tie.Start → WitnessTables
+lent s = witnessTables (s .args .word .now) (s .args .one .now) (s .args .other .now)
 
 -- the states behind the reading of the file: it is refused, or it is read and its automaton asked
 abbrev read-refused : tie.After-known-told → tie.After-read-file
@@ -33,7 +33,7 @@ told c = c .before .before .before .before .before .before
 abbrev graphed : tie.After-ask → tie.After-graph-of
 graphed c = c .before .before .before .before .before
 
-zeros : (c : tie.After-read-file) → lent (start c) ≡ clearedTables (lent (start c))
+zeros : (c : tie.After-read-file) → lent (start c) ≡ clearedWitness (lent (start c))
 zeros c = start c .pre .3
 
 kept : (c : tie.After-read-file) → length (c .read-file .last .1 .0) ≡ length (start c .args .table .now)
@@ -55,7 +55,7 @@ reads-file :
 reads-file c =
     let s = start (read c) in
     let z = read c .read-file in
-    file-read (s .args .sheet .now) (s .args .table .now) (z .last .1 .0) (s .args .rows .now) (z .last .1 .1 .0) (c .before .a .given .0 .0)
+    read-accepted (s .args .sheet .now) (s .args .table .now) (z .last .1 .0) (s .args .rows .now) (z .last .1 .1 .0) (c .before .a .given .0 .0)
     (subst (Read-as (read c)) (c .before .a .given .1) (z .ensures))
 
 read-file-requires : tie.Need-read-file-requires

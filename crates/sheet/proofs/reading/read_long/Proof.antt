@@ -1,9 +1,9 @@
 -- The tables are cleared, and then the questions asked. Assumes nothing.
 use mathlib.Core.Path.{_≡_}
-use Rattle.automaton.specs.Lent.{Tables, tables, clearedTables}
+use Rattle.automaton.specs.Lent.{witnessTables}
 use Rattle.automaton.specs.LentLaws.{tables-cleared}
-use Rattle.sheet.specs.Read.{readTables}
-use Rattle.sheet.specs.ReadLaws.{ready, reads-cleared}
+use Rattle.sheet.specs.Read.{ReadTables, readTables, lentCleared}
+use Rattle.sheet.specs.ReadLaws.{ready-to-read, reads-cleared}
 use borrow.Author.Needs.{needs}
 use Rattle.sheet.proofs.reading.read_long.Statement.{statement}
 use Rattle.sheet.proofs.reading.read_long.Tie as tie
@@ -21,12 +21,17 @@ table-cleared c = word-cleared c .before .before .before .before
 abbrev start : tie.After-clear4 → tie.Start
 start c = table-cleared c .before .before .before .before .before .before .before .before
 
-abbrev lent : tie.Start → Tables
-lent s = tables (s .args .word .now) (s .args .one .now) (s .args .other .now)
+abbrev lent : tie.Start → ReadTables
+lent s = readTables (s .args .table .now) (s .args .rows .now) (witnessTables (s .args .word .now) (s .args .one .now) (s .args .other .now))
 
 empty : (c : tie.After-clear4) →
-    tables (word-cleared c .clear2 .last .0) (one-cleared c .clear3 .last .0) (c .clear4 .last .0) ≡ clearedTables (lent (start c))
-empty c = tables-cleared (lent (start c)) (word-cleared c .clear2 .ensures) (one-cleared c .clear3 .ensures) (c .clear4 .ensures)
+    readTables (table-cleared c .clear .last .0) (start c .args .rows .now)
+    (witnessTables (word-cleared c .clear2 .last .0) (one-cleared c .clear3 .last .0) (c .clear4 .last .0))
+    ≡ lentCleared (lent (start c))
+empty c =
+    let s = start c in
+    let witness = tables-cleared (lent s .witness) (word-cleared c .clear2 .ensures) (one-cleared c .clear3 .ensures) (c .clear4 .ensures) in
+    λ i. readTables (table-cleared c .clear .ensures i) (s .args .rows .now) (witness i)
 
 clear-requires : tie.Need-clear-requires
 clear-requires c κs = search needs
@@ -43,8 +48,7 @@ clear-requires-4 c κs = search needs
 read-cleared-requires : tie.Need-read-cleared-requires
 read-cleared-requires c κs =
     let k = c .before .before .before .before .before .before .before in
-    let s = start k in
-    ready (s .args .table .now) (lent s) (table-cleared k .clear .ensures) (empty k) (s .args .rows .now) (s .pre)
+    ready-to-read (lent (start k)) (empty k) (start k .pre)
 
 same-length : tie.Need-same-length
 same-length c = search needs
@@ -66,9 +70,8 @@ returns c =
     let g = c .before .before .before .before .before .before .before .before .before .before .read-cleared in
     let k = c .before .before .before .before .before .before .before .before .before .before .before .before .before .before .before .before .before .before in
     let s = start k in
-    let after = readTables (g .last .1 .0) (g .last .1 .1 .0) (tables (g .last .1 .1 .1 .0) (g .last .1 .1 .1 .1 .0) (g .last .1 .1 .1 .1 .1 .0)) in
-    reads-cleared (s .args .table .now) (lent s) (table-cleared k .clear .ensures) (empty k) (s .args .sheet .now) (s .args .rows .now) after
-    (g .result) (g .ensures)
+    let after = readTables (g .last .1 .0) (g .last .1 .1 .0) (witnessTables (g .last .1 .1 .1 .0) (g .last .1 .1 .1 .1 .0) (g .last .1 .1 .1 .1 .1 .0)) in
+    reads-cleared (lent s) (empty k) (s .args .sheet .now) after (g .result) (g .ensures)
 
 pub read-long-spec : {M : Type 1} → statement M
 read-long-spec =

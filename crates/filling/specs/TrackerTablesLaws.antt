@@ -1,0 +1,24 @@
+-- The lengths of the lent tables, and the clearing of both. Assumes nothing.
+use Prim.Native.Nat.{ℕ, _≤_}
+use mathlib.Core.Path.{_≡_}
+use mathlib.Core.List.{List}
+use native.Mathlib.Omega.{arith}
+use lib.ListN.{length, replicate}
+use Rattle.gate.specs.Gate.{cleared}
+use Rattle.filling.specs.TrackerTables.{TrackerTables, trackerTables, clearedTracker, EnoughForTracker}
+
+-- as long as tables that are long enough
+pub room-alike : {room : ℕ} {v w : TrackerTables} → length (w .tuples) ≡ length (v .tuples) → length (w .nexts) ≡ length (v .nexts) → EnoughForTracker room v → EnoughForTracker room w
+room-alike p q r = record { some = r .some; most = r .most; tuples = rw p (r .tuples); nexts = rw q (r .nexts) }
+
+-- long enough for fewer tuples
+pub room-less : {room m : ℕ} {v : TrackerTables} → 1 ≤ m → m ≤ room → EnoughForTracker room v → EnoughForTracker m v
+room-less p q r = record { some = p; most = omega (arith, r .most); tuples = omega (arith, r .tuples); nexts = omega (arith, r .nexts) }
+
+-- cleared one by one
+pub store-cleared : (v : TrackerTables) {tuples nexts : List ℕ} → tuples ≡ cleared (v .tuples) → nexts ≡ cleared (v .nexts) → trackerTables tuples nexts ≡ clearedTracker v
+store-cleared v p q i = trackerTables (p i) (q i)
+
+-- tables as long are cleared alike
+pub cleared-alike : (v w : TrackerTables) → length (v .tuples) ≡ length (w .tuples) → length (v .nexts) ≡ length (w .nexts) → clearedTracker v ≡ clearedTracker w
+cleared-alike v w p q i = record { tuples = replicate (p i) 0; nexts = replicate (q i) 0 }

@@ -1,0 +1,9 @@
+pub mod Places
+pub mod RowNames
+pub mod Text
+pub mod LineLaws
+pub mod StatesLaws
+pub mod PlacesLaws
+pub mod RowNamesLaws
+pub mod LengthLaws
+pub mod TextLaws
