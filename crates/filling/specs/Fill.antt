@@ -53,13 +53,13 @@ pub record Entering (c : ℕ) (tuples w : List ℕ) : Type 0 where
   pub cells : length w ≡ 17
 
 -- what filling asks: the numbers fit, and the tables are long enough and zero
-pub record Filling (A : Automaton) (room : ℕ) (v : TrackerTables) : Type 0 where
+pub record Filling (A : Automaton) (room : ℕ) (tracker : TrackerTables) : Type 0 where
   pub fits : Fits A
-  pub room-fits : EnoughForTracker room v
-  pub tuples : v .tuples ≡ cleared (v .tuples)
-  pub nexts : v .nexts ≡ cleared (v .nexts)
+  pub room-fits : EnoughForTracker room tracker
+  pub tuples : tracker .tuples ≡ cleared (tracker .tuples)
+  pub nexts : tracker .nexts ≡ cleared (tracker .nexts)
 
--- QUESTION 11: the tables that were v and are w hold the tracker with its r tuples, or r is above the room, and more are reachable
-pub record Fills (A : Automaton) (room : ℕ) (v w : TrackerTables) (r : ℕ) : Type 0 where
-  pub fitting : r ≤ room → Fitted A room v w r
+-- QUESTION 11: the tables hold the tracker with its r tuples, or r is above the room, and more are reachable
+pub record Fills (A : Automaton) (room : ℕ) (before after : TrackerTables) (r : ℕ) : Type 0 where
+  pub fitting : r ≤ room → Fitted A room before after r
   pub over : room < r → MoreThan A room

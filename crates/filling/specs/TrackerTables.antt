@@ -18,25 +18,25 @@ trackerTables tuples nexts = record { tuples = tuples; nexts = nexts }
 
 -- both tables cleared
 abbrev pub clearedTracker : TrackerTables → TrackerTables
-clearedTracker v = record { tuples = cleared (v .tuples); nexts = cleared (v .nexts) }
+clearedTracker before = record { tuples = cleared (before .tuples); nexts = cleared (before .nexts) }
 
 -- "for room R, 17·R tuple numbers and 8·R next numbers .. and is R 1 to 1,024?"
-pub record EnoughForTracker (room : ℕ) (v : TrackerTables) : Type 0 where
+pub record EnoughForTracker (room : ℕ) (tracker : TrackerTables) : Type 0 where
   pub some : 1 ≤ room
   pub most : room ≤ 1024
-  pub tuples : 17 * room ≤ length (v .tuples)
-  pub nexts : 8 * room ≤ length (v .nexts)
+  pub tuples : 17 * room ≤ length (tracker .tuples)
+  pub nexts : 8 * room ≤ length (tracker .nexts)
 
--- the tracker of A in lent tables that were v and are w: every cell is given, and those without a meaning are zero
-pub record Holds (A : Automaton) (ts : List Tuple) (v w : TrackerTables) : Type 0 where
+-- the tracker of A in lent tables: every cell is given, and those without a meaning are zero
+pub record Holds (A : Automaton) (ts : List Tuple) (before after : TrackerTables) : Type 0 where
   pub numbering : Numbering A ts
-  pub tuples : w .tuples ≡ rows ts ++ replicate (length (v .tuples) - 17 * length ts) 0
-  pub nexts : NextCells A ts (w .nexts)
-  pub same : length (w .nexts) ≡ length (v .nexts)
+  pub tuples : after .tuples ≡ rows ts ++ replicate (length (before .tuples) - 17 * length ts) 0
+  pub nexts : NextCells A ts (after .nexts)
+  pub same : length (after .nexts) ≡ length (before .nexts)
 
 -- a tracker with all its tuples, for which there is room
-pub record Fitted (A : Automaton) (room : ℕ) (v w : TrackerTables) (count : ℕ) : Type 0 where
+pub record Fitted (A : Automaton) (room : ℕ) (before after : TrackerTables) (count : ℕ) : Type 0 where
   pub list : List Tuple
   pub count-is : count ≡ length list
   pub room-is : count ≤ room
-  pub holds : Holds A list v w
+  pub holds : Holds A list before after

@@ -16,8 +16,8 @@ pub room-less : {room m : ℕ} {v : TrackerTables} → 1 ≤ m → m ≤ room �
 room-less p q r = record { some = p; most = omega (arith, r .most); tuples = omega (arith, r .tuples); nexts = omega (arith, r .nexts) }
 
 -- cleared one by one
-pub store-cleared : (v : TrackerTables) {tuples nexts : List ℕ} → tuples ≡ cleared (v .tuples) → nexts ≡ cleared (v .nexts) → trackerTables tuples nexts ≡ clearedTracker v
-store-cleared v p q i = trackerTables (p i) (q i)
+pub tracker-cleared : (v : TrackerTables) {tuples nexts : List ℕ} → tuples ≡ cleared (v .tuples) → nexts ≡ cleared (v .nexts) → trackerTables tuples nexts ≡ clearedTracker v
+tracker-cleared v p q i = trackerTables (p i) (q i)
 
 -- tables as long are cleared alike
 pub cleared-alike : (v w : TrackerTables) → length (v .tuples) ≡ length (w .tuples) → length (v .nexts) ≡ length (w .nexts) → clearedTracker v ≡ clearedTracker w

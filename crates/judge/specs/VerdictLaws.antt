@@ -74,7 +74,7 @@ module _ {s p : List ℕ} {room : ℕ} {before : BuildTables} (lent : EnoughToBu
     abbrev TracksIn : TrackerTables → Built → Type 0
     TracksIn = Tracks (automaton a (take 128 (read .successors))) room (before .tracker)
 
-    -- the tables of the sheet cleared again
+    -- a table of successor sets that is cleared behind reading is as if it had been cleared at first
     sets-cleared : {successors : List ℕ} → length (read .successors) ≡ length (before .successors) → successors ≡ cleared (read .successors)
         → successors ≡ cleared (before .successors)
     sets-cleared same e = e ∙ same-cleared (before .successors) (read .successors) same
@@ -93,7 +93,7 @@ module _ {s p : List ℕ} {room : ℕ} {before : BuildTables} (lent : EnoughToBu
       fitted = subst (λ (A : Automaton). Tracks A room (before .tracker) built (B.Is y)) (read-automaton h) tracks .1
 
       pub tracker-tables : TablesFit (built .tuples) (built .nexts) (y .tuples)
-      tracker-tables = tables-fit fits room (y .tuples) (before .tracker) built fitted (lent .store)
+      tracker-tables = tables-fit fits room (y .tuples) (before .tracker) built fitted (lent .tracker)
 
       -- 12 to 14
       pub plan-refused : {successors : List ℕ} {tracker : TrackerTables} {r : Refusal} → length (read .successors) ≡ length (before .successors)
@@ -101,7 +101,7 @@ module _ {s p : List ℕ} {room : ℕ} {before : BuildTables} (lent : EnoughToBu
           → Judgement s p room before (buildTables successors (read .witness) tracker) (Refused r)
       plan-refused {r = r} same (number, line, faulty, is) e zero =
           Judgement.refused lent r (Refusing.by-plan sizes σ (h .accepted) built (y .tuples) fitted number line faulty is (h .witness)) refl
-          (sets-cleared same e) (zero ∙ fitted-cleared (numbers σ) fits room (y .tuples) (before .tracker) built fitted (lent .store))
+          (sets-cleared same e) (zero ∙ fitted-cleared (numbers σ) fits room (y .tuples) (before .tracker) built fitted (lent .tracker))
 
       -- the answer
       pub plan-judged : {z : Verdict} → PlanJudged σ p (built .tuples) (built .nexts) (y .tuples) (Judged z)

@@ -3,6 +3,7 @@ ghost use Prim.Native.Nat.{_≤_};
 ghost use lib.ListN.{length};
 ghost use Rattle.gate.specs.Gate.{Decides};
 ghost use Rattle.automaton.specs.Lent.{witnessTables};
+ghost use Rattle.names.specs.Rows.{OnlyRow};
 ghost use Rattle.format.specs.Format.{Sheet};
 ghost use Rattle.sheet.specs.Answers.{NamesIn};
 ghost use Rattle.plan.specs.Plan.{mostPlan};
@@ -51,7 +52,7 @@ fn judge_plan(
     requires { ⌜ (length (now plan) ≤ mostPlan) × TablesFit (now tuples) (now nexts) count ⌝ }
     requires { ⌜ (216 ≤ length (now rows)) × (k ≤ 8) × ((σ : Sheet) × NamesIn σ k (now rows)) ⌝ }
     ensures { λ r. ⌜ ((σ : Sheet) → NamesIn σ k (now (rows .entry))
-        → PlanJudged σ (now (plan .entry)) (now (tuples .entry)) (now (nexts .entry)) count r) ⌝ }
+        → PlanJudged σ (now (plan .entry)) (now (tuples .entry)) (now (nexts .entry)) count r) × OnlyRow k (now (rows .entry)) (now (rows .exit)) ⌝ }
 {
     let mut letters = [0u8; 400];
     match read_plan(plan, rows, k, &mut letters) {
@@ -120,16 +121,14 @@ pub fn verdict(
         (buildTables (now (table .entry)) (witnessTables (now (word .entry)) (now (one .entry)) (now (other .entry))) (trackerTables (now (tuples .entry)) (now (nexts .entry))))
         (buildTables (now (table .exit)) (witnessTables (now (word .exit)) (now (one .exit)) (now (other .exit))) (trackerTables (now (tuples .exit)) (now (nexts .exit)))) r ⌝ }
 {
-    let long = tracker::enough(room, table, tuples, nexts, word, one, other);
-    let fit = sizes_fit(sheet, plan);
-    if !long {
+    if !tracker::enough(room, table, tuples, nexts, word, one, other) {
         return Outcome::Refused(Refusal {
             number: 1,
             line: 0,
             length: 0,
         });
     }
-    if !fit {
+    if !sizes_fit(sheet, plan) {
         gate::clear(table);
         filling::clear(tuples, nexts);
         gate::clear(word);

@@ -36,7 +36,7 @@ pub record Case : Type 0 where
   pub room : ℕ
   pub expected : Expected
 
--- the witnessTables hold the tracker of the sheet file s, and its tuples have these colours
+-- the tables hold the tracker of the sheet file s, and its tuples have these colours
 pub record Tracked (s : List ℕ) (before after : TrackerTables) (colours : List ℕ) : Type 0 where
   pub sheet : Sheet
   pub file : FileIs s sheet
@@ -66,7 +66,7 @@ BuiltIs s before after o (judged z colours) = ((x : Tracker) × (o ≡ B.Is x) �
 BuiltIs s before after o (refused number line) = number ≤ 11 → o ≡ B.Refused (refusal number line)
 BuiltIs s before after o (meeting word one other) = (o ≡ B.Refused (met (length word))) × Shortest s word one other
 
--- THE DEFINITIONS ALONE give what is expected: it is every outcome that they allow, in witnessTables that are long enough
+-- THE DEFINITIONS ALONE give what is expected: it is every outcome that they allow, in tables that are long enough
 pub record Forced (c : Case) : Type 0 where
   pub verdict : (before after : BuildTables) (o : Outcome) → EnoughToBuild (c .room) before
       → Judgement (c .sheet) (c .plan) (c .room) before after o → VerdictIs (c .sheet) (before .tracker) (after .tracker) o (c .expected)

@@ -80,14 +80,14 @@ module _ {A : Automaton} {room : ℕ} {before built : BuildNumbersTables} where
 
     module _ {x : Tracker} (told : z ≡ Is x) where
       pub numbers-sized : Sized (x .numbers .n) (x .numbers .k) (x .tuples) (built .tracker .tuples) (built .tracker .nexts)
-      numbers-sized = let (l, fits, (are, fitted), z) = numbers-built (answered-numbers told) in sized x fits (l .store) are fitted
+      numbers-sized = let (l, fits, (are, fitted), z) = numbers-built (answered-numbers told) in sized x fits (l .tracker) are fitted
 
       pub numbers-finished : {tracker : TrackerTables} {old new : List ℕ} (l : Written) → Finishes (listingOf x (built .tracker)) (built .tracker) tracker old new l
           → ListsNumbers A room (listNumbersTables before old) (listNumbersTables (buildNumbersTables (built .witness) tracker) new) l
       numbers-finished {tracker} l (put, left) =
           let (lent, fits, (are, fitted), witness) = numbers-built (answered-numbers told) in
           ListsNumbers.asked built x (answered-numbers told) put
-          (left-numbers before built tracker l witness (fitted-cleared A fits room (x .tuples) (before .tracker) (built .tracker) fitted (lent .store)) left)
+          (left-numbers before built tracker l witness (fitted-cleared A fits room (x .tuples) (before .tracker) (built .tracker) fitted (lent .tracker)) left)
 
 -- FROM A SHEET FILE
 
@@ -114,7 +114,7 @@ module _ {s : List ℕ} {room : ℕ} {before built : BuildTables} where
 
     module _ {x : Tracker} (told : z ≡ Is x) where
       pub file-sized : Sized (x .numbers .n) (x .numbers .k) (x .tuples) (built .tracker .tuples) (built .tracker .nexts)
-      file-sized = let (l, (σ, y, are, o, fitted), z) = file-built (answered-file told) in sized x (sheet-fits s σ (y .file)) (l .store) are fitted
+      file-sized = let (l, (σ, y, are, o, fitted), z) = file-built (answered-file told) in sized x (sheet-fits s σ (y .file)) (l .tracker) are fitted
 
       -- and writing, which answered l
       module _ {tracker : TrackerTables} {old new : List ℕ} {l : Written} (finished : Finishes (listingOf x (built .tracker)) (built .tracker) tracker old new l) where
@@ -122,7 +122,7 @@ module _ {s : List ℕ} {room : ℕ} {before built : BuildTables} where
             → Lists s room (listTables before old) (listTables (buildTables successors (built .witness) tracker) new) l
         finished-file {successors} sets =
             let (lent, (σ, y, are, i, fitted), witness) = file-built (answered-file told) in
-            let zero = fitted-cleared (numbers σ) (sheet-fits s σ (y .file)) room (x .tuples) (before .tracker) (built .tracker) fitted (lent .store) in
+            let zero = fitted-cleared (numbers σ) (sheet-fits s σ (y .file)) room (x .tuples) (before .tracker) (built .tracker) fitted (lent .tracker) in
             Lists.asked built x (answered-file told) (finished .0) (left-file before built successors tracker l witness zero sets (finished .1))
 
         pub file-last : {successors : List ℕ} {r : Refusal} → l ≡ Refused r → successors ≡ cleared (before .successors)

@@ -6,14 +6,14 @@ use Rattle.automaton.specs.Meeting.{Free, Witness}
 use Rattle.automaton.specs.Lent.{WitnessTables, EnoughForSheet, clearedWitness, SameLengths}
 
 -- the questions before are answered yes, and the tables are lent, long enough and all zero
-pub record Asked (G : Graph) (v : WitnessTables) : Type 0 where
+pub record Asked (G : Graph) (witness : WitnessTables) : Type 0 where
   pub fits : GraphFits G
-  pub lengths : EnoughForSheet (G .table) v
-  pub zeros : v ≡ clearedWitness v
+  pub lengths : EnoughForSheet (G .table) witness
+  pub zeros : witness ≡ clearedWitness witness
 
--- 0 for yes, and else the length of the witness word, with the witness in the tables; v are the tables before, w after
-pub record Answered (G : Graph) (Counts : ℕ → Type 0) (v w : WitnessTables) (r : ℕ) : Type 0 where
+-- 0 for yes, and else the length of the witness word, with the witness in the tables
+pub record Answered (G : Graph) (Counts : ℕ → Type 0) (before after : WitnessTables) (r : ℕ) : Type 0 where
   pub free : r ≡ 0 → Free G Counts
-  pub kept : r ≡ 0 → w ≡ v
-  pub witness : 0 < r → Witness G Counts r (w .word) (w .one) (w .other)
-  pub lengths : SameLengths v w
+  pub kept : r ≡ 0 → after ≡ before
+  pub witness : 0 < r → Witness G Counts r (after .word) (after .one) (after .other)
+  pub lengths : SameLengths before after

@@ -30,7 +30,8 @@ fn member(set: u16) -> usize
 // Letter l and the states of pair e at time t.
 fn note(word: &mut [u16], one: &mut [u16], other: &mut [u16], t: usize, l: usize, e: usize)
     requires { ⌜ (l < 8) × (t < length (now word)) × (t < length (now one)) × (t < length (now other)) ⌝ }
-    ensures { λ _. ⌜ witnessTables (now (word .exit)) (now (one .exit)) (now (other .exit)) ≡ noted (witnessTables (now (word .entry)) (now (one .entry)) (now (other .entry))) t l e ⌝ }
+    ensures { λ _. ⌜ witnessTables (now (word .exit)) (now (one .exit)) (now (other .exit)) ≡ noted
+        (witnessTables (now (word .entry)) (now (one .entry)) (now (other .entry))) t l e ⌝ }
 {
     word[t] = l as u16;
     one[t] = (e / 16 % 16) as u16;
@@ -40,7 +41,8 @@ fn note(word: &mut [u16], one: &mut [u16], other: &mut [u16], t: usize, l: usize
 // From pair head, d letters deep, back to a pair of initial states.
 fn trace(queue: &[u16], head: usize, d: usize, word: &mut [u16], one: &mut [u16], other: &mut [u16])
     requires { ⌜ Traceable (now queue) head d (witnessTables (now word) (now one) (now other)) ⌝ }
-    ensures { λ _. ⌜ ((i : ℕ) × Leads (now (queue .entry)) head d 0 i (witnessTables (now (word .entry)) (now (one .entry)) (now (other .entry))) (witnessTables (now (word .exit)) (now (one .exit)) (now (other .exit)))) ⌝ }
+    ensures { λ _. ⌜ ((i : ℕ) × Leads (now (queue .entry)) head d 0 i (witnessTables (now (word .entry)) (now (one .entry)) (now (other .entry)))
+        (witnessTables (now (word .exit)) (now (one .exit)) (now (other .exit)))) ⌝ }
 {
     let mut i = head;
     let mut t = d;
@@ -89,7 +91,8 @@ pub fn search(
     other: &mut [u16],
 ) -> usize
     requires { ⌜ Asked (graph g (now table)) (witnessTables (now word) (now one) (now other)) × Backwards (graph g (now table)) (Member counts) ⌝ }
-    ensures { λ r. ⌜ Answered (graph g (now (table .entry))) (Member counts) (witnessTables (now (word .entry)) (now (one .entry)) (now (other .entry))) (witnessTables (now (word .exit)) (now (one .exit)) (now (other .exit))) r ⌝ }
+    ensures { λ r. ⌜ Answered (graph g (now (table .entry))) (Member counts) (witnessTables (now (word .entry)) (now (one .entry)) (now (other .entry)))
+        (witnessTables (now (word .exit)) (now (one .exit)) (now (other .exit))) r ⌝ }
 {
     let mut queue = [0u16; 528];
     let head = pair_search::explore(g, table, counts, &mut queue);

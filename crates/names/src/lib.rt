@@ -1,4 +1,4 @@
-// The names of letters: where one ends, and the bytes that it composes to.
+// The names of letters: where one ends, the bytes that it composes to, and the search for one in rows of composed names.
 ghost use mathlib.Core.Path.{_≡_};
 ghost use Prim.Native.Nat.{ℕ, _+_, _-_, _*_, _<_, _≤_, _^_};
 ghost use mathlib.Core.List.{List};

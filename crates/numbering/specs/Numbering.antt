@@ -8,9 +8,9 @@ use Rattle.tuple.specs.Step.{Tuple, first, next}
 use Rattle.tuple.specs.Row.{row}
 
 -- the tuple that a word leads to from u, letter by letter
-unfoldable pub after : Automaton → Tuple → List ℕ → Tuple
-after A u [] = u
-after A u (l ∷ word) = after A (next A l u) word
+unfoldable pub afterWord : Automaton → Tuple → List ℕ → Tuple
+afterWord A u [] = u
+afterWord A u (l ∷ word) = afterWord A (next A l u) word
 
 -- words are words over the sheet's k letters
 abbrev pub Word : Automaton → List ℕ → Type 0
@@ -21,7 +21,7 @@ Word A (l ∷ word) = (l < A .k) × Word A word
 pub record Reachable (A : Automaton) (u : Tuple) : Type 0 where
   pub word : List ℕ
   pub letters : Word A word
-  pub is : after A (first A) word ≡ u
+  pub is : afterWord A (first A) word ≡ u
 
 -- tuple number i of a list
 abbrev pub tupleAt : Automaton → List Tuple → ℕ → Tuple

@@ -11,14 +11,14 @@ use Rattle.lists.specs.AppendLaws.{length-more}
 use Rattle.finite.specs.Finite.{pigeon-rel}
 use Rattle.automaton.specs.Automaton.{Automaton}
 use Rattle.tuple.specs.Step.{Tuple, first, next}
-use Rattle.numbering.specs.Numbering.{after, Word, Reachable, tupleAt, entered, FoundBy, Numbering, MoreThan}
+use Rattle.numbering.specs.Numbering.{afterWord, Word, Reachable, tupleAt, entered, FoundBy, Numbering, MoreThan}
 use Rattle.numbering.specs.Explore.{step, found}
 use Rattle.numbering.specs.ExploreLaws.{Listed, Agree, Stepped, Explored, stepped, explored, agree-more, last-is, enters-alike}
 
 -- REACHABLE TUPLES
 
-after-snoc : (A : Automaton) (u : Tuple) (word : List ℕ) (l : ℕ) → after A u (word ++ (l ∷ [])) ≡ next A l (after A u word)
-unfolding after
+after-snoc : (A : Automaton) (u : Tuple) (word : List ℕ) (l : ℕ) → afterWord A u (word ++ (l ∷ [])) ≡ next A l (afterWord A u word)
+unfolding afterWord
 after-snoc A u [] l = refl
 after-snoc A u (x ∷ word) l = after-snoc A (next A x u) word l
 
@@ -27,7 +27,7 @@ word-snoc A [] l w h = (h, tt)
 word-snoc A (x ∷ word) l (g, w) h = (g, word-snoc A word l w h)
 
 reachable-first : (A : Automaton) → Reachable A (first A)
-unfolding after
+unfolding afterWord
 reachable-first A = record { word = []; letters = tt; is = refl }
 
 reachable-next : (A : Automaton) (u : Tuple) (l : ℕ) → Reachable A u → l < A .k → Reachable A (next A l u)
@@ -39,8 +39,8 @@ reachable-next A u l r h = record {
 
 -- what holds of the first tuple and of the next of each, holds of every reachable tuple
 module _ (A : Automaton) (P : Tuple → Type 0) (begins : P (first A)) (goes : (u : Tuple) (l : ℕ) → P u → l < A .k → P (next A l u)) where
-  after-all : (u : Tuple) (word : List ℕ) → P u → Word A word → P (after A u word)
-  unfolding after
+  after-all : (u : Tuple) (word : List ℕ) → P u → Word A word → P (afterWord A u word)
+  unfolding afterWord
   after-all u [] p w = p
   after-all u (l ∷ word) p (h, w) = after-all (next A l u) word (goes u l p h) w
 

@@ -36,7 +36,8 @@ fn begin(g: GraphNumbers, table: &[u16], queue: &mut [u16]) -> usize
 // The pairs to which a pair steps.
 fn expand(g: GraphNumbers, table: &[u16], queue: &mut [u16], count: usize, head: usize) -> usize
     requires { ⌜ Ready (graph g (now table)) (now queue) count head ⌝ }
-    ensures { λ r. ⌜ Grown (graph g (now (table .entry))) (now (queue .entry)) count (suc (depth (pair (now (queue .entry)) head))) (now (queue .exit)) r × Closed (graph g (now (table .entry))) (now (queue .exit)) r head ⌝ }
+    ensures { λ r. ⌜ Grown (graph g (now (table .entry))) (now (queue .entry)) count (suc (depth (pair (now (queue .entry)) head))) (now (queue .exit)) r
+        × Closed (graph g (now (table .entry))) (now (queue .exit)) r head ⌝ }
 {
     let e = queue::number(queue, head);
     let d = e / 256 + 1;

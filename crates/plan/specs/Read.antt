@@ -9,10 +9,10 @@ use Rattle.plan.specs.declared.Planned.{Planned}
 use Rattle.plan.specs.declared.Planned.the-variants.{Refused, Is}
 use Rattle.plan.specs.Plan.{PlanIs, PlanFaulty}
 
--- QUESTIONS 12 TO 14 on a plan file over the sheet σ. The buffer was t and is u then: all zero, or the lead-in's letters, the cycle's, and
+-- QUESTIONS 12 TO 14 on a plan file over the sheet σ. The letters' buffer is left all zero, or with the lead-in's letters, the cycle's, and
 -- behind them what was there.
 abbrev pub ReadsPlan : Sheet → List ℕ → List ℕ → List ℕ → Planned → Type 0
-ReadsPlan σ p t u (Refused r) = RefusedBy (PlanFaulty σ p) r × (u ≡ cleared t)
-ReadsPlan σ p t u (Is z) =
+ReadsPlan σ p before after (Refused r) = RefusedBy (PlanFaulty σ p) r × (after ≡ cleared before)
+ReadsPlan σ p before after (Is z) =
     (lead : List ℕ) × (cycle : List ℕ) × PlanIs σ p lead cycle
-    × (z .lead ≡ length lead) × (z .cycle ≡ length cycle) × (u ≡ lead ++ (cycle ++ drop (z .lead + z .cycle) t))
+    × (z .lead ≡ length lead) × (z .cycle ≡ length cycle) × (after ≡ lead ++ (cycle ++ drop (z .lead + z .cycle) before))

@@ -10,13 +10,13 @@ use Rattle.gate.specs.Gate.{lentText}
 abbrev pub programRoom : ℕ
 programRoom = 1024
 
--- A PROGRAM'S FUNCTION. Output: the texts that the program may print, of which none is longer than `longest` bytes; the buffer was b and is c.
-pub data Prints (Output : List ℕ → Type 0) (longest : ℕ) (b c : List ℕ) (count : ℕ) : Type 0 where
+-- A PROGRAM'S FUNCTION. Output: the texts that the program may print, of which none is longer than `longest` bytes.
+pub data Prints (Output : List ℕ → Type 0) (longest : ℕ) (before after : List ℕ) (count : ℕ) : Type 0 where
   -- a buffer that is shorter than the longest output: no byte, and nothing is touched
-  short : length b < longest → count ≡ 0 → c ≡ b → Prints Output longest b c count
+  short : length before < longest → count ≡ 0 → after ≡ before → Prints Output longest before after count
   -- the output, with zeros behind it
-  printed : longest ≤ length b → (text : List ℕ) → Output text → count ≡ length text → length text ≤ longest → c ≡ lentText text b
-      → Prints Output longest b c count
+  printed : longest ≤ length before → (text : List ℕ) → Output text → count ≡ length text → length text ≤ longest → after ≡ lentText text before
+      → Prints Output longest before after count
 
 -- every input of more than `most` bytes is answered with one line and with nothing else
 abbrev pub TooLong : (List ℕ → List ℕ → Type 0) → ℕ → List ℕ → Type 0

@@ -66,8 +66,9 @@ pub record Added (before after : List ℕ) (m : ℕ) (row : List ℕ) (head link
   pub is : after ≡ sets before (rowCells * m) row
   pub indexed : Indexed after (m + 1) head link
 
--- the number of a row: the table is kept with its index where the row is found, and has it behind its m rows where it is none of them and there is room
+-- the number of a row: the table is kept with its index where the row is found or there is no room for it, and else has it behind its m rows
 pub record FoundOrAdded (before after : List ℕ) (m room : ℕ) (row : List ℕ) (head link : List ℕ) (r : ℕ) : Type 0 where
   pub found : RowFound before m row r
   pub kept : r < m → (after ≡ before) × Indexed after m head link
   pub added : m ≤ r → m < room → Added before after m row head link
+  pub full : m ≤ r → room ≤ m → (after ≡ before) × Indexed after m head link

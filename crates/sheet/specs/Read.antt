@@ -36,8 +36,8 @@ pub record SheetTables : Type 0 where
 abbrev pub sheetTables : List ℕ → WitnessTables → SheetTables
 sheetTables successors witness = record { successors = successors; witness = witness }
 
--- the answer of questions 2 to 10, in tables that are long enough
-abbrev pub ReadsLong : List ℕ → SheetTables → SheetTables → Read → Type 0
+-- the answer of questions 2 to 10, in tables that are long enough; without the names, which reading does not hand out
+abbrev ReadsLong : List ℕ → SheetTables → SheetTables → Read → Type 0
 ReadsLong s before after (Refused r) = Refuses s (before .witness) (after .witness) r × (after .successors ≡ cleared (before .successors))
 ReadsLong s before after (Is a) =
     (σ : Sheet)
@@ -79,7 +79,7 @@ pub record SheetRead (s : List ℕ) (before after : ReadTables) (a : Numbers) : 
   pub names : NamesIn sheet (a .k) (after .rows)
   pub behind : drop (24 * a .k) (after .rows) ≡ drop (24 * a .k) (cleared (before .rows))
 
--- the answer of questions 2 to 10, in tables that are long enough
+-- the answer of questions 2 to 10, in tables that are long enough, with the names
 abbrev pub ReadsNamed : List ℕ → ReadTables → ReadTables → Read → Type 0
 ReadsNamed s before after (Refused r) =
     Refuses s (before .witness) (after .witness) r × (after .successors ≡ cleared (before .successors)) × (after .rows ≡ cleared (before .rows))

@@ -1,6 +1,7 @@
 // Question 14 on a sheet whose composed names stand in rows.
 ghost use Prim.Native.Nat.{_+_, _*_, _≤_};
 ghost use lib.ListN.{length};
+ghost use Rattle.names.specs.Rows.{OnlyRow};
 ghost use Rattle.format.specs.Format.{Sheet};
 ghost use Rattle.sheet.specs.Answers.{NamesIn};
 ghost use Rattle.sheet.specs.Letters.{LetterOf};
@@ -8,10 +9,11 @@ use super::Found;
 use gate::Refusal;
 use names::letter_of;
 
-// The letter whose name is the same after composing.
+// The letter whose name is the same after composing. Only row k is written.
 pub fn letter_named(name: &[u8], rows: &mut [u8], k: usize) -> Found
     requires { ⌜ (k ≤ 8) × (24 * k + 24 ≤ length (now rows)) ⌝ }
-    ensures { λ r. ⌜ ((σ : Sheet) → NamesIn σ k (now (rows .entry)) → LetterOf σ (now (name .entry)) r) ⌝ }
+    ensures { λ r. ⌜ ((σ : Sheet) → NamesIn σ k (now (rows .entry)) → LetterOf σ (now (name .entry)) r)
+        × OnlyRow k (now (rows .entry)) (now (rows .exit)) ⌝ }
 {
     let unknown = Refusal {
         number: 14,

@@ -45,7 +45,7 @@ clearedBuild before = buildTables (cleared (before .successors)) (clearedWitness
 -- tuple numbers and 8·R next numbers ..), and is R 1 to 1,024?"
 pub record EnoughToBuild (room : ℕ) (before : BuildTables) : Type 0 where
   pub lengths : EnoughForSheet (before .successors) (before .witness)
-  pub store : EnoughForTracker room (before .tracker)
+  pub tracker : EnoughForTracker room (before .tracker)
 
 -- where the sheet comes as the numbers A, with its successor sets
 abbrev pub EnoughToBuildNumbers : Automaton → ℕ → BuildNumbersTables → Type 0

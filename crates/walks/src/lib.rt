@@ -27,7 +27,8 @@ pub fn ask(
     other: &mut [u16],
 ) -> usize
     requires { ⌜ Asked (graph g (now table)) (witnessTables (now word) (now one) (now other)) ⌝ }
-    ensures { λ r. ⌜ Answered (graph g (now (table .entry))) Everywhere (witnessTables (now (word .entry)) (now (one .entry)) (now (other .entry))) (witnessTables (now (word .exit)) (now (one .exit)) (now (other .exit))) r ⌝ }
+    ensures { λ r. ⌜ Answered (graph g (now (table .entry))) Everywhere (witnessTables (now (word .entry)) (now (one .entry)) (now (other .entry)))
+        (witnessTables (now (word .exit)) (now (one .exit)) (now (other .exit))) r ⌝ }
 {
     meeting::search(g, table, 65535, word, one, other)
 }
@@ -59,8 +60,10 @@ fn check_cleared(
     one: &mut [u16],
     other: &mut [u16],
 ) -> Checked
-    requires { ⌜ EnoughForSheet (now table) (witnessTables (now word) (now one) (now other)) × (witnessTables (now word) (now one) (now other) ≡ clearedWitness (witnessTables (now word) (now one) (now other))) ⌝ }
-    ensures { λ r. ⌜ ChecksLong (automaton a (now (table .entry))) (witnessTables (now (word .entry)) (now (one .entry)) (now (other .entry))) (witnessTables (now (word .exit)) (now (one .exit)) (now (other .exit))) r ⌝ }
+    requires { ⌜ EnoughForSheet (now table) (witnessTables (now word) (now one) (now other))
+        × (witnessTables (now word) (now one) (now other) ≡ clearedWitness (witnessTables (now word) (now one) (now other))) ⌝ }
+    ensures { λ r. ⌜ ChecksLong (automaton a (now (table .entry))) (witnessTables (now (word .entry)) (now (one .entry)) (now (other .entry)))
+        (witnessTables (now (word .exit)) (now (one .exit)) (now (other .exit))) r ⌝ }
 {
     let number = automaton::first_no(a, table);
     if number != 0 {
@@ -90,7 +93,8 @@ pub fn check_long(
     other: &mut [u16],
 ) -> Checked
     requires { ⌜ EnoughForSheet (now table) (witnessTables (now word) (now one) (now other)) ⌝ }
-    ensures { λ r. ⌜ ChecksLong (automaton a (now (table .entry))) (witnessTables (now (word .entry)) (now (one .entry)) (now (other .entry))) (witnessTables (now (word .exit)) (now (one .exit)) (now (other .exit))) r ⌝ }
+    ensures { λ r. ⌜ ChecksLong (automaton a (now (table .entry))) (witnessTables (now (word .entry)) (now (one .entry)) (now (other .entry)))
+        (witnessTables (now (word .exit)) (now (one .exit)) (now (other .exit))) r ⌝ }
 {
     gate::clear(word);
     gate::clear(one);

@@ -94,7 +94,7 @@ track-requires : tie.Need-track-requires
 track-requires c κs =
     let told = c .before .before .before .before in
     let pre = start (behind told) .pre in
-    (read-fits (accepted told), pre .0 .store)
+    (read-fits (accepted told), pre .0 .tracker)
 
 enum-known-r-2 : tie.Need-enum-known-r-2
 enum-known-r-2 c = search needs
@@ -216,7 +216,7 @@ returns-3 c =
     let sheet = sheet-of built in
     let read = accepted sheet in
     let pre = start (behind sheet) .pre in
-    let h = (rw (told .r3 .given .1) at (judged .judge-plan .ensures)) (read .sheet) (read .names) in
+    let h = (rw (told .r3 .given .1) at (judged .judge-plan .ensures)) .0 (read .sheet) (read .names) in
     plan-refused (pre .0) (pre .1) read (tracked built _ (tracker .x .given .1)) (behind sheet .read-long .kept .1 .0) h
     (first .clear3 .ensures) (second .clear4 .ensures)
 
@@ -247,7 +247,7 @@ returns-4 c =
     let sheet = sheet-of built in
     let read = accepted sheet in
     let pre = start (behind sheet) .pre in
-    let h = (rw (told .v .given .1) at (judged .judge-plan .ensures)) (read .sheet) (read .names) in
+    let h = (rw (told .v .given .1) at (judged .judge-plan .ensures)) .0 (read .sheet) (read .names) in
     plan-judged (pre .0) (pre .1) read (tracked built _ (tracker .x .given .1)) h
 
 pub judge-long-spec : {M : Type 1} → statement M

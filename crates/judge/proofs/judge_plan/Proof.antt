@@ -54,7 +54,8 @@ same-length c = search needs
 returns : tie.Need-returns
 returns c =
     let told = c .before in
-    λ σ names. plan-of (told .before .before .before .before .before) σ names _ (told .r .given .1) .0
+    let read = told .before .before .before .before .before in
+    (λ σ names. plan-of read σ names _ (told .r .given .1) .0, read .read-plan .ensures .2)
 
 same-length-2 : tie.Need-same-length-2
 same-length-2 c = search needs
@@ -62,10 +63,12 @@ same-length-2 c = search needs
 returns-2 : tie.Need-returns-2
 returns-2 c =
     let told = c .before .before .before in
-    let read = told .before .before .before .before .before in
-    λ σ names.
-    (let (lead, cycle, plan, m, k, is) = plan-of read σ names _ (told .z .given .1) in
-    (lead, cycle, plan, judged-plan σ (few read σ names) _ lead cycle plan 400 _ _ _ m k is _ _ _ _ (c .judge-letters .ensures)))
+    let read = told .before .before .before .before .before in (
+      λ σ names.
+          (let (lead, cycle, plan, m, k, is) = plan-of read σ names _ (told .z .given .1) in
+          (lead, cycle, plan, judged-plan σ (few read σ names) _ lead cycle plan 400 _ _ _ m k is _ _ _ _ (c .judge-letters .ensures))),
+      read .read-plan .ensures .2,
+    )
 
 pub judge-plan-spec : {M : Type 1} → statement M
 judge-plan-spec =

@@ -11,9 +11,6 @@ use Rattle.judge.proofs.verdict.Tie as tie
 enough-requires : tie.Need-enough-requires
 enough-requires c κs = search needs
 
-sizes-fit-requires : tie.Need-sizes-fit-requires
-sizes-fit-requires c κs = search needs
-
 same-length : tie.Need-same-length
 same-length c = search needs
 
@@ -33,7 +30,10 @@ same-length-6 : tie.Need-same-length-6
 same-length-6 c = search needs
 
 returns : tie.Need-returns
-returns c = Judgement.short (c .before .before .enough .ensures .1 (not-true _ (c .if1 .taken))) refl refl
+returns c = Judgement.short (c .before .enough .ensures .1 (not-true _ (c .if1 .taken))) refl refl
+
+sizes-fit-requires : tie.Need-sizes-fit-requires
+sizes-fit-requires c κs = search needs
 
 clear-requires : tie.Need-clear-requires
 clear-requires c κs = search needs
@@ -75,18 +75,21 @@ returns-2 c =
     let third = fourth .before .before .before .before in
     let second = third .before .before .before .before .before .before in
     let first = second .before .before .before .before .before in
-    let long = first .before .before in
-    let asked = long .before .before in
-    let a = asked .before .before .before .before .before .before .before .before .before .before .before .before .before .before .before .before .args in
+    let large = first .before .before in
+    let sizes = large .before in
+    let long = sizes .before in
+    let asked = long .before in
+    let a = asked .before .before .before .before .before .before .before .before .before .before .before .before .before .before .before .args in
     let witness = tables-cleared (witnessTables (a .word .now) (a .one .now) (a .other .now)) (third .clear3 .ensures) (fourth .clear4 .ensures) (fifth .clear5 .ensures) in
-    Judgement.refused (asked .before .enough .ensures .0 (not-false _ (long .before .if1 .left))) _
-    (Refusing.by-size (asked .sizes-fit .ensures .1 (not-true _ (long .if2 .taken))) refl witness) refl (first .clear .ensures) (second .clear2 .ensures)
+    Judgement.refused (asked .enough .ensures .0 (not-false _ (long .if1 .left))) _
+    (Refusing.by-size (sizes .sizes-fit .ensures .1 (not-true _ (large .if2 .taken))) refl witness) refl (first .clear .ensures) (second .clear2 .ensures)
 
 judge-long-requires : tie.Need-judge-long-requires
 judge-long-requires c κs =
     let fit = c .before .before .before .before .before .before in
-    let asked = fit .before .before in
-    (asked .before .enough .ensures .0 (not-false _ (fit .before .if1 .left)), asked .sizes-fit .ensures .0 (not-false _ (fit .if2 .left)))
+    let sizes = fit .before in
+    let long = sizes .before in
+    (long .before .enough .ensures .0 (not-false _ (long .if1 .left)), sizes .sizes-fit .ensures .0 (not-false _ (fit .if2 .left)))
 
 same-length-13 : tie.Need-same-length-13
 same-length-13 c = search needs
@@ -114,7 +117,6 @@ verdict-spec =
     tie.close
     (tie.spec
     enough-requires
-    sizes-fit-requires
     same-length
     same-length-2
     same-length-3
@@ -122,6 +124,7 @@ verdict-spec =
     same-length-5
     same-length-6
     returns
+    sizes-fit-requires
     clear-requires
     clear-requires-2
     clear-requires-3

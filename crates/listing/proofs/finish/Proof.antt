@@ -2,7 +2,7 @@
 use mathlib.Core.Path.{_≡_, refl, sym, _∙_}
 use lib.ListN.{length}
 use Rattle.filling.specs.TrackerTables.{trackerTables}
-use Rattle.filling.specs.TrackerTablesLaws.{store-cleared}
+use Rattle.filling.specs.TrackerTablesLaws.{tracker-cleared}
 use Rattle.listing_text.specs.Listing.{listing}
 use Rattle.listing_text.specs.PutLaws.{listing-length}
 use borrow.Author.Needs.{needs}
@@ -47,7 +47,7 @@ returns c =
     let short = first .before .before in
     let a = start (short .before) .args in (
       (rw (length-is (short .before)) (short .if1 .taken), refl, emptied .clear-bytes .ensures),
-      store-cleared (trackerTables (a .tuples .now) (a .nexts .now)) (first .clear .ensures) (second .clear2 .ensures),
+      tracker-cleared (trackerTables (a .tuples .now) (a .nexts .now)) (first .clear .ensures) (second .clear2 .ensures),
     )
 
 write-requires : tie.Need-write-requires

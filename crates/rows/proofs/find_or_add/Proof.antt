@@ -38,7 +38,7 @@ returns-2 : tie.Need-returns-2
 returns-2 c =
     let added = c .before .before .before .before .before .before in
     let tested = added .before .before .before .before .before in
-    number-added (tested .before .find .ensures) (tested .if1 .left) (added .add .ensures)
+    number-added (tested .before .find .ensures) (tested .if1 .left) (added .before .before .before .before .if2 .taken) (added .add .ensures)
 
 same-length-7 : tie.Need-same-length-7
 same-length-7 c = search needs
@@ -50,7 +50,9 @@ same-length-9 : tie.Need-same-length-9
 same-length-9 c = search needs
 
 returns-3 : tie.Need-returns-3
-returns-3 c = number-over (c .before .before .find .ensures) (c .before .if1 .left) (c .if2 .left)
+returns-3 c =
+    let found = c .before .before in
+    number-over (found .find .ensures) (c .before .if1 .left) (found .before .before .before .before .before .before .before .before .before .pre .0) (c .if2 .left)
 
 pub find-or-add-spec : {M : Type 1} → statement M
 find-or-add-spec =

@@ -113,7 +113,7 @@ same-length-9 c = search needs
 returns-3 : tie.Need-returns-3
 returns-3 c =
     let told = c .before .before .before .before in
-    find-asks (accepted told) (enough (asked (reading told))) (c .before .letter-named .ensures)
+    find-asks (accepted told) (enough (asked (reading told))) (c .before .letter-named .ensures .0)
 
 pub find-spec : {M : Type 1} → statement M
 find-spec =

@@ -103,7 +103,7 @@ slice-aggregate-track c =
 track-requires : tie.Need-track-requires
 track-requires c κs =
     let told = c .before .before .before .before in
-    (read-fits (accepted told), lent (asked (reading told)) .store)
+    (read-fits (accepted told), lent (asked (reading told)) .tracker)
 
 enum-told : tie.Need-enum-told
 enum-told c = search needs

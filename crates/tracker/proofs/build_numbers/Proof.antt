@@ -99,7 +99,7 @@ enum-told c = search needs
 track-requires : tie.Need-track-requires
 track-requires c κs =
     let told = c .before .before in
-    (accepted told .0, lent (asked (checking told)) .store)
+    (accepted told .0, lent (asked (checking told)) .tracker)
 
 same-length-11 : tie.Need-same-length-11
 same-length-11 c = search needs

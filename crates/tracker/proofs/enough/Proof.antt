@@ -6,22 +6,22 @@ use Rattle.tracker.proofs.enough.Statement.{statement}
 use Rattle.tracker.proofs.enough.Tie as tie
 
 returns : tie.Need-returns
-returns c = decides-no (λ l. let z = l .store .some in omega arith)
+returns c = decides-no (λ l. let z = l .tracker .some in omega arith)
 
 returns-2 : tie.Need-returns-2
-returns-2 c = decides-no (λ l. let z = l .store .most in omega arith)
+returns-2 c = decides-no (λ l. let z = l .tracker .most in omega arith)
 
 mul-if3 : tie.Need-mul-if3
 mul-if3 c = search needs
 
 returns-3 : tie.Need-returns-3
-returns-3 c = decides-no (λ l. let z = l .store .tuples in omega arith)
+returns-3 c = decides-no (λ l. let z = l .tracker .tuples in omega arith)
 
 mul-if4 : tie.Need-mul-if4
 mul-if4 c = search needs
 
 returns-4 : tie.Need-returns-4
-returns-4 c = decides-no (λ l. let z = l .store .nexts in omega arith)
+returns-4 c = decides-no (λ l. let z = l .tracker .nexts in omega arith)
 
 long-enough-requires : tie.Need-long-enough-requires
 long-enough-requires c κs = search needs
@@ -29,7 +29,7 @@ long-enough-requires c κs = search needs
 returns-5 : tie.Need-returns-5
 returns-5 c =
     let long = c .long-enough .ensures in (
-      λ y. record { lengths = long .0 y; store = record { some = omega arith; most = omega arith; tuples = omega arith; nexts = omega arith } },
+      λ y. record { lengths = long .0 y; tracker = record { some = omega arith; most = omega arith; tuples = omega arith; nexts = omega arith } },
       λ n l. long .1 n (l .lengths),
     )
 

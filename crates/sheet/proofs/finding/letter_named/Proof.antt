@@ -6,7 +6,9 @@ use borrow.Author.Tests.{not-true, not-false}
 use lib.ListN.{length-map}
 use Rattle.text.specs.BytesLaws.{stretch-end}
 use Rattle.names.specs.Name.{IsName, compose}
-use Rattle.names.specs.Rows.{FirstName}
+use Rattle.names.specs.NameLaws.{composed-name}
+use Rattle.names.specs.Rows.{FirstName, OnlyRow}
+use Rattle.names.specs.RowsLaws.{only-stored, only-none}
 use Rattle.format.specs.Format.{Sheet}
 use Rattle.sheet.specs.Answers.{NamesIn}
 use Rattle.sheet.specs.LettersLaws.{letter-found, letter-nowhere}
@@ -28,11 +30,18 @@ first c σ h =
     let whole = stretch-end (start (c .before .before) .args .name .now) 0 in
     rw whole at (c .letter-of .ensures .1 (map compose (σ .names)) (length-map (σ .names) compose ∙ h .all-names) (h .holds) (rw whole (is-one (c .before .before))) .0)
 
+-- and it went into the row behind the names
+only-row : (c : tie.After-letter-of) → OnlyRow (start (c .before .before) .args .k) (start (c .before .before) .args .rows .now) (c .letter-of .last .0)
+only-row c =
+    let s = start (c .before .before) in
+    let whole = stretch-end (s .args .name .now) 0 in
+    only-stored _ _ (compose _) (s .pre .1) (composed-name _ (rw whole (is-one (c .before .before))) .most) _ (c .letter-of .ensures .0)
+
 is-name-requires : tie.Need-is-name-requires
 is-name-requires c κs = search needs
 
 returns : tie.Need-returns
-returns c σ h = (λ l g. c .before .is-name .ensures .1 (not-true _ (c .if1 .taken)) (g .is-name), refl)
+returns c = (λ σ h. (λ l g. c .before .is-name .ensures .1 (not-true _ (c .if1 .taken)) (g .is-name), refl), only-none _ _)
 
 letter-of-requires : tie.Need-letter-of-requires
 letter-of-requires c κs =
@@ -44,17 +53,17 @@ same-length : tie.Need-same-length
 same-length c = search needs
 
 returns-2 : tie.Need-returns-2
-returns-2 c σ h =
+returns-2 c =
     let found = c .before .before .before in
-    letter-found h (start (found .before .before) .args .name .now) (found .letter-of .result) (first found σ h) (is-one (found .before .before)) (c .if2 .taken)
+    (λ σ h. letter-found h (start (found .before .before) .args .name .now) (found .letter-of .result) (first found σ h) (is-one (found .before .before)) (c .if2 .taken), only-row found)
 
 same-length-2 : tie.Need-same-length-2
 same-length-2 c = search needs
 
 returns-3 : tie.Need-returns-3
-returns-3 c σ h =
+returns-3 c =
     let found = c .before .before .before in
-    (letter-nowhere h (start (found .before .before) .args .name .now) (found .letter-of .result) (first found σ h) (c .if2 .left), refl)
+    (λ σ h. (letter-nowhere h (start (found .before .before) .args .name .now) (found .letter-of .result) (first found σ h) (c .if2 .left), refl), only-row found)
 
 pub letter-named-spec : {M : Type 1} → statement M
 letter-named-spec =
