@@ -7,7 +7,7 @@ use gate::Refusal;
 use gate::Written;
 use judge::Outcome;
 use passes::Answer;
-use sheet::Found;
+use letter_search::Found;
 use sheet::Read;
 use tracker::Built;
 use walks::Checked;

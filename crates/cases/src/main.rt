@@ -22,7 +22,7 @@ fn show(out: &[u8], n: usize) {
 fn say_column(w: usize, v: usize) {
     let mut out = [0u8; 6];
     if w <= 6 {
-        text::put_column(&mut out, 0, w, v);
+        columns::put_column(&mut out, 0, w, v);
         show(&out, w);
     }
 }
@@ -64,7 +64,7 @@ fn say_listing(sheet: &[u8], room: usize) {
     let mut one = [0u16; 137];
     let mut other = [0u16; 137];
     let mut out = [0u8; 149525];
-    match listing::list(
+    match file_listing::list(
         sheet,
         room,
         &mut table,
@@ -85,7 +85,7 @@ fn say_copy(sheet: &[u8]) {
     let mut one = [0u16; 137];
     let mut other = [0u16; 137];
     let mut out = [0u8; 24576];
-    match writer::write(sheet, &mut word, &mut one, &mut other, &mut out) {
+    match file_writer::write(sheet, &mut word, &mut one, &mut other, &mut out) {
         Written::Bytes(n) => say_text(b"COPY", &out, n),
         Written::Refused(r) => say_line(report::refusal_line(r)),
     }

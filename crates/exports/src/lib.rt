@@ -1,7 +1,5 @@
-// Every public call of the library for callers in other languages, under the prefix `lunthomi_`: numbers and slices of numbers go in, and
-// what the call answers goes into a lent table, `answer`.
-pub mod letters;
+// The calls on a sheet and its letters, and the programs' functions, for callers in other languages, under the prefix `lunthomi_`: numbers and
+// slices of numbers go in, and what the call answers goes into a lent table, `answer`. The calls with a tracker's tables are in `tracker_exports`.
+pub mod alphabet;
 pub mod programs;
 pub mod sheets;
-pub mod trackers;
-pub mod verdicts;

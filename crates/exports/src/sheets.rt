@@ -2,7 +2,8 @@
 ghost use Rattle.automaton.specs.Lent.{witnessTables};
 ghost use Rattle.walks.specs.Check.{Checks};
 ghost use Rattle.sheet.specs.Read.{sheetTables, Reads};
-ghost use Rattle.writer.specs.Write.{writeTables, Writes, WritesNumbers};
+ghost use Rattle.writer.specs.Write.{writeTables, WritesNumbers};
+ghost use Rattle.file_writer.specs.FileWrite.{Writes};
 ghost use Rattle.answers.specs.Answer.{InNumbers, asNumbers, checkedCells, readCells, writtenCells};
 use automaton::Numbers;
 
@@ -52,7 +53,7 @@ pub extern "C" fn lunthomi_read_sheet(
     answers::put_read(r, answer);
 }
 
-// `writer::write`
+// `file_writer::write`
 #[no_mangle]
 pub extern "C" fn lunthomi_write(
     sheet: &[u8],
@@ -67,7 +68,7 @@ pub extern "C" fn lunthomi_write(
         (writeTables (witnessTables (now (word .exit)) (now (one .exit)) (now (other .exit))) (now (out .exit))))
         writtenCells (now (answer .entry)) (now (answer .exit)) ⌝ }
 {
-    let r = writer::write(sheet, word, one, other, out);
+    let r = file_writer::write(sheet, word, one, other, out);
     answers::put_written(r, answer);
 }
 

@@ -5,8 +5,8 @@ use mathlib.Core.List.{List, [], _∷_, map}
 use lib.ListN.{length, getD, length-map}
 use native.Mathlib.Omega.{arith}
 use Rattle.names.specs.Name.{compose}
-use Rattle.names.specs.Rows.{letterOf}
-use Rattle.names.specs.LetterLaws.{letter-first, letter-is, composed-at}
+use Rattle.name_rows.specs.Rows.{letterOf}
+use Rattle.name_rows.specs.LetterLaws.{letter-first, letter-is, composed-at}
 use Rattle.format.specs.Format.{DistinctFrom}
 
 module _ (x : List ℕ) where

@@ -6,8 +6,8 @@ use mathlib.Core.List.{List, [], _∷_, _++_}
 use lib.ListN.{length, getD}
 use Rattle.text.specs.Bytes.{lf, space}
 pub use Rattle.text.specs.Bytes.{endLine}
-use Rattle.text.specs.Column.{column}
-use Rattle.text.specs.Line.{numbersLine}
+use Rattle.columns.specs.Column.{column}
+use Rattle.columns.specs.Line.{numbersLine}
 use Rattle.names.specs.Name.{IsName, compose}
 use Rattle.automaton.specs.Graph.{InRange}
 

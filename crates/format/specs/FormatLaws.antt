@@ -8,8 +8,8 @@ use native.Mathlib.Omega.{arith}
 use native.Mathlib.Decide.{decLt}
 use Rattle.text.specs.Bytes.{lf, space}
 use Rattle.text.specs.BytesLaws.{stretch-rest}
-use Rattle.text.specs.Column.{column}
-use Rattle.text.specs.LineLaws.{numbersLine-length}
+use Rattle.columns.specs.Column.{column}
+use Rattle.columns.specs.LineLaws.{numbersLine-length}
 use Rattle.format.specs.Format.{State, Transition, Sheet, sheetWord, headLine, nameLine, stateLine, transitionLine, nameLines, stateLines, transitionLines, lines, transitionIndex, Before, Faulty, wrong-name, name-twice, wrong-transition, no-end, not-last}
 
 pub head-length : (n k : ℕ) → length (headLine n k) ≡ 12

@@ -1,7 +1,9 @@
 pub mod Format
 pub mod Numbers
 pub mod Written
+pub mod StandsFor
 pub mod FormatLaws
 pub mod DistinctLaws
 pub mod NumbersLaws
+pub mod StandsForLaws
 pub mod Unfold

@@ -1,12 +1,12 @@
 -- All definitions of this crate and of those below it that unfold, for laws that hold by computation.
-use Rattle.names.specs.Unfold.{names·unfold}
+use Rattle.name_rows.specs.Unfold.{name_rows·unfold}
 use Rattle.automaton.specs.Unfold.{automaton·unfold}
 use Rattle.format.specs.Format
 use Rattle.format.specs.Numbers
 use Rattle.format.specs.Written
 
 unfoldable pub format·unfold : Unit {0}
-unfolding names·unfold automaton·unfold Format.headLine Format.nameLine Format.stateLine Format.transitionLine Format.nameLines Format.stateLines
+unfolding name_rows·unfold automaton·unfold Format.headLine Format.nameLine Format.stateLine Format.transitionLine Format.nameLines Format.stateLines
     Format.transitionLines Format.lines Numbers.flagSet Numbers.inserted Numbers.tableOf Numbers.numbers Written.statesOf Written.transitionsOf
     Written.sheetOf Written.writtenSheet Written.written
 format·unfold = tt

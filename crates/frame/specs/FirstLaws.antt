@@ -8,13 +8,13 @@ use native.Mathlib.Omega.{arith}
 use Rattle.gate.specs.Gate.{refusal}
 use Rattle.gate.specs.declared.Refusal.{Refusal}
 use Rattle.lists.specs.Choice.{choose}
-use Rattle.text.specs.NumberLaws.{between-is, between-of}
-use Rattle.text.specs.Line.{numbersLine}
-use Rattle.text.specs.Pair.{wordAndPair}
-use Rattle.text.specs.PairLaws.{NoFirst, first-pair, first-outcome}
+use Rattle.columns.specs.NumberLaws.{between-is, between-of}
+use Rattle.columns.specs.Line.{numbersLine}
+use Rattle.columns.specs.Pair.{wordAndPair}
+use Rattle.columns.specs.PairLaws.{NoFirst, first-pair, first-outcome}
 use Rattle.text.specs.Word.{noZero}
-use Rattle.text.specs.declared.Pair.{Pair}
-use Rattle.text.specs.declared.Pair.the-variants as P
+use Rattle.columns.specs.declared.Pair.{Pair}
+use Rattle.columns.specs.declared.Pair.the-variants as P
 use Rattle.frame.specs.declared.Bounds.{Bounds}
 use Rattle.frame.specs.declared.First.{First}
 use Rattle.frame.specs.declared.First.the-variants as R

@@ -6,10 +6,10 @@ use lib.ListN.{length}
 use lib.Dec.{eqb}
 use Rattle.lists.specs.Choice.{choose}
 use Rattle.text.specs.Bytes.{endLine}
-use Rattle.text.specs.Number.{isBetween}
-use Rattle.text.specs.Pair.{withPair}
+use Rattle.columns.specs.Number.{isBetween}
+use Rattle.columns.specs.Pair.{withPair}
 use Rattle.text.specs.Word.{startsAt}
-use Rattle.text.specs.declared.Pair.{Pair}
+use Rattle.columns.specs.declared.Pair.{Pair}
 use Rattle.frame.specs.declared.Bounds.{Bounds}
 
 -- A PHASE of reading, one for each kind of line: it refuses with a number and a line, or hands on what it read

@@ -3,11 +3,11 @@ ghost use mathlib.Core.Path.{_≡_};
 ghost use mathlib.Core.List.{[]};
 ghost use Prim.Native.Nat.{_<_, _^_};
 ghost use lib.ListN.{length};
-ghost use Rattle.text.specs.Pair.{wordAndPair};
+ghost use Rattle.columns.specs.Pair.{wordAndPair};
 ghost use Rattle.frame.specs.Phase.{firstPhase, endAt};
 ghost use Rattle.frame.specs.Answers.{firstAnswer, FirstFits, endAnswer};
 use gate::Refusal;
-use text::Pair;
+use columns::Pair;
 
 // What the two numbers of a first line may be: the first from `least` to `most`, the second from `low` to `high`.
 pub struct Bounds {
@@ -41,14 +41,14 @@ pub fn first_line(s: &[u8], word: &[u8], bounds: Bounds, form: u8, range: u8) ->
     ensures { λ r. ⌜ (r ≡ firstAnswer (firstPhase (wordAndPair (now (s .entry)) (now (word .entry))) bounds (λ a b. (a, b)) form range))
         × FirstFits bounds r ⌝ }
 {
-    let Pair::Are(a, b) = text::word_and_pair(s, word) else {
+    let Pair::Are(a, b) = columns::word_and_pair(s, word) else {
         return First::Refused(Refusal {
             number: form,
             line: 1,
             length: 0,
         });
     };
-    if text::are_between(a, bounds.least, bounds.most, b, bounds.low, bounds.high) {
+    if columns::are_between(a, bounds.least, bounds.most, b, bounds.low, bounds.high) {
         return First::Are(a, b);
     }
     First::Refused(Refusal {

@@ -10,7 +10,7 @@ use native.Mathlib.Decide.{decLt}
 use Rattle.format.specs.Format.{Sheet}
 use Rattle.passes.specs.Letter.{letterAt}
 use Rattle.plan.specs.Plan.{PlanIs}
-use Rattle.plan.specs.KnownLaws.{known-below}
+use Rattle.plan_lines.specs.KnownLaws.{known-below}
 use Rattle.passes.specs.declared.Verdict.{Verdict}
 use Rattle.passes.specs.TableRun.{LettersFit, wordOf, TableJudges}
 

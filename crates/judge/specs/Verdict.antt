@@ -10,7 +10,8 @@ use Rattle.format.specs.Format.{Sheet, mostSheet}
 use Rattle.format.specs.Numbers.{numbers}
 use Rattle.sheet.specs.Read.{Accepted, Refuses}
 use Rattle.passes.specs.Letter.{letterAt}
-use Rattle.plan.specs.Plan.{PlanIs, PlanFaulty, mostPlan}
+use Rattle.plan.specs.Plan.{PlanIs, PlanFaulty}
+use Rattle.plan_lines.specs.PlanLines.{mostPlan}
 use Rattle.numbering.specs.Numbering.{MoreThan}
 use Rattle.filling.specs.TrackerTables.{TrackerTables, Fitted, clearedTracker}
 use Rattle.tracker.specs.Build.{BuildTables, EnoughToBuild}

@@ -2,28 +2,30 @@
 use Prim.Native.Nat.{ℕ, _+_, _<_}
 use mathlib.Core.Path.{refl, _≡_, subst, _∙_}
 use mathlib.Core.List.{List}
-use lib.ListN.{length, take, length-append, List·getD-append}
+use lib.ListN.{length, length-append, List·getD-append}
 use lib.Seq.{getD-append-add}
 use native.Mathlib.Omega.{arith}
 use Rattle.gate.specs.Gate.{cleared}
 use Rattle.gate.specs.GateLaws.{same-cleared}
 use Rattle.gate.specs.declared.Refusal.{Refusal}
-use Rattle.automaton.specs.Automaton.{Automaton, automaton, Fits}
-use Rattle.automaton.specs.declared.Numbers.{Numbers}
+use Rattle.automaton.specs.Automaton.{Fits}
+use Rattle.automaton.specs.Lent.{clearedWitness, lentTable}
 use Rattle.format.specs.Format.{Sheet}
 use Rattle.format.specs.Numbers.{numbers}
 use Rattle.format.specs.NumbersLaws.{sheet-fits}
-use Rattle.sheet.specs.Read.{Accepted, Refuses, ReadTables, readTables, SheetRead}
-use Rattle.sheet.specs.ReadLaws.{read-automaton}
+use Rattle.parser.specs.LettersOf.{LettersOf}
+use Rattle.parser.specs.UniqueLaws.{file-unique}
+use Rattle.sheet.specs.Read.{Accepted}
 use Rattle.passes.specs.Letter.{letterAt}
 use Rattle.passes.specs.LetterLaws.{letter-below}
 use Rattle.plan.specs.Plan.{PlanIs}
-use Rattle.plan.specs.KnownLaws.{known-below}
+use Rattle.plan_lines.specs.KnownLaws.{known-below}
 use Rattle.filling.specs.TrackerTables.{TrackerTables, clearedTracker, Fitted}
-use Rattle.tracker.specs.Build.{BuildTables, buildTables, EnoughToBuild, Tracks}
+use Rattle.tracker.specs.Build.{BuildTables, buildTables, EnoughToBuild}
+use Rattle.file_tracker.specs.FileBuild.{Builds}
+use Rattle.file_tracker.specs.FileBuildLaws.{file-built}
 use Rattle.filling.specs.FittedLaws.{fitted-cleared}
 use Rattle.tracker.specs.declared.Tracker.{Tracker}
-use Rattle.tracker.specs.declared.Built.{Built}
 use Rattle.tracker.specs.declared.Built.the-variants as B
 use Rattle.judge.specs.declared.Outcome.the-variants.{Refused, Judged}
 use Rattle.passes.specs.declared.Verdict.{Verdict}
@@ -57,55 +59,46 @@ verdicts s σ accepted room before after count fitted p lead cycle z plan table 
     }
 
 -- behind questions 1 and 2
-module _ {s p : List ℕ} {room : ℕ} {before : BuildTables} (lent : EnoughToBuild room before) (sizes : SizesFit s p) where
-  -- 3 to 10
-  pub sheet-refused : {after : BuildTables} {r : Refusal} → Refuses s (before .witness) (after .witness) r
-      → after .successors ≡ cleared (before .successors) → after .tracker ≡ clearedTracker (before .tracker) → Judgement s p room before after (Refused r)
-  sheet-refused {r = r} h e z = Judgement.refused lent r (Refusing.by-sheet sizes h) refl e z
+module _ {s p : List ℕ} {room : ℕ} {before after : BuildTables} (lent : EnoughToBuild room before) (sizes : SizesFit s p) where
+  -- 3 to 11
+  pub sheet-refused : {r : Refusal} → Builds s room before after (B.Refused r) → Judgement s p room before after (Refused r)
+  sheet-refused (Builds.short n e same) = absurd (n lent)
+  sheet-refused {r} (Builds.refused l x h e o c) = let f : Refused r ≡ Refused x = cc in Judgement.refused lent x (Refusing.by-sheet sizes h) f o c
+  sheet-refused {r} (Builds.asked l σ accepted w (more, is, c) o) = Judgement.refused lent r (Refusing.by-room sizes σ accepted more is w) refl o c
 
-  -- behind reading, with names in rows and the sheet's numbers a
-  module _ {rows : List ℕ} {read : ReadTables} {a : Numbers} (h : SheetRead s (readTables (before .successors) rows (before .witness)) read a) where
+  -- behind building, with the tracker y and names in rows
+  module _ {rows : List ℕ} {y : Tracker} (built : Builds s room before after (B.Is y)) (letters : LettersOf s rows (y .numbers)) where
+    -- the sheet of both: a file is of one sheet
     abbrev σ : Sheet
-    σ = h .sheet
+    σ = letters .sheet
+
+    accepted : Accepted s σ × (after .successors ≡ lentTable (numbers σ .table) (before .successors)) × Fitted (numbers σ) room (before .tracker) (after .tracker) (y .tuples)
+    accepted =
+        let (l, (τ, a, are, o, h), w) = file-built built in
+        subst (λ (υ : Sheet). Accepted s υ × (after .successors ≡ lentTable (numbers υ .table) (before .successors)) × Fitted (numbers υ) room (before .tracker) (after .tracker) (y .tuples))
+        (file-unique s τ σ (a .file) (letters .file)) (a, o, h)
 
     fits : Fits (numbers σ)
-    fits = sheet-fits s σ (h .accepted .file)
+    fits = sheet-fits s σ (letters .file)
 
-    abbrev TracksIn : TrackerTables → Built → Type 0
-    TracksIn = Tracks (automaton a (take 128 (read .successors))) room (before .tracker)
+    witness : after .witness ≡ clearedWitness (before .witness)
+    witness = file-built built .2
 
-    -- a table of successor sets that is cleared behind reading is as if it had been cleared at first
-    sets-cleared : {successors : List ℕ} → length (read .successors) ≡ length (before .successors) → successors ≡ cleared (read .successors)
-        → successors ≡ cleared (before .successors)
-    sets-cleared same e = e ∙ same-cleared (before .successors) (read .successors) same
+    pub tracker-tables : TablesFit (after .tracker .tuples) (after .tracker .nexts) (y .tuples)
+    tracker-tables = tables-fit fits room (y .tuples) (before .tracker) (after .tracker) (accepted .2) (lent .tracker)
 
-    -- 11
-    pub room-refused : {successors : List ℕ} {tracker : TrackerTables} {r : Refusal} → length (read .successors) ≡ length (before .successors)
-        → TracksIn tracker (B.Refused r) → successors ≡ cleared (read .successors)
-        → Judgement s p room before (buildTables successors (read .witness) tracker) (Refused r)
-    room-refused {tracker = tracker} {r} same over e =
-        let (more, is, zero) = subst (λ (A : Automaton). Tracks A room (before .tracker) tracker (B.Refused r)) (read-automaton h) over in
-        Judgement.refused lent r (Refusing.by-room sizes σ (h .accepted) more is (h .witness)) refl (sets-cleared same e) zero
+    -- 12 to 14
+    pub plan-refused : {successors : List ℕ} {tracker : TrackerTables} {r : Refusal} → length (after .successors) ≡ length (before .successors)
+        → PlanJudged σ p (after .tracker .tuples) (after .tracker .nexts) (y .tuples) (Refused r) → successors ≡ cleared (after .successors)
+        → tracker ≡ clearedTracker (after .tracker) → Judgement s p room before (buildTables successors (after .witness) tracker) (Refused r)
+    plan-refused {r = r} same (number, line, faulty, is) e zero =
+        Judgement.refused lent r (Refusing.by-plan sizes σ (accepted .0) (after .tracker) (y .tuples) (accepted .2) number line faulty is witness) refl
+        (e ∙ same-cleared (before .successors) (after .successors) same)
+        (zero ∙ fitted-cleared (numbers σ) fits room (y .tuples) (before .tracker) (after .tracker) (accepted .2) (lent .tracker))
 
-    -- behind building, with the tracker y
-    module _ {built : TrackerTables} {y : Tracker} (tracks : TracksIn built (B.Is y)) where
-      fitted : Fitted (numbers σ) room (before .tracker) built (y .tuples)
-      fitted = subst (λ (A : Automaton). Tracks A room (before .tracker) built (B.Is y)) (read-automaton h) tracks .1
-
-      pub tracker-tables : TablesFit (built .tuples) (built .nexts) (y .tuples)
-      tracker-tables = tables-fit fits room (y .tuples) (before .tracker) built fitted (lent .tracker)
-
-      -- 12 to 14
-      pub plan-refused : {successors : List ℕ} {tracker : TrackerTables} {r : Refusal} → length (read .successors) ≡ length (before .successors)
-          → PlanJudged σ p (built .tuples) (built .nexts) (y .tuples) (Refused r) → successors ≡ cleared (read .successors) → tracker ≡ clearedTracker built
-          → Judgement s p room before (buildTables successors (read .witness) tracker) (Refused r)
-      plan-refused {r = r} same (number, line, faulty, is) e zero =
-          Judgement.refused lent r (Refusing.by-plan sizes σ (h .accepted) built (y .tuples) fitted number line faulty is (h .witness)) refl
-          (sets-cleared same e) (zero ∙ fitted-cleared (numbers σ) fits room (y .tuples) (before .tracker) built fitted (lent .tracker))
-
-      -- the answer
-      pub plan-judged : {z : Verdict} → PlanJudged σ p (built .tuples) (built .nexts) (y .tuples) (Judged z)
-          → Judgement s p room before (buildTables (read .successors) (read .witness) built) (Judged z)
-      plan-judged {z} (lead, cycle, plan, table) =
-          Judgement.judged lent sizes σ (h .accepted) (y .tuples) fitted lead cycle z
-          (verdicts s σ (h .accepted) room (before .tracker) built (y .tuples) fitted p lead cycle z plan table) refl (h .successors) (h .witness)
+    -- the answer
+    pub plan-judged : {z : Verdict} → PlanJudged σ p (after .tracker .tuples) (after .tracker .nexts) (y .tuples) (Judged z) → Judgement s p room before after (Judged z)
+    plan-judged {z} (lead, cycle, plan, table) =
+        let (a, o, fitted) = accepted in
+        Judgement.judged lent sizes σ a (y .tuples) fitted lead cycle z
+        (verdicts s σ a room (before .tracker) (after .tracker) (y .tuples) fitted p lead cycle z plan table) refl o witness

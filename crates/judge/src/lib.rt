@@ -3,22 +3,21 @@ ghost use Prim.Native.Nat.{_≤_};
 ghost use lib.ListN.{length};
 ghost use Rattle.gate.specs.Gate.{Decides};
 ghost use Rattle.automaton.specs.Lent.{witnessTables};
-ghost use Rattle.names.specs.Rows.{OnlyRow};
+ghost use Rattle.name_rows.specs.Rows.{OnlyRow};
 ghost use Rattle.format.specs.Format.{Sheet};
-ghost use Rattle.sheet.specs.Answers.{NamesIn};
-ghost use Rattle.plan.specs.Plan.{mostPlan};
+ghost use Rattle.parser.specs.LettersOf.{NamesIn};
+ghost use Rattle.plan_lines.specs.PlanLines.{mostPlan};
 ghost use Rattle.filling.specs.TrackerTables.{trackerTables};
 ghost use Rattle.tracker.specs.Build.{buildTables, EnoughToBuild};
 ghost use Rattle.passes.specs.TableRun.{TablesFit};
 ghost use Rattle.judge.specs.Parts.{PlanJudged};
 ghost use Rattle.judge.specs.Verdict.{SizesFit, Judgement};
+use file_tracker::build_long;
 use gate::Refusal;
 use passes::Verdict;
 use passes::judge_letters;
 use plan::Planned;
 use plan::whole_file::read_plan;
-use sheet::Read;
-use sheet::reading::read_long;
 use tracker::Built;
 
 // "The outcome is either a refusal or yes or no with least colour and passes."
@@ -82,24 +81,25 @@ fn judge_long(
         (buildTables (now (table .exit)) (witnessTables (now (word .exit)) (now (one .exit)) (now (other .exit))) (trackerTables (now (tuples .exit)) (now (nexts .exit)))) r ⌝ }
 {
     let mut rows = [0u8; 216];
-    match read_long(sheet, table, &mut rows, word, one, other) {
-        Read::Refused(r) => {
-            filling::clear(tuples, nexts);
-            Outcome::Refused(r)
-        }
-        Read::Is(a) => match tracker::track(a, &table[..128], room, tuples, nexts) {
-            Built::Refused(r) => {
+    match build_long(
+        sheet,
+        room,
+        table,
+        &mut rows,
+        tuples,
+        nexts,
+        word,
+        one,
+        other,
+    ) {
+        Built::Refused(r) => Outcome::Refused(r),
+        Built::Is(x) => match judge_plan(plan, &mut rows, x.numbers.k, tuples, nexts, x.tuples) {
+            Outcome::Refused(r) => {
                 gate::clear(table);
+                filling::clear(tuples, nexts);
                 Outcome::Refused(r)
             }
-            Built::Is(x) => match judge_plan(plan, &mut rows, a.k, tuples, nexts, x.tuples) {
-                Outcome::Refused(r) => {
-                    gate::clear(table);
-                    filling::clear(tuples, nexts);
-                    Outcome::Refused(r)
-                }
-                Outcome::Judged(v) => Outcome::Judged(v),
-            },
+            Outcome::Judged(v) => Outcome::Judged(v),
         },
     }
 }

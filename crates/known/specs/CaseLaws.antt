@@ -21,7 +21,8 @@ use Rattle.tracker.specs.declared.Built.{Built}
 use Rattle.tracker.specs.declared.Built.the-variants as B
 use Rattle.filling.specs.TrackerTables.{TrackerTables, Holds}
 use Rattle.passes.specs.Letter.{letterAt}
-use Rattle.plan.specs.Plan.{mostPlan}
+use Rattle.plan_lines.specs.PlanLines.{mostPlan}
+use Rattle.plan_lines.specs.PlanLines as PlanLines
 use Rattle.plan.specs.Plan as Plan
 use Rattle.plan.specs.Parse.{planOf}
 use Rattle.plan.specs.Parse as P
@@ -105,8 +106,8 @@ module _ (s p : List ℕ) (before after : TrackerTables) (σ : Sheet) (file : Fi
   plan-number : (number line : ℕ) → Plan.PlanFaulty σ p number line → 12 ≤ number
   plan-number number line (Plan.PlanFaulty.head h) = omega arith
   plan-number number line (Plan.PlanFaulty.range lead cycle rest a b e h) = omega arith
-  plan-number number line (Plan.PlanFaulty.name lead cycle names rest a b (Plan.wrong-name h)) = omega arith
-  plan-number number line (Plan.PlanFaulty.name lead cycle names rest a b (Plan.unknown-name y after c e h)) = omega arith
+  plan-number number line (Plan.PlanFaulty.name lead cycle names rest a b (PlanLines.wrong-name h)) = omega arith
+  plan-number number line (Plan.PlanFaulty.name lead cycle names rest a b (PlanLines.unknown-name y after c e h)) = omega arith
   plan-number number line (Plan.PlanFaulty.end lead cycle names rest a b h) = omega arith
   plan-number number line (Plan.PlanFaulty.behind lead cycle names after a b h) = omega arith
 

@@ -13,7 +13,7 @@ use Rattle.frame.specs.Phase.{Phase, refused, passed}
 use Rattle.parser.specs.Parse as S
 use Rattle.tuple.specs.Step.{Tuple}
 use Rattle.numbering.specs.Explore.{found}
-use Rattle.plan.specs.Plan.{mostPlan}
+use Rattle.plan_lines.specs.PlanLines.{mostPlan}
 use Rattle.passes.specs.Letter.{letterAt}
 use Rattle.plan.specs.Parse.{planOf}
 use Rattle.plan.specs.Parse as P

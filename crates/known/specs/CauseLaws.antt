@@ -18,7 +18,8 @@ use Rattle.tracker.specs.declared.Built.{Built}
 use Rattle.tracker.specs.declared.Built.the-variants as B
 use Rattle.numbering.specs.Numbering.{Numbering, MoreThan}
 use Rattle.filling.specs.TrackerTables.{TrackerTables, Holds, Fitted}
-use Rattle.tracker.specs.Build.{BuildTables, EnoughToBuild, Builds}
+use Rattle.tracker.specs.Build.{BuildTables, EnoughToBuild}
+use Rattle.file_tracker.specs.FileBuild.{Builds}
 use Rattle.passes.specs.Letter.{letterAt}
 use Rattle.plan.specs.Plan.{PlanIs}
 use Rattle.plan.specs.Plan as Plan

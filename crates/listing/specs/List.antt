@@ -1,4 +1,4 @@
--- What listing a tracker answers, and what the lent tables hold then: what building asks, and last of all whether the buffer is long enough.
+-- What listing a tracker from numbers answers, and what the lent tables hold then: what building asks, and last of all whether the buffer is long enough.
 use Prim.Native.Nat.{ℕ}
 use mathlib.Core.Path.{_≡_}
 use mathlib.Core.List.{List}
@@ -6,27 +6,20 @@ use Rattle.gate.specs.Gate.{refusal, cleared, Put}
 use Rattle.gate.specs.declared.Refusal.{Refusal}
 use Rattle.automaton.specs.Automaton.{Automaton}
 use Rattle.filling.specs.TrackerTables.{TrackerTables}
-use Rattle.tracker.specs.Build.{BuildNumbersTables, BuildTables, clearedBuildNumbers, clearedBuild, EnoughToBuild, EnoughToBuildNumbers, BuildsNumbers, Builds}
+use Rattle.tracker.specs.Build.{BuildNumbersTables, clearedBuildNumbers, EnoughToBuildNumbers, BuildsNumbers}
 use Rattle.tracker.specs.declared.Tracker.{Tracker}
 use Rattle.tracker.specs.declared.Built.the-variants.{Refused as BuildRefused, Is}
 use Rattle.gate.specs.declared.Written.{Written}
 use Rattle.gate.specs.declared.Written.the-variants.{Refused, Bytes}
 use Rattle.listing_text.specs.Listing.{listing}
 
--- THE LENT TABLES of listing from numbers, and those of listing from a sheet file: those of building, and the buffer
+-- THE LENT TABLES of listing from numbers: those of building, and the buffer
 pub record ListNumbersTables : Type 0 where
   pub build : BuildNumbersTables
   pub output : List ℕ
 
 abbrev pub listNumbersTables : BuildNumbersTables → List ℕ → ListNumbersTables
 listNumbersTables build output = record { build = build; output = output }
-
-pub record ListTables : Type 0 where
-  pub build : BuildTables
-  pub output : List ℕ
-
-abbrev pub listTables : BuildTables → List ℕ → ListTables
-listTables build output = record { build = build; output = output }
 
 -- the listing of a tracker in its tables
 abbrev pub listingOf : Tracker → TrackerTables → List ℕ
@@ -48,15 +41,3 @@ pub data ListsNumbers (A : Automaton) (room : ℕ) (before after : ListNumbersTa
   asked : (built : BuildNumbersTables) (x : Tracker) → BuildsNumbers A room (before .build) built (Is x)
       → Put (listingOf x (built .tracker)) (before .output) (after .output) l → Left (clearedBuildNumbers (before .build)) built (after .build) l
       → ListsNumbers A room before after l
-
--- LISTING FROM A SHEET FILE s
-pub data Lists (s : List ℕ) (room : ℕ) (before after : ListTables) (l : Written) : Type 0 where
-  -- 1, asked first: nothing is touched
-  short : (EnoughToBuild room (before .build) → ⊥) → l ≡ Refused (refusal 1 0) → after ≡ before → Lists s room before after l
-  -- 2 to 11, as building refuses
-  refused : EnoughToBuild room (before .build) → (r : Refusal) → Builds s room (before .build) (after .build) (BuildRefused r) → l ≡ Refused r
-      → after .output ≡ cleared (before .output) → Lists s room before after l
-  -- 1, asked last, or the listing of the tracker that was built
-  asked : (built : BuildTables) (x : Tracker) → Builds s room (before .build) built (Is x)
-      → Put (listingOf x (built .tracker)) (before .output) (after .output) l → Left (clearedBuild (before .build)) built (after .build) l
-      → Lists s room before after l

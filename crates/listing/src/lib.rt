@@ -1,4 +1,4 @@
-// The listing of a tracker.
+// The listing of a tracker from numbers.
 use automaton::Numbers;
 use gate::Refusal;
 use gate::Written;
@@ -6,14 +6,14 @@ use tracker::Built;
 ghost use Rattle.automaton.specs.Automaton.{automaton};
 ghost use Rattle.automaton.specs.Lent.{witnessTables};
 ghost use Rattle.filling.specs.TrackerTables.{trackerTables};
-ghost use Rattle.tracker.specs.Build.{buildNumbersTables, buildTables};
+ghost use Rattle.tracker.specs.Build.{buildNumbersTables};
 ghost use Rattle.listing_text.specs.Listing.{listing};
-ghost use Rattle.listing.specs.List.{listNumbersTables, listTables, ListsNumbers, Lists};
+ghost use Rattle.listing.specs.List.{listNumbersTables, ListsNumbers};
 ghost use Rattle.listing_text.specs.Put.{Sized};
 ghost use Rattle.listing.specs.Finish.{Finishes};
 
 // The last question, whether the buffer is long enough, and the listing with zeros behind it.
-fn finish(
+pub fn finish(
     n: usize,
     k: usize,
     count: usize,
@@ -61,35 +61,5 @@ pub fn list_numbers(
     match tracker::build_numbers(a, table, room, tuples, nexts, word, one, other) {
         Built::Refused(r) => gate::refuse(r, out),
         Built::Is(x) => finish(x.numbers.n, x.numbers.k, x.tuples, tuples, nexts, out),
-    }
-}
-
-// The listing of the tracker of a sheet file.
-pub fn list(
-    sheet: &[u8],
-    room: usize,
-    table: &mut [u16],
-    tuples: &mut [u16],
-    nexts: &mut [u16],
-    word: &mut [u16],
-    one: &mut [u16],
-    other: &mut [u16],
-    out: &mut [u8],
-) -> Written
-    ensures { λ r. ⌜ Lists (now (sheet .entry)) room
-        (listTables (buildTables (now (table .entry)) (witnessTables (now (word .entry)) (now (one .entry)) (now (other .entry)))
-        (trackerTables (now (tuples .entry)) (now (nexts .entry)))) (now (out .entry)))
-        (listTables (buildTables (now (table .exit)) (witnessTables (now (word .exit)) (now (one .exit)) (now (other .exit)))
-        (trackerTables (now (tuples .exit)) (now (nexts .exit)))) (now (out .exit))) r ⌝ }
-{
-    match tracker::build(sheet, room, table, tuples, nexts, word, one, other) {
-        Built::Refused(r) => gate::refuse(r, out),
-        Built::Is(x) => {
-            let listed = finish(x.numbers.n, x.numbers.k, x.tuples, tuples, nexts, out);
-            if let Written::Refused(_) = listed {
-                gate::clear(table);
-            }
-            listed
-        }
     }
 }

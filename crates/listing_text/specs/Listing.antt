@@ -3,7 +3,7 @@ use Prim.Native.Nat.{ℕ, _+_, _*_}
 use mathlib.Core.List.{List, [], _∷_, _++_}
 use lib.ListN.{getD}
 use Rattle.text.specs.Bytes.{lf, endLine}
-use Rattle.text.specs.Column.{column}
+use Rattle.columns.specs.Column.{column}
 use Rattle.text.specs.Pieces.{pieces}
 
 -- the first `count` numbers of a sequence in columns, w wide

@@ -12,8 +12,8 @@ use Rattle.filling.specs.TrackerTables.{TrackerTables, EnoughForTracker, Fitted
 use Rattle.filling.specs.FittedLaws.{tuple, fitted-formed, fitted-set, fitted-colour, fitted-behind, fitted-next, fitted-room}
 use Rattle.text.specs.Bytes.{lf, endLine}
 use Rattle.lists.specs.AppendLaws.{append-same}
-use Rattle.text.specs.Column.{column}
-use Rattle.text.specs.ColumnLaws.{column-length, column-injective}
+use Rattle.columns.specs.Column.{column}
+use Rattle.columns.specs.ColumnLaws.{column-length, column-injective}
 use Rattle.text.specs.PiecesLaws.{pieces-same}
 use Rattle.listing_text.specs.Listing.{columns, trackLine, tupleLine, tupleLines, listing}
 use Rattle.listing_text.specs.Put.{cellsFrom, ListingLimits}

@@ -7,8 +7,8 @@ use native.Mathlib.Omega.{arith}
 use lib.ListN.{length, getD, length-append}
 use lib.Seq.{sets}
 use Rattle.text.specs.Bytes.{lf, endLine}
-use Rattle.text.specs.Column.{column}
-use Rattle.text.specs.ColumnLaws.{column-length}
+use Rattle.columns.specs.Column.{column}
+use Rattle.columns.specs.ColumnLaws.{column-length}
 use Rattle.lists.specs.StoreLaws.{sets-part}
 use Rattle.text.specs.PiecesLaws.{pieces-length}
 use Rattle.listing_text.specs.Listing.{columns, trackLine, tupleLine, tupleLines, listing}

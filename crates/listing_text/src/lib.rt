@@ -23,7 +23,7 @@ fn put_cells(out: &mut [u8], at: usize, w: usize, table: &[u16], from: usize, co
     let mut p = at;
     let mut i: usize = 0;
     while i < count {
-        text::put_column(out, p, w, table[from + i] as usize);
+        columns::put_column(out, p, w, table[from + i] as usize);
         p += w;
         i += 1;
     }
@@ -36,8 +36,8 @@ fn put_tuple(out: &mut [u8], at: usize, n: usize, k: usize, tuples: &[u16], next
 {
     let next = at + 9 + 6 * n;
     text::put_bytes(out, at, b"Q");
-    text::put_column(out, at + 1, 5, t);
-    text::put_column(out, at + 6, 3, tuples[rows::CELLS * t + 16] as usize);
+    columns::put_column(out, at + 1, 5, t);
+    columns::put_column(out, at + 6, 3, tuples[rows::CELLS * t + 16] as usize);
     put_cells(out, at + 9, 6, tuples, rows::CELLS * t, n);
     put_cells(out, next, 5, nexts, 8 * t, k);
     text::put_bytes(out, next + 5 * k, b"\n");
@@ -72,9 +72,9 @@ fn put_first(out: &mut [u8], n: usize, k: usize, count: usize)
     ensures { λ _. ⌜ now (out .exit) ≡ sets (now (out .entry)) 0 (trackLine n k count) ⌝ }
 {
     text::put_bytes(out, 0, b"TRACK");
-    text::put_column(out, 5, 3, n);
-    text::put_column(out, 8, 3, k);
-    text::put_column(out, 11, 5, count);
+    columns::put_column(out, 5, 3, n);
+    columns::put_column(out, 8, 3, k);
+    columns::put_column(out, 11, 5, count);
     text::put_bytes(out, 16, b"\n");
 }
 

@@ -1,12 +1,6 @@
 pub mod Name
 pub mod Scan
-pub mod Row
-pub mod Rows
 pub mod PartLaws
-pub mod ComposeLaws
 pub mod NameLaws
 pub mod ScanLaws
-pub mod RowLaws
-pub mod RowsLaws
-pub mod LetterLaws
 pub mod Unfold

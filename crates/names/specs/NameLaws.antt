@@ -11,7 +11,22 @@ use Rattle.text.specs.Word.{without}
 use Rattle.names.specs.Name.{isVowel, isDecomposed, umlautOf, Part, RightPart, RightParts, partBytes, nameBytes, IsName, composedPart, compose}
 use Rattle.names.specs.Name.Part.{plain, composed, decomposed}
 use Rattle.names.specs.PartLaws.{no-vowel, umlaut-range, umlaut-of, composed-right, NoMark, no-mark-end, no-decomposed, parts-unique, parts-without}
-use Rattle.names.specs.ComposeLaws.{diaeresis, compose-keep, compose-vowel}
+
+-- COMPOSING, one step
+
+-- a vowel, and CC 88 at the start of the list behind it
+abbrev pub diaeresis : ℕ → List ℕ → Bool
+diaeresis a x = isDecomposed a (getD x 0 0) (getD x 1 0)
+
+pub compose-keep : (a : ℕ) (x : List ℕ) → diaeresis a x ≡ false → compose (a ∷ x) ≡ a ∷ compose x
+unfolding compose
+compose-keep a [] h = refl
+compose-keep a (b ∷ []) h = refl
+compose-keep a (b ∷ c ∷ x) h = simp h
+
+pub compose-vowel : (a : ℕ) (x : List ℕ) → isVowel a ≡ true → compose (a ∷ 0xCC ∷ 0x88 ∷ x) ≡ 0xC3 ∷ umlautOf a ∷ compose x
+unfolding compose
+compose-vowel a x h = simp h
 
 -- COMPOSING PART BY PART
 compose-part : (p : Part) (x : List ℕ) → RightPart p → NoMark x → compose (partBytes p ++ x) ≡ partBytes (composedPart p) ++ compose x

@@ -12,7 +12,7 @@ use native.Mathlib.Numerals.{add-one}
 use native.Mathlib.Omega.{arith}
 use Rattle.lists.specs.Choice.{choose}
 use Rattle.lists.specs.ChoiceLaws.{true-or-false}
-use Rattle.text.specs.Number.{isBetween}
+use Rattle.columns.specs.Number.{isBetween}
 use Rattle.text.specs.Word.{without}
 use Rattle.names.specs.Name.{oneOf, isUmlaut, isVowel, isDecomposed, umlautOf, Part, RightPart, RightParts, partBytes, nameBytes, composedPart}
 use Rattle.names.specs.Name.Part.{plain, composed, decomposed}

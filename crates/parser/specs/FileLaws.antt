@@ -8,20 +8,23 @@ use lib.Seq.{take-at, drop-at}
 use Rattle.gate.specs.Gate.{cleared}
 use Rattle.gate.specs.GateLaws.{cleared-twice}
 use Rattle.gate.specs.declared.Refusal.{Refusal}
-use Rattle.parser.specs.Parse.{Named, Contents, contents, headOf, afterHead, parse}
+use Rattle.name_lines.specs.NameLines.{Named, NamesRead}
+use Rattle.parser.specs.Parse.{Contents, contents, headOf, afterHead, parse}
 use Rattle.frame.specs.Phase.{Phase, refused, passed, andThen}
 use Rattle.format.specs.Format.{mostSheet}
 use borrow.Author.Tests.{lt-ltb, le-ltb}
-use Rattle.parser.specs.PhaseAnswers.{statesAnswer, FillsTable, NamesRead, NumbersRead, FileRead}
-use Rattle.names.specs.Rows.{HoldNames}
+use Rattle.graph_lines.specs.StateLines.{statesAnswer}
+use Rattle.graph_lines.specs.TransitionLines.{FillsTable}
+use Rattle.parser.specs.PhaseAnswers.{NumbersRead, FileRead}
+use Rattle.name_rows.specs.Rows.{HoldNames}
 use Rattle.automaton.specs.Graph.{InRange}
 use Rattle.frame.specs.declared.Position.{Position}
 use Rattle.parser.specs.declared.File.{File}
-use Rattle.parser.specs.declared.Names.the-variants as N
+use Rattle.name_lines.specs.declared.Names.the-variants as N
 use Rattle.parser.specs.declared.Sizes.{Sizes}
-use Rattle.parser.specs.declared.Sets.{Sets}
+use Rattle.graph_lines.specs.declared.Sets.{Sets}
 use Rattle.parser.specs.declared.File.the-variants as F
-use Rattle.parser.specs.declared.States.the-variants as Q
+use Rattle.graph_lines.specs.declared.States.the-variants as Q
 use Rattle.frame.specs.declared.End.the-variants as E
 
 -- A TABLE OF ZEROS: the 128 sets, and the rest

@@ -1,12 +1,10 @@
 pub mod Parse
 pub mod PhaseAnswers
 pub mod HeadLaws
-pub mod NameLaws
-pub mod StateLaws
-pub mod TransitionLaws
 pub mod ParseLaws
 pub mod CompleteLaws
 pub mod UniqueLaws
-pub mod StepLaws
 pub mod FileLaws
+pub mod LettersOf
+pub mod LettersOfLaws
 pub mod Unfold

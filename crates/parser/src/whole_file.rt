@@ -5,16 +5,12 @@ ghost use lib.ListN.{length};
 ghost use Rattle.gate.specs.Gate.{cleared};
 ghost use Rattle.automaton.specs.Graph.{InRange};
 ghost use Rattle.format.specs.Format.{mostSheet};
-ghost use Rattle.parser.specs.Parse.{Named, parse, afterNames};
+ghost use Rattle.name_lines.specs.NameLines.{Named};
+ghost use Rattle.parser.specs.Parse.{parse, afterNames};
 ghost use Rattle.parser.specs.PhaseAnswers.{NumbersRead, FileRead};
 use super::File;
 use super::MOST;
-use super::Names;
 use super::Sizes;
-use super::States;
-use super::name_lines::read_names;
-use super::state_lines::read_states;
-use super::transition_lines::read_transitions;
 use automaton::Numbers;
 use frame::Bounds;
 use frame::End;
@@ -22,6 +18,11 @@ use frame::First;
 use frame::Position;
 use frame::first_line;
 use gate::Refusal;
+use graph_lines::States;
+use graph_lines::state_lines::read_states;
+use graph_lines::transition_lines::read_transitions;
+use name_lines::Names;
+use name_lines::read_names;
 
 // The state lines and what follows, behind the name lines. A refusal leaves the table all zero.
 fn read_numbers(s: &[u8], z: Sizes, place: Position, table: &mut [u16]) -> File

@@ -7,16 +7,18 @@ use lib.ListN.{length, take, drop, length-append}
 use lib.Seq.{take-append-seam, drop-append-seam}
 use native.Mathlib.Omega.{arith}
 use Rattle.text.specs.BytesLaws.{stretch-rest}
-use Rattle.text.specs.LineLaws.{numbersLine-length}
+use Rattle.columns.specs.LineLaws.{numbersLine-length}
 use Rattle.names.specs.Name.{compose}
 use Rattle.format.specs.Format.{Sheet, NamesRight, endLine}
 use Rattle.frame.specs.Phase.{refused, passed, andThen}
 use Rattle.frame.specs.EndLaws.{end-missing, end-behind, end-read}
-use Rattle.plan.specs.Plan.{planWord, planHead, planLines, PlanIs, PlanAbove, PlanNameFault, PlanFaulty}
-use Rattle.plan.specs.Parse.{lengths, lettered, lettersAt, endOf, planContents, afterPlanHead, planOf}
+use Rattle.plan.specs.Plan.{planWord, planHead, PlanIs, PlanAbove, PlanFaulty}
+use Rattle.plan_lines.specs.PlanLines.{planLines, PlanNameFault}
+use Rattle.plan.specs.Parse.{lengths, endOf, planContents, afterPlanHead, planOf}
+use Rattle.plan_lines.specs.LetterLines.{lettered, lettersAt}
 use Rattle.plan.specs.HeadLaws.{plan-head-right, plan-head-range, plan-head-form}
-use Rattle.plan.specs.LineLaws.{letters-fault, letters-along}
-use Rattle.plan.specs.KnownLaws.{known-length}
+use Rattle.plan_lines.specs.LineLaws.{letters-fault, letters-along}
+use Rattle.plan_lines.specs.KnownLaws.{known-length}
 
 head-length : (lead cycle : ℕ) → length (planHead lead cycle) ≡ 11
 unfolding planHead

@@ -3,10 +3,8 @@ pub mod Parse
 pub mod Answers
 pub mod Read
 pub mod HeadLaws
-pub mod KnownLaws
-pub mod LineLaws
 pub mod ParseLaws
 pub mod CompleteLaws
 pub mod ReadLaws
-pub mod StepLaws
+pub mod FileLaws
 pub mod Unfold

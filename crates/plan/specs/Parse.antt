@@ -1,22 +1,13 @@
 -- A plan file read from the top, line by line: questions 12 to 14 in the order in which a reader asks them. The sheet's names are given
 -- composed. That this is what Plan describes is a theorem. A byte past the end is 0, and 0 stands in no line.
-use Prim.Native.Nat.{ℕ, zero, suc, _+_}
-use mathlib.Core.List.{List, [], _∷_, _++_}
-use lib.ListN.{length}
-use lib.Dec.{ltb}
-use Rattle.lists.specs.Choice.{choose}
-use Rattle.text.specs.Bytes.{stretch}
-use Rattle.names.specs.Name.{compose}
-use Rattle.names.specs.Scan.{nameEndAt}
-use Rattle.text.specs.Pair.{wordAndPair}
+use Prim.Native.Nat.{ℕ, _+_}
+use mathlib.Core.List.{List, []}
+use Rattle.columns.specs.Pair.{wordAndPair}
 use Rattle.frame.specs.declared.Bounds.{Bounds}
-use Rattle.frame.specs.Phase.{Phase, refused, passed, andThen, firstPhase, endAt}
-use Rattle.names.specs.Scan.{withEnding}
-use Rattle.names.specs.Rows.{letterOf}
+use Rattle.frame.specs.Phase.{Phase, passed, andThen, firstPhase, endAt}
 use Rattle.plan.specs.declared.PlanLengths.{PlanLengths}
-use Rattle.plan.specs.declared.LetterLine.{LetterLine}
-use Rattle.plan.specs.declared.LetterLine.the-variants as L
 use Rattle.plan.specs.Plan.{planWord}
+use Rattle.plan_lines.specs.LetterLines.{Lettered, lettersAt}
 
 -- how many letters lead-in and cycle have
 abbrev pub lengths : ℕ → ℕ → PlanLengths
@@ -31,40 +22,6 @@ planBounds = record { least = 0; most = 200; low = 1; high = 200 }
 -- "Is each plan line of its form? No: 12.": PLAN, lead-in length, cycle length, LF. "Are both lengths in range? No: 13."
 unfoldable pub planHeadOf : List ℕ → Phase PlanLengths
 planHeadOf p = firstPhase (wordAndPair p planWord) planBounds lengths 12 13
-
--- THE NAME LINES
-
--- what they give: the letters that the names stand for, and the next line's position and number
-pub record Lettered : Type 0 where
-  pub letters : List ℕ
-  pub at : ℕ
-  pub line : ℕ
-
--- letters, and where the next line stands
-abbrev pub lettered : List ℕ → ℕ → ℕ → Lettered
-lettered letters at line = record { letters = letters; at = at; line = line }
-
--- the letter of the name from `at` to e; the count of letters where it is no letter's name
-abbrev pub letterFrom : List (List ℕ) → List ℕ → ℕ → ℕ → ℕ
-letterFrom names p at e = letterOf names (compose (stretch p at e))
-
--- a line with a name: its letter, and where its LF stands
--- "Is each plan line of its form? No: 12. .. Is each name known? No: 14."
-unfoldable pub letterLineAt : List (List ℕ) → List ℕ → ℕ → LetterLine
-letterLineAt names p at =
-    withEnding (nameEndAt p at) (λ e. choose (ltb (letterFrom names p at e) (length names)) (L.Is (letterFrom names p at e) e) L.Unknown) L.Bad
-
--- what to do with a letter that was read, with an unknown name, and where there is no name
-abbrev pub withLetter : {A : Type 0} → LetterLine → (ℕ → ℕ → A) → A → A → A
-withLetter (L.Is l e) go unknown bad = go l e
-withLetter L.Unknown go unknown bad = unknown
-withLetter L.Bad go unknown bad = bad
-
--- `todo` name lines, the first of which is line `line` and stands at `at`, after those of `letters`
-unfoldable pub lettersAt : List (List ℕ) → List ℕ → ℕ → ℕ → List ℕ → ℕ → Phase Lettered
-lettersAt names p line at letters zero = passed (lettered letters at line)
-lettersAt names p line at letters (suc todo) =
-    withLetter (letterLineAt names p at) (λ l e. lettersAt names p (line + 1) (e + 1) (letters ++ (l ∷ [])) todo) (refused 14 line) (refused 12 line)
 
 -- THE END
 

@@ -9,11 +9,13 @@ use Rattle.format.specs.Format.{Sheet, endLine}
 use Rattle.frame.specs.Phase.{Phase, refused, passed, andThen}
 use Rattle.frame.specs.EndLaws.{end-outcome}
 use Rattle.plan.specs.declared.PlanLengths.{PlanLengths}
-use Rattle.plan.specs.Plan.{planHead, planLines, mostPlan, LengthsRight, Known, PlanIs, PlanAbove, PlanFaulty}
-use Rattle.plan.specs.Parse.{Lettered, lettersAt, endOf, PlanContents, planContents, planHeadOf, afterPlanHead, planOf}
+use Rattle.plan.specs.Plan.{planHead, LengthsRight, PlanIs, PlanAbove, PlanFaulty}
+use Rattle.plan_lines.specs.PlanLines.{planLines, mostPlan, Known}
+use Rattle.plan_lines.specs.LetterLines.{Lettered, lettersAt}
+use Rattle.plan.specs.Parse.{endOf, PlanContents, planContents, planHeadOf, afterPlanHead, planOf}
 use Rattle.plan.specs.HeadLaws.{PlanHeadOutcome, plan-head-outcome}
-use Rattle.plan.specs.KnownLaws.{known-length}
-use Rattle.plan.specs.LineLaws.{LettersOutcome, LettersRefused, LettersPassed, letters-outcome}
+use Rattle.plan_lines.specs.KnownLaws.{known-length}
+use Rattle.plan_lines.specs.LineLaws.{LettersOutcome, LettersRefused, LettersPassed, letters-outcome}
 
 -- WHAT READING GIVES: the lead-in's letters, then the cycle's
 abbrev pub leadOf : PlanContents → List ℕ

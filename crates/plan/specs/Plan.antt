@@ -3,11 +3,9 @@ use Prim.Native.Nat.{ℕ, _+_, _≤_, _<_}
 use mathlib.Core.Path.{_≡_}
 use mathlib.Core.List.{List, [], _∷_, _++_}
 use lib.ListN.{length}
-use Rattle.text.specs.Bytes.{lf}
-use Rattle.text.specs.Line.{numbersLine}
-use Rattle.names.specs.Name.{IsName}
+use Rattle.columns.specs.Line.{numbersLine}
 use Rattle.format.specs.Format.{Sheet, endLine}
-use Rattle.sheet.specs.Letters.{StandsFor}
+use Rattle.plan_lines.specs.PlanLines.{planLines, mostPlan, Known, PlanNameFault}
 
 -- THE LINES
 
@@ -18,27 +16,13 @@ planWord = 80 ∷ 76 ∷ 65 ∷ 78 ∷ []
 unfoldable pub planHead : ℕ → ℕ → List ℕ
 planHead lead cycle = numbersLine planWord (lead ∷ cycle ∷ [])
 
--- "one name a line, lead-in first"
-unfoldable pub planLines : List (List ℕ) → List ℕ
-planLines [] = []
-planLines (x ∷ xs) = x ++ (lf ∷ planLines xs)
-
 -- THE QUESTIONS
-
--- "Is .. the plan at most 12,288? No: 2."
-abbrev pub mostPlan : ℕ
-mostPlan = 12288
 
 -- "a lead-in of 0 to 200 letters and a cycle of 1 to 200": "Are both lengths in range? No: 13."
 pub record LengthsRight (lead cycle : ℕ) : Type 0 where
   pub lead-most : lead ≤ 200
   pub cycle-some : 1 ≤ cycle
   pub cycle-most : cycle ≤ 200
-
--- "Is each name known? No: 14.": names, each with the letter that it stands for
-pub data Known (σ : Sheet) : List (List ℕ) → List ℕ → Type 0 where
-  none : Known σ [] []
-  more : {x : List ℕ} {l : ℕ} {xs : List (List ℕ)} {ls : List ℕ} → StandsFor σ x l → Known σ xs ls → Known σ (x ∷ xs) (l ∷ ls)
 
 -- A PLAN FILE over the sheet σ: its lead-in and its cycle, as letters
 pub record PlanIs (σ : Sheet) (p : List ℕ) (lead cycle : List ℕ) : Type 0 where
@@ -54,13 +38,6 @@ pub record PlanAbove (σ : Sheet) (p : List ℕ) (lead cycle : ℕ) (names : Lis
   pub letters : List ℕ
   pub known : Known σ names letters
   pub text : p ≡ planHead lead cycle ++ (planLines names ++ rest)
-
--- the faults where a name is due; the rest of the file starts there
-pub data PlanNameFault (σ : Sheet) (rest : List ℕ) : ℕ → Type 0 where
-  -- "Is each plan line of its form? No: 12."
-  wrong-name : ((x after : List ℕ) → IsName x → rest ≡ x ++ (lf ∷ after) → ⊥) → PlanNameFault σ rest 12
-  -- "Is each name known? No: 14."
-  unknown-name : (x after : List ℕ) → IsName x → rest ≡ x ++ (lf ∷ after) → ((l : ℕ) → StandsFor σ x l → ⊥) → PlanNameFault σ rest 14
 
 -- THE FAULT of a file: its number and its line
 pub data PlanFaulty (σ : Sheet) (p : List ℕ) : ℕ → ℕ → Type 0 where

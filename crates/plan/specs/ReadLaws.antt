@@ -9,7 +9,7 @@ use Rattle.format.specs.Format.{Sheet}
 use Rattle.frame.specs.Phase.{Phase, refused, passed}
 use Rattle.plan.specs.declared.Planned.{Planned}
 use Rattle.plan.specs.declared.Planned.the-variants.{Refused, Is}
-use Rattle.plan.specs.Plan.{mostPlan}
+use Rattle.plan_lines.specs.PlanLines.{mostPlan}
 use Rattle.plan.specs.Parse.{PlanContents, lengths, planOf}
 use Rattle.plan.specs.Answers.{PlanRead}
 use Rattle.plan.specs.Read.{ReadsPlan}

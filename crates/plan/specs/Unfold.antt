@@ -1,8 +1,9 @@
 -- All definitions of this crate and of those below it that unfold, for laws that hold by computation.
 use Rattle.parser.specs.Unfold.{parser·unfold}
+use Rattle.plan_lines.specs.Unfold.{plan_lines·unfold}
 use Rattle.plan.specs.Parse
 use Rattle.plan.specs.Plan
 
 unfoldable pub plan·unfold : Unit {0}
-unfolding parser·unfold Parse.planHeadOf Parse.letterLineAt Parse.lettersAt Parse.endOf Parse.planOf Plan.planHead Plan.planLines
+unfolding parser·unfold plan_lines·unfold Parse.planHeadOf Parse.endOf Parse.planOf Plan.planHead
 plan·unfold = tt

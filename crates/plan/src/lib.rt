@@ -1,8 +1,6 @@
 // The plan file, read into letters.
-mod name_lines;
 pub mod whole_file;
 
-use frame::Position;
 use gate::Refusal;
 
 // The most bytes that a plan may have.
@@ -18,20 +16,4 @@ pub struct PlanLengths {
 pub enum Planned {
     Refused(Refusal),
     Is(PlanLengths),
-}
-
-// A line with a name.
-pub enum LetterLine {
-    // The letter that it stands for, and the position of its LF.
-    Is(usize, usize),
-    // It is no letter's name.
-    Unknown,
-    // It is no name.
-    Bad,
-}
-
-// The answer of the name lines: a refusal, or the next line.
-pub enum Letters {
-    Refused(Refusal),
-    Are(Position),
 }

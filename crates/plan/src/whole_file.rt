@@ -1,21 +1,21 @@
 // A whole plan file: questions 12 to 14.
 ghost use Prim.Native.Nat.{_≤_};
 ghost use lib.ListN.{length};
-ghost use Rattle.names.specs.Rows.{OnlyRow};
+ghost use Rattle.name_rows.specs.Rows.{OnlyRow};
 ghost use Rattle.format.specs.Format.{Sheet};
-ghost use Rattle.plan.specs.Plan.{mostPlan};
+ghost use Rattle.plan_lines.specs.PlanLines.{mostPlan};
 ghost use Rattle.plan.specs.Answers.{LengthsFit};
-ghost use Rattle.sheet.specs.Answers.{NamesIn};
+ghost use Rattle.parser.specs.LettersOf.{NamesIn};
 ghost use Rattle.plan.specs.Read.{ReadsPlan};
-use super::Letters;
 use super::PlanLengths;
 use super::Planned;
-use super::name_lines::read_letters;
 use frame::Bounds;
 use frame::End;
 use frame::First;
 use frame::end_line;
 use frame::first_line;
+use plan_lines::Letters;
+use plan_lines::read_letters;
 
 // The plan, over the letters whose composed names the first k rows hold: they hold them still. Only row k is written, whatever the rows
 // hold. A refusal leaves the letters all zero.

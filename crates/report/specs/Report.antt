@@ -4,7 +4,7 @@ use mathlib.Core.Bool.{Bool, true, false}
 use mathlib.Core.List.{List, [], _∷_, _++_}
 use Rattle.gate.specs.declared.Refusal.{Refusal}
 use Rattle.text.specs.Bytes.{lf}
-use Rattle.text.specs.Column.{column}
+use Rattle.columns.specs.Column.{column}
 
 -- a word of three letters, a number in 3 columns and one in 5
 unfoldable pub reportLine : List ℕ → ℕ → ℕ → List ℕ

@@ -7,8 +7,8 @@ use native.Mathlib.Omega.{arith}
 use lib.ListN.{length, length-append}
 use lib.Seq.{sets}
 use Rattle.text.specs.Bytes.{lf}
-use Rattle.text.specs.Column.{column}
-use Rattle.text.specs.ColumnLaws.{column-length}
+use Rattle.columns.specs.Column.{column}
+use Rattle.columns.specs.ColumnLaws.{column-length}
 use Rattle.lists.specs.StoreLaws.{sets-part, sets-over}
 use Rattle.report.specs.Report.{reportLine, refusalLine, verdictLine}
 

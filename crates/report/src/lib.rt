@@ -14,8 +14,8 @@ fn line(word: &[u8], a: usize, b: usize) -> [u8; 12]
 {
     let mut out = [0u8; 12];
     text::put_bytes(&mut out, 0, word);
-    text::put_column(&mut out, 3, 3, a);
-    text::put_column(&mut out, 6, 5, b);
+    columns::put_column(&mut out, 3, 3, a);
+    columns::put_column(&mut out, 6, 5, b);
     out[11] = 10;
     out
 }

@@ -1,8 +1,8 @@
 -- What `rewrite` prints: one line for an input that is too long, each number of a witness whole, and the ends of the call. Assumes nothing.
-use Prim.Native.Nat.{ℕ, _+_, _^_, _≤_, _<_}
+use Prim.Native.Nat.{ℕ, _+_, _≤_, _<_}
 use mathlib.Core.Path.{_≡_, refl, ap, ap₂, subst, _∙_}
-use mathlib.Core.Logic.{_⊎_, inl, inr, _↔_}
-use mathlib.Core.List.{List, _∷_}
+use mathlib.Core.Logic.{_↔_}
+use mathlib.Core.List.{List}
 use native.Mathlib.Nat.{zero-add}
 use native.Mathlib.Omega.{arith}
 use lib.ListN.{length, getD, take}
@@ -10,10 +10,6 @@ use Rattle.gate.specs.Gate.{refusal, cleared}
 use Rattle.gate.specs.GateLaws.{length-cleared}
 use Rattle.gate.specs.declared.Refusal.{Refusal}
 use Rattle.gate.specs.declared.Written.the-variants.{Refused, Bytes}
-use Rattle.lists.specs.ChoiceLaws.{lt-or-ge}
-use Rattle.text.specs.Bytes.{space}
-use Rattle.text.specs.Column.{column}
-use Rattle.text.specs.ColumnLaws.{column-injective}
 use Rattle.automaton.specs.Automaton.{graphOf}
 use Rattle.automaton.specs.QuestionLaws.{fits-graph}
 use Rattle.automaton.specs.EdgeLaws.{edge-letter, walk-in}
@@ -25,15 +21,17 @@ use Rattle.format.specs.Numbers.{numbers}
 use Rattle.format.specs.NumbersLaws.{sheet-fits}
 use Rattle.parser.specs.UniqueLaws.{fault-unique, file-or-fault}
 use Rattle.sheet.specs.Read.{Refuses}
-use Rattle.writer.specs.Same.{writing}
-use Rattle.writer.specs.RoundTrip.{writing-most}
-use Rattle.writer.specs.Write.{WriteTables, Writes}
+use Rattle.writer.specs.Writing.{writing}
+use Rattle.file_writer.specs.FileRoundTrip.{writing-most}
+use Rattle.writer.specs.Write.{WriteTables}
+use Rattle.file_writer.specs.FileWrite.{Writes}
 use Rattle.report.specs.Report.{refusalLine}
 use Rattle.report.specs.Output.{Prints, TooLong}
 use Rattle.report.specs.OutputLaws.{zero-again, front-lent, same-lent, enough}
-use Rattle.rewrite_output.specs.Rewrite.{longestRewrite, spaced, RewriteOutput}
-use Rattle.rewrite_output.specs.Put.{refusalText, WrittenAt}
-use Rattle.rewrite_output.specs.PutLaws.{spaced-one, spaced-two, spaced-length, text-other, text-ten, refusal-most}
+use Rattle.witness_text.specs.Put.{WrittenAt}
+use Rattle.rewrite_output.specs.Rewrite.{longestRewrite, RewriteOutput}
+use Rattle.rewrite_output.specs.Put.{refusalText}
+use Rattle.rewrite_output.specs.PutLaws.{text-other, text-ten, refusal-most}
 
 -- TOO LONG: "Is the sheet at most 24,576 bytes ..? No: 2", and nothing else is printed
 pub too-long-rewrite : TooLong RewriteOutput mostSheet (refusalLine 2 0)
@@ -70,19 +68,6 @@ witness-shown s σ file {after = after} {r} m =
       one = λ i h. omega (arith, walk-in (graphOf (numbers σ)) fits word t (cells (after .one)) (meet .one) i h);
       other = λ i h. omega (arith, walk-in (graphOf (numbers σ)) fits word t (cells (after .other)) (meet .other) i h);
     }
-
--- a space and a number of one digit or two tell the number
-pub spaced-injective : (u v : ℕ) → u < 100 → v < 100 → spaced u ≡ spaced v → u ≡ v
-spaced-injective u v hu hv e = by (lt-or-ge u 10) (lt-or-ge v 10)
-  where
-    same : (w : ℕ) → u < 10 ^ w → v < 10 ^ w → spaced u ≡ space ∷ column w u → spaced v ≡ space ∷ column w v → u ≡ v
-    same w p q a b = let c : column w u ≡ column w v = cc in column-injective w u v p q c
-
-    by : (u < 10) ⊎ (10 ≤ u) → (v < 10) ⊎ (10 ≤ v) → u ≡ v
-    by (inl p) (inl q) = same 1 p q (spaced-one p) (spaced-one q)
-    by (inr p) (inr q) = same 2 hu hv (spaced-two p) (spaced-two q)
-    by (inl p) (inr q) = absurd (omega (arith, spaced-length u 1 (spaced-one p), spaced-length v 2 (spaced-two q), ap length e))
-    by (inr p) (inl q) = absurd (omega (arith, spaced-length u 2 (spaced-two p), spaced-length v 1 (spaced-one q), ap length e))
 
 -- A REFUSAL by questions 2 to 10
 

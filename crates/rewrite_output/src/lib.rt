@@ -4,12 +4,11 @@ ghost use mathlib.Core.Path.{_≡_};
 ghost use Rattle.automaton.specs.Lent.{witnessTables};
 ghost use Rattle.format.specs.Format.{mostSheet};
 ghost use Rattle.report.specs.Output.{Prints};
+ghost use Rattle.witness_text.specs.Put.{WrittenAt};
 ghost use Rattle.rewrite_output.specs.Rewrite.{RewriteOutput, longestRewrite};
-ghost use Rattle.rewrite_output.specs.Put.{refusalText, WrittenAt, RefusalFits};
+ghost use Rattle.rewrite_output.specs.Put.{refusalText, RefusalFits};
 use gate::Refusal;
 use gate::Written;
-
-mod witness;
 
 // How many bytes of the input are read: one more than a sheet may have decides question 2, whatever follows.
 pub const INPUT: usize = 24577;
@@ -25,7 +24,7 @@ fn put_refusal_text(r: Refusal, word: &[u16], one: &[u16], other: &[u16], out: &
     let line = report::refusal_line(r);
     text::put_bytes(out, 0, &line);
     if r.number == 10 {
-        return witness::put(out, 12, word, one, other, r.length);
+        return witness_text::put(out, 12, word, one, other, r.length);
     }
     12
 }
@@ -42,7 +41,7 @@ pub fn rewrite(input: &[u8], out: &mut [u8]) -> usize
     let mut word = [0u16; 136];
     let mut one = [0u16; 137];
     let mut other = [0u16; 137];
-    match writer::write(input, &mut word, &mut one, &mut other, out) {
+    match file_writer::write(input, &mut word, &mut one, &mut other, out) {
         Written::Bytes(m) => m,
         Written::Refused(r) => put_refusal_text(r, &word, &one, &other, out),
     }

@@ -1,9 +1,2 @@
 pub mod Read
-pub mod Letters
-pub mod Spelling
-pub mod Answers
-pub mod AnswersLaws
-pub mod LettersLaws
-pub mod FindLaws
 pub mod ReadLaws
-pub mod SpellingLaws

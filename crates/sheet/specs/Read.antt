@@ -14,7 +14,7 @@ use Rattle.sheet.specs.declared.Read.{Read}
 use Rattle.sheet.specs.declared.Read.the-variants.{Refused, Is}
 use Rattle.format.specs.Format.{Sheet, FileIs, Faulty}
 use Rattle.format.specs.Numbers.{numbers}
-use Rattle.sheet.specs.Answers.{NamesIn}
+use Rattle.parser.specs.LettersOf.{NamesIn}
 
 -- QUESTIONS 2 TO 10 on a sheet file: s is the file of σ, and no two walks meet
 pub record Accepted (s : List ℕ) (σ : Sheet) : Type 0 where

@@ -26,7 +26,7 @@ use Rattle.parser.specs.Parse.{parse}
 use Rattle.parser.specs.declared.File.the-variants as F
 use Rattle.sheet.specs.declared.Read.{Read}
 use Rattle.sheet.specs.declared.Read.the-variants as R
-use Rattle.sheet.specs.AnswersLaws.{FileAccepted, file-refused}
+use Rattle.parser.specs.LettersOfLaws.{FileAccepted, file-refused}
 use Rattle.sheet.specs.Read.{Refuses, sheetTables, Reads, ReadTables, readTables, lentCleared, SheetRead, ReadsNamed}
 
 -- only question 1 has number 1

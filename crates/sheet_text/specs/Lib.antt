@@ -1,7 +1,6 @@
 pub mod Places
 pub mod RowNames
 pub mod Text
-pub mod LineLaws
 pub mod StatesLaws
 pub mod PlacesLaws
 pub mod RowNamesLaws

@@ -1,12 +1,7 @@
--- Names in rows of 24 bytes, with zeros behind them: no name has a zero byte.
-use Prim.Native.Nat.{ℕ, zero, suc, _*_}
+-- The names in rows, one after the other.
+use Prim.Native.Nat.{ℕ, zero, suc}
 use mathlib.Core.List.{List, [], _∷_}
-use Rattle.lists.specs.Search.{leading}
-use Rattle.names.specs.Row.{nameRow}
-
--- the name in row l
-abbrev pub rowName : List ℕ → ℕ → List ℕ
-rowName rows l = leading (nameRow rows (24 * l))
+use Rattle.sheet_lines.specs.RowName.{rowName}
 
 -- the names in the rows from l on, of which there are `left`
 unfoldable pub rowNames : List ℕ → ℕ → ℕ → List (List ℕ)

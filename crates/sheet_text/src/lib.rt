@@ -6,7 +6,6 @@ ghost use lib.Seq.{sets};
 ghost use Rattle.automaton.specs.Automaton.{automaton};
 ghost use Rattle.sheet_text.specs.Text.{rowsText, Writable};
 
-mod lines;
 mod name_lines;
 mod state_lines;
 mod transition_lines;
@@ -29,7 +28,7 @@ pub fn put_text(a: Numbers, table: &[u16], rows: &[u8], out: &mut [u8])
     requires { ⌜ Writable (automaton a (now table)) × (192 ≤ length (now rows)) × (length (rowsText (automaton a (now table)) (now rows)) ≤ length (now out)) ⌝ }
     ensures { λ _. ⌜ now (out .exit) ≡ sets (now (out .entry)) 0 (rowsText (automaton a (now (table .entry))) (now (rows .entry))) ⌝ }
 {
-    lines::put_head(out, 0, a.n, a.k);
+    sheet_lines::put_head(out, 0, a.n, a.k);
     let states = name_lines::put_names(out, 12, rows, a.k);
     let transitions = state_lines::put_states(out, states, a.n, a.initial, a.recurring);
     let end = transition_lines::put_transitions(out, transitions, table);

@@ -1,26 +1,10 @@
 // The name lines, from names in rows of 24 bytes with zeros behind them.
 ghost use mathlib.Core.Path.{_≡_};
-ghost use Prim.Native.Nat.{_+_, _≤_, _<_};
+ghost use Prim.Native.Nat.{_+_, _≤_};
 ghost use lib.ListN.{length};
 ghost use lib.Seq.{sets};
-ghost use Rattle.format.specs.Format.{nameLine, nameLines};
-ghost use Rattle.sheet_text.specs.RowNames.{rowName, rowNames};
-use crate::lines;
-
-// How many bytes the name in row l has.
-fn name_length(rows: &[u8], l: usize) -> usize
-    requires { ⌜ (l < 8) × (192 ≤ length (now rows)) ⌝ }
-    ensures { λ r. ⌜ (r ≡ length (rowName (now (rows .entry)) l)) × (r ≤ 24) ⌝ }
-{
-    let mut i = 0;
-    while i < 24 {
-        if rows[24 * l + i] == 0 {
-            return i;
-        }
-        i += 1;
-    }
-    i
-}
+ghost use Rattle.format.specs.Format.{nameLines};
+ghost use Rattle.sheet_text.specs.RowNames.{rowNames};
 
 // How many bytes the lines of k names have.
 pub fn names_length(rows: &[u8], k: usize) -> usize
@@ -30,21 +14,10 @@ pub fn names_length(rows: &[u8], k: usize) -> usize
     let mut l = 0;
     let mut count = 0;
     while l < k {
-        count += 6 + name_length(rows, l);
+        count += 6 + sheet_lines::name_length(rows, l);
         l += 1;
     }
     count
-}
-
-// The line of the name in row l. The answer is the place behind it.
-fn put_row(out: &mut [u8], at: usize, rows: &[u8], l: usize) -> usize
-    requires { ⌜ (l < 8) × (192 ≤ length (now rows)) × (at + (6 + length (rowName (now rows) l)) ≤ length (now out)) ⌝ }
-    ensures { λ r. ⌜ (r ≡ at + (6 + length (rowName (now (rows .entry)) l)))
-        × (now (out .exit) ≡ sets (now (out .entry)) at (nameLine l (rowName (now (rows .entry)) l))) ⌝ }
-{
-    let start = 24 * l;
-    let end = start + name_length(rows, l);
-    lines::put_name(out, at, l, &rows[start..end])
 }
 
 // The lines of k names, from `start` on. The answer is the place behind them.
@@ -56,7 +29,7 @@ pub fn put_names(out: &mut [u8], start: usize, rows: &[u8], k: usize) -> usize
     let mut l = 0;
     let mut at = start;
     while l < k {
-        at = put_row(out, at, rows, l);
+        at = sheet_lines::put_row(out, at, rows, l);
         l += 1;
     }
     at

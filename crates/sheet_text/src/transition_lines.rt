@@ -3,10 +3,9 @@ ghost use mathlib.Core.Path.{_≡_};
 ghost use Prim.Native.Nat.{_+_, _≤_};
 ghost use lib.ListN.{length};
 ghost use lib.Seq.{sets};
-ghost use Rattle.format.specs.Format.{transitionLine, transitionLines};
-ghost use Rattle.format.specs.Written.{mostTransitions, placed, transitionsOf};
+ghost use Rattle.format.specs.Format.{transitionLines};
+ghost use Rattle.format.specs.Written.{mostTransitions, transitionsOf};
 ghost use Rattle.sheet_text.specs.Places.{NextPlace};
-use crate::lines;
 
 // The first place from `start` on at which a transition stands, or 2048. An empty cell is passed at once.
 fn next_place(table: &[u16], start: usize) -> usize
@@ -43,14 +42,6 @@ pub fn count_transitions(table: &[u16]) -> usize
     count
 }
 
-// The line of the transition at place i.
-fn put_transition(out: &mut [u8], at: usize, i: usize)
-    requires { ⌜ at + 11 ≤ length (now out) ⌝ }
-    ensures { λ _. ⌜ now (out .exit) ≡ sets (now (out .entry)) at (transitionLine (placed i)) ⌝ }
-{
-    lines::put_columns(out, at, b'T', i / 128, i / 16 % 8, i % 16);
-}
-
 // The lines of all transitions, from `start` on. The answer is the place behind them.
 pub fn put_transitions(out: &mut [u8], start: usize, table: &[u16]) -> usize
     requires { ⌜ (128 ≤ length (now table)) × (start + length (transitionLines (transitionsOf (now table) 0 mostTransitions)) ≤ length (now out)) ⌝ }
@@ -60,7 +51,7 @@ pub fn put_transitions(out: &mut [u8], start: usize, table: &[u16]) -> usize
     let mut at = start;
     let mut i = next_place(table, 0);
     while i < 2048 {
-        put_transition(out, at, i);
+        sheet_lines::put_transition(out, at, i);
         at += 11;
         i = next_place(table, i + 1);
     }

@@ -17,12 +17,14 @@ use Rattle.format.specs.NumbersLaws.{sheet-fits}
 use Rattle.parser.specs.UniqueLaws.{fault-unique, file-or-fault}
 use Rattle.sheet.specs.Read.{Refuses}
 use Rattle.filling.specs.TrackerTables.{TrackerTables}
-use Rattle.tracker.specs.Build.{BuildTables, EnoughToBuild, Builds}
-use Rattle.tracker.specs.BuildLaws.{file-built}
+use Rattle.tracker.specs.Build.{BuildTables, EnoughToBuild}
+use Rattle.file_tracker.specs.FileBuild.{Builds}
+use Rattle.file_tracker.specs.FileBuildLaws.{file-built}
 use Rattle.tracker.specs.declared.Tracker.{Tracker}
 use Rattle.tracker.specs.declared.Built.the-variants.{Refused as BuildRefused, Is}
 use Rattle.listing_text.specs.Listing.{listing}
-use Rattle.listing.specs.List.{ListTables, listTables, listingOf, Lists}
+use Rattle.file_listing.specs.FileList.{ListTables, listTables, Lists}
+use Rattle.listing.specs.List.{listingOf}
 use Rattle.listing_text.specs.PutLaws.{listing-length, listing-small}
 use Rattle.listing_text.specs.ListingLaws.{fitted-shown}
 use Rattle.report.specs.Report.{refusalLine, lineOf}

@@ -36,7 +36,7 @@ fn list(input: &[u8], out: &mut [u8]) -> usize
     let mut word = [0u16; 136];
     let mut one = [0u16; 137];
     let mut other = [0u16; 137];
-    let listed = listing::list(
+    let listed = file_listing::list(
         input,
         1024,
         &mut table,

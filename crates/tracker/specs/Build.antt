@@ -6,10 +6,7 @@ use Rattle.gate.specs.Gate.{refusal, cleared}
 use Rattle.gate.specs.declared.Refusal.{Refusal}
 use Rattle.automaton.specs.Automaton.{Automaton, graphOf, Fits, AreNumbers}
 use Rattle.automaton.specs.Meeting.{Free, Everywhere}
-use Rattle.automaton.specs.Lent.{WitnessTables, EnoughForSheet, clearedWitness, NumbersRefuse, lentTable}
-use Rattle.format.specs.Format.{Sheet}
-use Rattle.format.specs.Numbers.{numbers}
-use Rattle.sheet.specs.Read.{Accepted, Refuses}
+use Rattle.automaton.specs.Lent.{WitnessTables, EnoughForSheet, clearedWitness, NumbersRefuse}
 use Rattle.numbering.specs.Numbering.{MoreThan}
 use Rattle.filling.specs.TrackerTables.{TrackerTables, clearedTracker, EnoughForTracker, Fitted}
 use Rattle.tracker.specs.declared.Built.{Built}
@@ -66,20 +63,3 @@ pub data BuildsNumbers (A : Automaton) (room : ℕ) (before after : BuildNumbers
   -- 11, or the tracker
   asked : EnoughToBuildNumbers A room before → Fits A → Free (graphOf A) Everywhere → after .witness ≡ clearedWitness (before .witness)
       → Tracks A room (before .tracker) (after .tracker) b → BuildsNumbers A room before after b
-
--- a lent table of successor sets behind question 11: all zero with a refusal, and the sheet's with its tracker
-abbrev pub TableIs : List ℕ → List ℕ → List ℕ → Built → Type 0
-TableIs sets before after (Refused r) = after ≡ cleared before
-TableIs sets before after (Is x) = after ≡ lentTable sets before
-
--- BUILDING FROM A SHEET FILE s
-pub data Builds (s : List ℕ) (room : ℕ) (before after : BuildTables) (b : Built) : Type 0 where
-  -- 1, asked first: nothing is touched
-  short : (EnoughToBuild room before → ⊥) → b ≡ Refused (refusal 1 0) → after ≡ before → Builds s room before after b
-  -- 2 to 10
-  refused : EnoughToBuild room before → (r : Refusal) → Refuses s (before .witness) (after .witness) r → b ≡ Refused r
-      → after .successors ≡ cleared (before .successors) → after .tracker ≡ clearedTracker (before .tracker) → Builds s room before after b
-  -- 11, or the tracker
-  asked : EnoughToBuild room before → (σ : Sheet) → Accepted s σ → after .witness ≡ clearedWitness (before .witness)
-      → Tracks (numbers σ) room (before .tracker) (after .tracker) b → TableIs (numbers σ .table) (before .successors) (after .successors) b
-      → Builds s room before after b

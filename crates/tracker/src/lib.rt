@@ -1,14 +1,12 @@
 // The tracker: every tuple that some word reaches, numbered as found, in lent tables.
 use automaton::Numbers;
 use gate::Refusal;
-use sheet::Read;
-use sheet::reading::read_long;
 use walks::Checked;
 ghost use Rattle.automaton.specs.Automaton.{automaton, Fits};
 ghost use Rattle.gate.specs.Gate.{Decides};
 ghost use Rattle.automaton.specs.Lent.{witnessTables};
 ghost use Rattle.filling.specs.TrackerTables.{trackerTables, EnoughForTracker};
-ghost use Rattle.tracker.specs.Build.{buildNumbersTables, buildTables, EnoughToBuild, Tracks, BuildsNumbers, Builds};
+ghost use Rattle.tracker.specs.Build.{buildNumbersTables, buildTables, EnoughToBuild, Tracks, BuildsNumbers};
 
 // A tracker that was built: the sheet's numbers, and how many tuples the tables hold.
 pub struct Tracker {
@@ -98,42 +96,4 @@ pub fn build_numbers(
         return Built::Refused(r);
     }
     track(a, table, room, tuples, nexts)
-}
-
-// A tracker from a sheet file.
-pub fn build(
-    sheet: &[u8],
-    room: usize,
-    table: &mut [u16],
-    tuples: &mut [u16],
-    nexts: &mut [u16],
-    word: &mut [u16],
-    one: &mut [u16],
-    other: &mut [u16],
-) -> Built
-    ensures { λ r. ⌜ Builds (now (sheet .entry)) room
-        (buildTables (now (table .entry)) (witnessTables (now (word .entry)) (now (one .entry)) (now (other .entry))) (trackerTables (now (tuples .entry)) (now (nexts .entry))))
-        (buildTables (now (table .exit)) (witnessTables (now (word .exit)) (now (one .exit)) (now (other .exit))) (trackerTables (now (tuples .exit)) (now (nexts .exit)))) r ⌝ }
-{
-    if !enough(room, table, tuples, nexts, word, one, other) {
-        return Built::Refused(Refusal {
-            number: 1,
-            line: 0,
-            length: 0,
-        });
-    }
-    let mut rows = [0u8; 192];
-    match read_long(sheet, table, &mut rows, word, one, other) {
-        Read::Refused(r) => {
-            filling::clear(tuples, nexts);
-            Built::Refused(r)
-        }
-        Read::Is(a) => {
-            let built = track(a, &table[..128], room, tuples, nexts);
-            if let Built::Refused(_) = built {
-                gate::clear(table);
-            }
-            built
-        }
-    }
 }

@@ -9,7 +9,7 @@ use Rattle.format.specs.Numbers.{numbers}
 use Rattle.sheet.specs.Read.{Accepted}
 use Rattle.filling.specs.TrackerTables.{TrackerTables, Fitted}
 use Rattle.tracker.specs.Build.{BuildTables}
-use Rattle.plan.specs.Plan.{mostPlan}
+use Rattle.plan_lines.specs.PlanLines.{mostPlan}
 use Rattle.passes.specs.Passes.{isYes}
 use Rattle.judge.specs.Verdict.{SizesFit, Refusing, Verdicts}
 use Rattle.passes.specs.declared.Verdict.{Verdict}

@@ -7,7 +7,7 @@ use Rattle.automaton.specs.Lent.{WitnessTables, clearedWitness}
 use Rattle.walks.specs.declared.Checked.{Checked}
 use Rattle.walks.specs.declared.Checked.the-variants as K
 use Rattle.format.specs.Format.{Sheet}
-use Rattle.sheet.specs.Answers.{NamesIn}
+use Rattle.parser.specs.LettersOf.{NamesIn}
 use Rattle.writer.specs.Write.{NamedRefuse, NamedAccepted}
 
 -- on numbers with the names' file s: refused, or all answered yes, with the file's names in rows. The other tables are the witness.

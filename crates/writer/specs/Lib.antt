@@ -1,5 +1,5 @@
+pub mod Writing
 pub mod Write
-pub mod Same
 pub mod Ask
 pub mod NumbersLaws
 pub mod FileLaws

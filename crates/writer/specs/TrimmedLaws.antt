@@ -14,7 +14,7 @@ use Rattle.format.specs.Format.{Sheet, lines, endLine}
 use Rattle.format.specs.Numbers.{numbers}
 use Rattle.format.specs.Written.{mostTransitions, whereMember, placed, transitionsOf, sheetOf, writtenSheet, written}
 use Rattle.format.specs.NumbersLaws.{numbers-length}
-use Rattle.writer.specs.Same.{trimmed}
+use Rattle.writer.specs.Writing.{trimmed}
 
 transitions-trimmed : (T : List ℕ) (left i : ℕ) → i + left ≤ mostTransitions → transitionsOf (take 128 T) i left ≡ transitionsOf T i left
 unfolding transitionsOf

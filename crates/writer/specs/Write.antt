@@ -1,4 +1,4 @@
--- What writing a sheet answers, and what the lent tables hold then.
+-- What writing a sheet from numbers answers, and what the lent tables hold then.
 use Prim.Native.Nat.{ℕ}
 use mathlib.Core.Path.{_≡_}
 use mathlib.Core.List.{List}
@@ -6,13 +6,12 @@ use Rattle.gate.specs.Gate.{refusal, cleared, Put}
 use Rattle.gate.specs.declared.Refusal.{Refusal}
 use Rattle.automaton.specs.Automaton.{Automaton, graphOf, Fits}
 use Rattle.automaton.specs.Meeting.{Free, Everywhere}
-use Rattle.automaton.specs.Lent.{WitnessTables, EnoughForWitness, clearedWitness, NumbersRefuse, EnoughForSheet}
+use Rattle.automaton.specs.Lent.{WitnessTables, clearedWitness, NumbersRefuse, EnoughForSheet}
 use Rattle.format.specs.Format.{Sheet}
 use Rattle.format.specs.Written.{written}
 use Rattle.sheet.specs.Read.{Accepted, Refuses}
 use Rattle.gate.specs.declared.Written.{Written}
 use Rattle.gate.specs.declared.Written.the-variants.{Refused}
-use Rattle.writer.specs.Same.{writing}
 
 -- the lent tables of writing
 pub record WriteTables : Type 0 where
@@ -23,17 +22,6 @@ pub record WriteTables : Type 0 where
 
 abbrev pub writeTables : WitnessTables → List ℕ → WriteTables
 writeTables witness output = record { witness = witness; output = output }
-
--- WRITING FROM A FILE s: "The writer writes composed letters"
-pub data Writes (s : List ℕ) (before after : WriteTables) (r : Written) : Type 0 where
-  -- 1, asked first, "touches nothing"
-  short : (EnoughForWitness (before .witness) → ⊥) → r ≡ Refused (refusal 1 0) → after ≡ before → Writes s before after r
-  -- 2 to 10
-  refused : EnoughForWitness (before .witness) → (x : Refusal) → Refuses s (before .witness) (after .witness) x → r ≡ Refused x
-      → after .output ≡ cleared (before .output) → Writes s before after r
-  -- 1, asked last, or the text
-  asked : EnoughForWitness (before .witness) → (σ : Sheet) → Accepted s σ → after .witness ≡ clearedWitness (before .witness)
-      → Put (writing σ) (before .output) (after .output) r → Writes s before after r
 
 -- WRITING FROM NUMBERS A with a file s for the names. Questions 2 to 10; the tables are the witness:
 -- "that file's questions come first, then a differing k is 4, line 0, then the questions on the numbers"

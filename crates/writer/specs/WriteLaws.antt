@@ -1,27 +1,25 @@
--- The ends of the two calls behind question 1: refused before the last question, or asked it with the names that the rows hold. Assumes nothing.
+-- The ends of writing from numbers behind question 1: refused before the last question, or asked it with the names that the rows hold. Assumes nothing.
 use Prim.Native.Nat.{ℕ, _≤_}
 use mathlib.Core.Path.{_≡_, sym, ap, _∙_, subst}
-use mathlib.Core.List.{List, map, append-nil}
+use mathlib.Core.List.{List, map}
 use native.Mathlib.Omega.{arith}
-use lib.ListN.{length, replicate, length-map}
+use lib.ListN.{length, length-map}
 use Rattle.gate.specs.Gate.{refusal, Put}
 use Rattle.gate.specs.declared.Refusal.{Refusal}
 use Rattle.gate.specs.declared.Written.{Written}
 use Rattle.names.specs.Name.{compose}
 use Rattle.automaton.specs.declared.Numbers.{Numbers}
-use Rattle.automaton.specs.Automaton.{Automaton, Fits, automaton}
-use Rattle.automaton.specs.Lent.{WitnessTables, EnoughForWitness, EnoughForSheet, clearedWitness, NumbersRefuse}
+use Rattle.automaton.specs.Automaton.{Automaton, Fits}
+use Rattle.automaton.specs.Lent.{WitnessTables, EnoughForSheet, clearedWitness, NumbersRefuse}
 use Rattle.automaton.specs.LentLaws.{tables-twice, lengths-cleared, refuse-cleared}
 use Rattle.format.specs.Format.{Sheet}
 use Rattle.format.specs.Written.{written}
-use Rattle.format.specs.Numbers.{numbers}
-use Rattle.format.specs.NumbersLaws.{sheet-fits, numbers-length, automaton-is}
 use Rattle.walks.specs.declared.Checked.{Checked}
 use Rattle.walks.specs.declared.Checked.the-variants as K
 use Rattle.walks.specs.Check.{ChecksLong}
-use Rattle.sheet.specs.Answers.{NamesIn}
-use Rattle.sheet.specs.Read.{ReadTables, readTables, SheetRead}
-use Rattle.writer.specs.Write.{WriteTables, writeTables, Writes, NamedRefuse, WritesNumbers}
+use Rattle.parser.specs.LettersOf.{NamesIn}
+use Rattle.sheet.specs.Read.{ReadTables, SheetRead}
+use Rattle.writer.specs.Write.{WriteTables, NamedRefuse, WritesNumbers}
 use Rattle.sheet_text.specs.Text.{textOf, rowsText, Writable}
 use Rattle.writer.specs.Ask.{Asks}
 use Rattle.sheet_text.specs.TextLaws.{text-written}
@@ -29,7 +27,7 @@ use Rattle.sheet_text.specs.RowNames.{rowNames}
 use Rattle.sheet_text.specs.RowNamesLaws.{rows-hold}
 
 -- the text with the names in rows is that with the names of their sheet
-named-text : (A : Automaton) {σ : Sheet} {rows : List ℕ} → NamesIn σ (A .k) rows → rowsText A rows ≡ written A (σ .names)
+pub named-text : (A : Automaton) {σ : Sheet} {rows : List ℕ} → NamesIn σ (A .k) rows → rowsText A rows ≡ written A (σ .names)
 named-text A {σ} {rows} h = ap (textOf A) names ∙ text-written A (σ .names)
   where
     names : rowNames rows 0 (A .k) ≡ map compose (σ .names)
@@ -38,22 +36,6 @@ named-text A {σ} {rows} h = ap (textOf A) names ∙ text-written A (σ .names)
 -- numbers that fit can be written
 pub writable : {A : Automaton} → Fits A → 128 ≤ length (A .table) → Writable A
 writable fits h = record { states = omega (arith, fits .range); letters = omega (arith, fits .range); table = h }
-
--- WRITING FROM A FILE that is read, its successor sets into a table of 128
-
-module _ {s rows : List ℕ} {witness : WitnessTables} {after : ReadTables} {a : Numbers} (h : SheetRead s (readTables (replicate 128 0) rows witness) after a) where
-  is : automaton a (after .successors) ≡ numbers (h .sheet)
-  is = automaton-is (h .sheet) (h .are) (h .successors ∙ append-nil (numbers (h .sheet) .table))
-
-  pub write-asks : Writable (automaton a (after .successors))
-  write-asks = subst Writable (sym is) (writable (sheet-fits s (h .sheet) (h .accepted .file)) (omega (arith, numbers-length (h .sheet))))
-
-  pub write-finishes : {output output′ : List ℕ} {r : Written} → EnoughForWitness witness → Put (rowsText (automaton a (after .successors)) (after .rows)) output output′ r
-      → Writes s (writeTables witness output) (writeTables (after .witness) output′) r
-  write-finishes {output} {output′} {r} long put =
-      let names : NamesIn (h .sheet) (numbers (h .sheet) .k) (after .rows) = subst (λ (k : ℕ). NamesIn (h .sheet) k (after .rows)) (h .are .k) (h .names) in
-      let text = ap (λ (A : Automaton). rowsText A (after .rows)) is ∙ named-text (numbers (h .sheet)) names in
-      Writes.asked long (h .sheet) (h .accepted) (h .witness) (subst (λ (text : List ℕ). Put text output output′ r) text put)
 
 -- WRITING FROM NUMBERS, with the names of a file that is read
 

@@ -1,10 +1,10 @@
-// Writing a sheet file.
+// Writing a sheet file from numbers.
 ghost use Prim.Native.Nat.{_≤_};
 ghost use lib.ListN.{length};
 ghost use Rattle.automaton.specs.Automaton.{automaton};
 ghost use Rattle.gate.specs.Gate.{Put};
 ghost use Rattle.automaton.specs.Lent.{witnessTables, EnoughForSheet};
-ghost use Rattle.writer.specs.Write.{writeTables, Writes, WritesNumbers};
+ghost use Rattle.writer.specs.Write.{writeTables, WritesNumbers};
 ghost use Rattle.sheet_text.specs.Text.{rowsText, Writable};
 ghost use Rattle.writer.specs.Ask.{Asks};
 use automaton::Numbers;
@@ -17,7 +17,7 @@ use sheet_text::text_length;
 use walks::Checked;
 
 // The last question, whether the output is long enough, and the text with zeros behind it. The names are in rows.
-fn finish(a: Numbers, table: &[u16], rows: &[u8], out: &mut [u8]) -> Written
+pub fn finish(a: Numbers, table: &[u16], rows: &[u8], out: &mut [u8]) -> Written
     requires { ⌜ Writable (automaton a (now table)) × (192 ≤ length (now rows)) ⌝ }
     ensures { λ r. ⌜ Put (rowsText (automaton a (now (table .entry))) (now (rows .entry))) (now (out .entry)) (now (out .exit)) r ⌝ }
 {
@@ -33,36 +33,6 @@ fn finish(a: Numbers, table: &[u16], rows: &[u8], out: &mut [u8]) -> Written
     put_text(a, table, rows, out);
     gate::clear_bytes(&mut out[count..]);
     Written::Bytes(count)
-}
-
-// A sheet file written anew, with composed letters: questions 1 to 10, and last of all whether the output is long enough.
-pub fn write(
-    sheet: &[u8],
-    word: &mut [u16],
-    one: &mut [u16],
-    other: &mut [u16],
-    out: &mut [u8],
-) -> Written
-    ensures { λ r. ⌜ Writes (now (sheet .entry))
-        (writeTables (witnessTables (now (word .entry)) (now (one .entry)) (now (other .entry))) (now (out .entry)))
-        (writeTables (witnessTables (now (word .exit)) (now (one .exit)) (now (other .exit))) (now (out .exit))) r ⌝ }
-{
-    let mut table = [0u16; 128];
-    if !walks::long_enough(&table, word, one, other) {
-        return Written::Refused(Refusal {
-            number: 1,
-            line: 0,
-            length: 0,
-        });
-    }
-    let mut rows = [0u8; 192];
-    match read_long(sheet, &mut table, &mut rows, word, one, other) {
-        Read::Refused(r) => {
-            gate::clear_bytes(out);
-            Written::Refused(r)
-        }
-        Read::Is(a) => finish(a, &table, &rows, out),
-    }
 }
 
 // The questions behind 1 on a sheet as numbers with a sheet file for the names: that file's questions 2 to 10, a differing k (4), and the

@@ -30,6 +30,39 @@ impl Bench {
         Bench { programs, passed: 0, failed: 0, kinds: BTreeMap::new(), refused: BTreeSet::new() }
     }
 
+    /// Several parts at the same time, and their counts taken together. No part looks at what another has counted.
+    pub fn side_by_side(programs: PathBuf, parts: &[&(dyn Fn(&mut Bench) + Sync)]) -> Self {
+        let mut all = Bench::new(programs.clone());
+        std::thread::scope(|scope| {
+            let running: Vec<_> = parts
+                .iter()
+                .map(|part| {
+                    let mut b = Bench::new(programs.clone());
+                    scope.spawn(move || {
+                        part(&mut b);
+                        b
+                    })
+                })
+                .collect();
+            for part in running {
+                all.add(part.join().expect("a part that ends"));
+            }
+        });
+        all
+    }
+
+    fn add(&mut self, other: Bench) {
+        self.passed += other.passed;
+        self.failed += other.failed;
+        self.refused.extend(other.refused);
+        for (what, by_number) in other.kinds {
+            let here = self.kinds.entry(what).or_default();
+            for (number, count) in by_number {
+                *here.entry(number).or_default() += count;
+            }
+        }
+    }
+
     pub fn run(&self, program: &str, input: &[u8]) -> Vec<u8> {
         self.run_in_pieces(program, input, input.len())
     }

@@ -58,15 +58,18 @@ fn main() {
     }
     let programs = PathBuf::from(args.next().expect("the folder of the programs"));
     let count: usize = args.next().map_or(4000, |x| x.parse().expect("a count"));
-    let mut b = Bench::new(programs);
-    limits::run(&mut b);
-    larger::run(&mut b);
-    calls::run(&mut b);
-    for seed in 0..count {
-        let mut r = Random::new(seed as u64);
-        let most = [3, 5, 8, 16][seed % 4];
-        random_sheet(&mut b, &mut r, most);
-    }
+    let of_limits = |b: &mut Bench| {
+        limits::run(b);
+        larger::run(b);
+    };
+    let of_sheets = |b: &mut Bench| {
+        for seed in 0..count {
+            let mut r = Random::new(seed as u64);
+            let most = [3, 5, 8, 16][seed % 4];
+            random_sheet(b, &mut r, most);
+        }
+    };
+    let b = Bench::side_by_side(programs, &[&of_limits, &calls::run, &of_sheets]);
     b.report();
     println!("outside: {} passed, {} failed", b.passed, b.failed);
     if b.failed > 0 {

@@ -2,9 +2,9 @@
 use mathlib.Core.Path.{_≡_, sym, _∙_, ap}
 use mathlib.Core.Bool.{Bool, true, false}
 use Rattle.lists.specs.Choice.{choose}
-use Rattle.text.specs.NumberLaws.{between-is}
-use Rattle.text.specs.Pair.{wordAndPair}
-use Rattle.text.specs.declared.Pair.{Pair}
+use Rattle.columns.specs.NumberLaws.{between-is}
+use Rattle.columns.specs.Pair.{wordAndPair}
+use Rattle.columns.specs.declared.Pair.{Pair}
 use Rattle.frame.specs.Phase.{refused, passed, firstPhase}
 use Rattle.frame.specs.Answers.{firstAnswer}
 use borrow.Author.Needs.{needs}

@@ -5,7 +5,7 @@ use native.Mathlib.Omega.{arith}
 use lib.ListN.{replicate}
 use denote.Ref.{now}
 use Rattle.format.specs.Format.{Sheet}
-use Rattle.sheet.specs.Answers.{NamesIn}
+use Rattle.parser.specs.LettersOf.{NamesIn}
 use Rattle.plan.specs.Read.{ReadsPlan}
 use Rattle.plan.specs.declared.Planned.{Planned}
 use Rattle.judge.specs.PlanLaws.{letters-fit, judged-plan}

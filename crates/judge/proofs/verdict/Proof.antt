@@ -8,6 +8,10 @@ use borrow.Author.Tests.{not-true, not-false}
 use Rattle.judge.proofs.verdict.Statement.{statement}
 use Rattle.judge.proofs.verdict.Tie as tie
 
+-- the other questions, from the end
+abbrev asked-at : tie.After-slice-known18 → tie.After-judge-long
+asked-at c = c .before .before .before .before .before .before .before .before .before .before .before .before
+
 enough-requires : tie.Need-enough-requires
 enough-requires c κs = search needs
 
@@ -51,22 +55,22 @@ clear-requires-5 : tie.Need-clear-requires-5
 clear-requires-5 c κs = search needs
 
 same-length-7 : tie.Need-same-length-7
-same-length-7 c = search needs
+same-length-7 c = c .before .before .before .before .before .before .before .before .before .before .before .before .before .before .before .before .before .before .before .before .before .clear .kept .0
 
 same-length-8 : tie.Need-same-length-8
-same-length-8 c = search needs
+same-length-8 c = c .before .before .before .before .before .before .before .before .before .before .before .before .before .before .before .before .clear2 .kept .0
 
 same-length-9 : tie.Need-same-length-9
-same-length-9 c = search needs
+same-length-9 c = c .before .before .before .before .before .before .before .before .before .before .before .before .before .before .before .before .clear2 .kept .1 .0
 
 same-length-10 : tie.Need-same-length-10
-same-length-10 c = search needs
+same-length-10 c = c .before .before .before .before .before .before .before .before .before .before .clear3 .kept .0
 
 same-length-11 : tie.Need-same-length-11
-same-length-11 c = search needs
+same-length-11 c = c .before .before .before .before .before .before .clear4 .kept .0
 
 same-length-12 : tie.Need-same-length-12
-same-length-12 c = search needs
+same-length-12 c = c .before .before .clear5 .kept .0
 
 returns-2 : tie.Need-returns-2
 returns-2 c =
@@ -92,25 +96,25 @@ judge-long-requires c κs =
     (long .before .enough .ensures .0 (not-false _ (long .if1 .left)), sizes .sizes-fit .ensures .0 (not-false _ (fit .if2 .left)))
 
 same-length-13 : tie.Need-same-length-13
-same-length-13 c = search needs
+same-length-13 c = asked-at c .judge-long .kept .1 .1 .1 .0
 
 same-length-14 : tie.Need-same-length-14
-same-length-14 c = search needs
+same-length-14 c = asked-at c .judge-long .kept .1 .1 .1 .1 .0
 
 same-length-15 : tie.Need-same-length-15
-same-length-15 c = search needs
+same-length-15 c = asked-at c .judge-long .kept .1 .1 .1 .1 .1 .0
 
 same-length-16 : tie.Need-same-length-16
-same-length-16 c = search needs
+same-length-16 c = asked-at c .judge-long .kept .1 .1 .1 .1 .1 .1 .0
 
 same-length-17 : tie.Need-same-length-17
-same-length-17 c = search needs
+same-length-17 c = asked-at c .judge-long .kept .1 .1 .1 .1 .1 .1 .1 .0
 
 same-length-18 : tie.Need-same-length-18
-same-length-18 c = search needs
+same-length-18 c = asked-at c .judge-long .kept .1 .1 .1 .1 .1 .1 .1 .1 .0
 
 returns-3 : tie.Need-returns-3
-returns-3 c = c .before .before .before .before .before .before .before .before .before .before .before .before .judge-long .ensures
+returns-3 c = asked-at c .judge-long .ensures
 
 pub verdict-spec : {M : Type 1} → statement M
 verdict-spec =

@@ -4,8 +4,8 @@ use mathlib.Core.Path.{_≡_}
 use mathlib.Core.List.{List}
 use native.Mathlib.Omega.{arith}
 use lib.ListN.{length}
-use Rattle.text.specs.Column.{column}
-use Rattle.text.specs.ColumnLaws.{column-length}
+use Rattle.columns.specs.Column.{column}
+use Rattle.columns.specs.ColumnLaws.{column-length}
 use Rattle.listing_text.specs.Put.{cellsFrom}
 use Rattle.text.specs.PiecesLaws.{Putting, put-none, put-room, put-more, put-all}
 use Rattle.listing_text.specs.PutLaws.{columns-length}

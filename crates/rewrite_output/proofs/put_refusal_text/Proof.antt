@@ -1,7 +1,8 @@
 -- The line, and with a 10 the witness behind it. Assumes nothing.
 use native.Mathlib.Omega.{arith}
 use Rattle.automaton.specs.Lent.{witnessTables}
-use Rattle.rewrite_output.specs.PutLaws.{witness-most, written-other, written-ten}
+use Rattle.witness_text.specs.PutLaws.{witness-most}
+use Rattle.rewrite_output.specs.PutLaws.{written-other, written-ten}
 use borrow.Author.Needs.{needs}
 use Rattle.rewrite_output.proofs.put_refusal_text.Statement.{statement}
 use Rattle.rewrite_output.proofs.put_refusal_text.Tie as tie

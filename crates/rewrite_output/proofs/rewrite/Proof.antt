@@ -4,7 +4,8 @@ use lib.ListN.{replicate}
 use native.Mathlib.Omega.{arith}
 use Rattle.gate.specs.declared.Written.{Written}
 use Rattle.automaton.specs.Lent.{WitnessTables, witnessTables, EnoughForWitness}
-use Rattle.writer.specs.Write.{writeTables, Writes}
+use Rattle.writer.specs.Write.{writeTables}
+use Rattle.file_writer.specs.FileWrite.{Writes}
 use Rattle.report.specs.Output.{Prints}
 use Rattle.rewrite_output.specs.RewriteLaws.{bytes-printed, refused-short, refused-printed}
 use borrow.Author.Needs.{needs}

@@ -5,10 +5,11 @@ use mathlib.Core.List.{List}
 use native.Mathlib.Omega.{arith}
 use denote.Ref.{now}
 use lib.ListN.{length, replicate}
-use Rattle.parser.specs.Parse.{Contents, statesAt, transitionsAt, afterStates}
+use Rattle.parser.specs.Parse.{Contents, afterStates}
+use Rattle.graph_lines.specs.StateLines.{statesAt}
+use Rattle.graph_lines.specs.TransitionLines.{transitionsAt, FillsTable}
 use Rattle.frame.specs.Phase.{Phase, andThen}
-use Rattle.parser.specs.PhaseAnswers.{FillsTable}
-use Rattle.parser.specs.declared.Sets.{Sets}
+use Rattle.graph_lines.specs.declared.Sets.{Sets}
 use Rattle.frame.specs.declared.End.{End}
 use Rattle.parser.specs.FileLaws.{sets-zero, behind-zero, refused-by-states, states-pass, refused-by-transitions, transitions-pass}
 use borrow.Author.Needs.{needs}

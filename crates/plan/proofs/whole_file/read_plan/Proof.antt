@@ -5,9 +5,9 @@ use mathlib.Core.List.{List, [], map}
 use lib.ListN.{length-map}
 use native.Mathlib.Omega.{arith}
 use Rattle.gate.specs.GateLaws.{same-cleared}
-use Rattle.text.specs.Pair.{wordAndPair}
+use Rattle.columns.specs.Pair.{wordAndPair}
 use Rattle.names.specs.Name.{compose}
-use Rattle.names.specs.RowsLaws.{only-none}
+use Rattle.name_rows.specs.RowsLaws.{only-none}
 use Rattle.format.specs.Format.{Sheet}
 use Rattle.frame.specs.declared.Position.{Position}
 use Rattle.frame.specs.declared.End.{End}
@@ -15,15 +15,16 @@ use Rattle.frame.specs.declared.End.the-variants as E
 use Rattle.frame.specs.Phase.{passed}
 use Rattle.frame.specs.Answers.{FirstFits}
 use Rattle.frame.specs.FirstLaws.{first-passed, first-refused}
-use Rattle.plan.specs.declared.Letters.{Letters}
+use Rattle.plan_lines.specs.declared.Letters.{Letters}
 use Rattle.plan.specs.declared.Planned.the-variants as P
 use Rattle.plan.specs.Plan.{planWord, LengthsRight}
-use Rattle.plan.specs.Parse.{lengths, planBounds, planHeadOf, lettersAt, planOf}
-use Rattle.plan.specs.Answers.{PlaceFits, LettersRead, planned}
-use Rattle.sheet.specs.Answers.{NamesIn}
+use Rattle.plan.specs.Parse.{lengths, planBounds, planHeadOf, planOf}
+use Rattle.plan_lines.specs.LetterLines.{lettersAt, PlaceFits, LettersRead}
+use Rattle.plan.specs.Answers.{planned}
+use Rattle.parser.specs.LettersOf.{NamesIn}
 use Rattle.plan.specs.Read.{ReadsPlan}
 use Rattle.plan.specs.ReadLaws.{reads}
-use Rattle.plan.specs.StepLaws.{EndLeaves, letters-refused, plan-ended}
+use Rattle.plan.specs.FileLaws.{EndLeaves, letters-refused, plan-ended}
 use borrow.Author.Needs.{needs}
 use Rattle.plan.proofs.whole_file.read_plan.Statement.{statement}
 use Rattle.plan.proofs.whole_file.read_plan.Tie as tie

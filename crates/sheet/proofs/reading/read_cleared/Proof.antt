@@ -8,7 +8,7 @@ use Rattle.automaton.specs.Lent.{WitnessTables, witnessTables, clearedWitness}
 use Rattle.parser.specs.Parse.{parse}
 use Rattle.parser.specs.PhaseAnswers.{FileRead}
 use Rattle.parser.specs.declared.File.{File}
-use Rattle.sheet.specs.AnswersLaws.{FileAccepted, read-accepted}
+use Rattle.parser.specs.LettersOfLaws.{FileAccepted, read-accepted}
 use Rattle.sheet.specs.ReadLaws.{asked, free-accepts, meeting-refuses, fault-refuses}
 use borrow.Author.Needs.{needs}
 use Rattle.sheet.proofs.reading.read_cleared.Statement.{statement}

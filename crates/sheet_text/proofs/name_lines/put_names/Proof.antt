@@ -5,7 +5,7 @@ use borrow.Author.Needs.{needs}
 use denote.Ref.{now}
 use Rattle.format.specs.FormatLaws.{name-length}
 use Rattle.text.specs.PiecesLaws.{Putting, put-none, put-room, put-more, put-all, put-end}
-use Rattle.sheet_text.specs.RowNames.{rowName}
+use Rattle.sheet_lines.specs.RowName.{rowName}
 use Rattle.sheet_text.specs.RowNamesLaws.{rowText, names-pieces}
 use Rattle.sheet_text.proofs.name_lines.put_names.Statement.{statement}
 use Rattle.sheet_text.proofs.name_lines.put_names.Tie as tie

@@ -1,0 +1,9 @@
+pub mod Column
+pub mod Number
+pub mod Line
+pub mod Pair
+pub mod ColumnLaws
+pub mod NumberLaws
+pub mod LineLaws
+pub mod PairLaws
+pub mod Unfold

@@ -1,0 +1,216 @@
+-- Each answer is that of the questions on the way to it. Assumes nothing.
+use mathlib.Core.Path.{_≡_, refl, sym, subst, _∙_}
+use native.Mathlib.Omega.{arith}
+use lib.Seq.{length-take-le}
+use Rattle.gate.specs.GateLaws.{same-cleared}
+use Rattle.automaton.specs.Lent.{witnessTables}
+use Rattle.sheet.specs.Read.{readTables, ReadsNamed}
+use Rattle.sheet.specs.ReadLaws.{read-fits}
+use Rattle.sheet.specs.declared.Read.{Read}
+use Rattle.sheet.specs.declared.Read.the-variants.{Is}
+use Rattle.file_tracker.specs.FileBuild.{Builds}
+use Rattle.file_tracker.specs.FileBuildLaws.{file-over, file-is, rows-is}
+use borrow.Author.Needs.{needs}
+use Rattle.file_tracker.proofs.build_long.Statement.{statement}
+use Rattle.file_tracker.proofs.build_long.Tie as tie
+
+-- the file is read
+abbrev start : tie.After-read-long → tie.Start
+start c = c .before .before .before .before .before .before .before .before .before .before .before .before .before .before
+
+abbrev Read-as : tie.After-read-long → Read → Type 0
+Read-as c r =
+    let a = start c .args in
+    let w = c .read-long .last .1 in
+    ReadsNamed (a .sheet .now) (readTables (a .table .now) (a .rows .now) (witnessTables (a .word .now) (a .one .now) (a .other .now)))
+    (readTables (w .0) (w .1 .0) (witnessTables (w .1 .1 .0) (w .1 .1 .1 .0) (w .1 .1 .1 .1 .0))) r
+
+read-as : (c : tie.After-read-long) (r : Read) → c .read-long .result ≡ r → Read-as c r
+read-as c r told = subst (Read-as c) told (c .read-long .ensures)
+
+-- an accepted sheet
+abbrev reading : tie.After-a → tie.After-read-long
+reading c = c .before .before .before .before .before .before .before .before .before .before .before .before
+
+accepted : (c : tie.After-a) → Read-as (reading c) (Is (c .a .given .0 .0))
+accepted c = read-as (reading c) _ (c .a .given .1)
+
+-- reading, from the ends: the file is refused, its tuples are too many, its tracker is built
+abbrev refused-at : tie.After-slice-known14 → tie.After-read-long
+refused-at c = c .before .before .before .before .before .before .before .before .before .before .before .before .before .before .before .before .before .before .before .before
+
+abbrev over-at : tie.After-slice-known18 → tie.After-read-long
+over-at c = c .before .before .before .before .before .before .before .before .before .before .before .before .before .before .before .before .before .before .before .before .before .before .before .before .before .before .before .before .before .before .before
+
+abbrev built-at : tie.After-enum-told2 → tie.After-read-long
+built-at c = c .before .before .before .before .before .before .before .before .before .before .before .before .before .before .before .before .before .before .before .before .before .before .before
+
+read-long-requires : tie.Need-read-long-requires
+read-long-requires c κs = search needs
+
+enum-known-r : tie.Need-enum-known-r
+enum-known-r c = search needs
+
+clear-requires : tie.Need-clear-requires
+clear-requires c κs = search needs
+
+enum-known-a : tie.Need-enum-known-a
+enum-known-a c = search needs
+
+slice-reshare-prefix-track : tie.Need-slice-reshare-prefix-track
+slice-reshare-prefix-track c = search needs
+
+slice-aggregate-track : tie.Need-slice-aggregate-track
+slice-aggregate-track c =
+    let read = reading (c .before .before) in
+    sym (length-take-le 128 (read .read-long .last .1 .0) (omega (arith, start read .pre .0 .lengths .cells, read .read-long .kept .1 .0)))
+
+track-requires : tie.Need-track-requires
+track-requires c κs =
+    let told = c .before .before .before .before in
+    (read-fits (accepted told), start (reading told) .pre .0 .tracker)
+
+enum-told : tie.Need-enum-told
+enum-told c = search needs
+
+clear-requires-2 : tie.Need-clear-requires-2
+clear-requires-2 c κs = search needs
+
+clear-bytes-requires : tie.Need-clear-bytes-requires
+clear-bytes-requires c κs = search needs
+
+enum-told-2 : tie.Need-enum-told-2
+enum-told-2 c = search needs
+
+same-length : tie.Need-same-length
+same-length c = refused-at c .read-long .kept .1 .0
+
+same-length-2 : tie.Need-same-length-2
+same-length-2 c = refused-at c .read-long .kept .1 .1 .0
+
+same-length-3 : tie.Need-same-length-3
+same-length-3 c = c .before .before .before .before .clear .kept .0
+
+same-length-4 : tie.Need-same-length-4
+same-length-4 c = c .before .before .before .before .clear .kept .1 .0
+
+same-length-5 : tie.Need-same-length-5
+same-length-5 c = refused-at c .read-long .kept .1 .1 .1 .0
+
+same-length-6 : tie.Need-same-length-6
+same-length-6 c = refused-at c .read-long .kept .1 .1 .1 .1 .0
+
+same-length-7 : tie.Need-same-length-7
+same-length-7 c = refused-at c .read-long .kept .1 .1 .1 .1 .1 .0
+
+returns : tie.Need-returns
+returns c =
+    let cleared = c .before .before .before .before in
+    let told = cleared .before .before .before .before in
+    let read = told .before .before .before .before .before .before .before .before .before .before .before .before in
+    let refused = read-as read _ (told .r .given .1) in
+    (Builds.refused (start read .pre .0) (told .r .given .0 .0) (refused .0) refl (refused .1) (cleared .clear .ensures), refused .2)
+
+same-length-8 : tie.Need-same-length-8
+same-length-8 c = c .before .before .before .before .before .before .clear2 .kept .0 ∙ over-at c .read-long .kept .1 .0
+
+same-length-9 : tie.Need-same-length-9
+same-length-9 c = c .before .before .clear-bytes .kept .0 ∙ over-at c .read-long .kept .1 .1 .0
+
+same-length-10 : tie.Need-same-length-10
+same-length-10 c = c .before .before .before .before .before .before .before .before .before .before .before .before .before .before .track .kept .1 .1 .1 .0
+
+same-length-11 : tie.Need-same-length-11
+same-length-11 c = c .before .before .before .before .before .before .before .before .before .before .before .before .before .before .track .kept .1 .1 .1 .1 .0
+
+same-length-12 : tie.Need-same-length-12
+same-length-12 c = over-at c .read-long .kept .1 .1 .1 .0
+
+same-length-13 : tie.Need-same-length-13
+same-length-13 c = over-at c .read-long .kept .1 .1 .1 .1 .0
+
+same-length-14 : tie.Need-same-length-14
+same-length-14 c = over-at c .read-long .kept .1 .1 .1 .1 .1 .0
+
+returns-2 : tie.Need-returns-2
+returns-2 c =
+    let names = c .before .before in
+    let sets = names .before .before .before .before in
+    let over = sets .before .before in
+    let tracked = over .before .before .before .before .before .before in
+    let told = tracked .before .before .before .before .before in
+    let lent = start (reading told) .args in
+    let read = reading told .read-long in
+    rw (over .enum-told .given .1) (
+      file-over (start (reading told) .pre .0) (accepted told) (rw (over .enum-told .given .1) at (tracked .track .ensures))
+          (sets .clear2 .ensures ∙ same-cleared (lent .table .now) (read .last .1 .0) (read .kept .1 .0)),
+      names .clear-bytes .ensures ∙ same-cleared (lent .rows .now) (read .last .1 .1 .0) (read .kept .1 .1 .0),
+    )
+
+same-length-15 : tie.Need-same-length-15
+same-length-15 c = built-at c .read-long .kept .1 .0
+
+same-length-16 : tie.Need-same-length-16
+same-length-16 c = built-at c .read-long .kept .1 .1 .0
+
+same-length-17 : tie.Need-same-length-17
+same-length-17 c = c .before .before .before .before .before .before .track .kept .1 .1 .1 .0
+
+same-length-18 : tie.Need-same-length-18
+same-length-18 c = c .before .before .before .before .before .before .track .kept .1 .1 .1 .1 .0
+
+same-length-19 : tie.Need-same-length-19
+same-length-19 c = built-at c .read-long .kept .1 .1 .1 .0
+
+same-length-20 : tie.Need-same-length-20
+same-length-20 c = built-at c .read-long .kept .1 .1 .1 .1 .0
+
+same-length-21 : tie.Need-same-length-21
+same-length-21 c = built-at c .read-long .kept .1 .1 .1 .1 .1 .0
+
+returns-3 : tie.Need-returns-3
+returns-3 c =
+    let tracked = c .before .before .before .before .before .before in
+    let told = tracked .before .before .before .before .before in
+    let is = rw (c .enum-told2 .given .1) at (tracked .track .ensures) in
+    rw (c .enum-told2 .given .1) (file-is (start (reading told) .pre .0) (accepted told) is, rows-is (start (reading told) .pre .0) (accepted told) is)
+
+pub build-long-spec : {M : Type 1} → statement M
+build-long-spec =
+    tie.close
+    (tie.spec
+    read-long-requires
+    enum-known-r
+    clear-requires
+    enum-known-a
+    slice-reshare-prefix-track
+    slice-aggregate-track
+    track-requires
+    enum-told
+    clear-requires-2
+    clear-bytes-requires
+    enum-told-2
+    same-length
+    same-length-2
+    same-length-3
+    same-length-4
+    same-length-5
+    same-length-6
+    same-length-7
+    returns
+    same-length-8
+    same-length-9
+    same-length-10
+    same-length-11
+    same-length-12
+    same-length-13
+    same-length-14
+    returns-2
+    same-length-15
+    same-length-16
+    same-length-17
+    same-length-18
+    same-length-19
+    same-length-20
+    same-length-21
+    returns-3)

@@ -1,0 +1,42 @@
+-- What building a tracker from a sheet file answers, and what the lent tables hold then.
+use Prim.Native.Nat.{ℕ, _*_}
+use mathlib.Core.Path.{_≡_}
+use mathlib.Core.List.{List}
+use lib.ListN.{drop}
+use Rattle.gate.specs.Gate.{refusal, cleared}
+use Rattle.gate.specs.declared.Refusal.{Refusal}
+use Rattle.automaton.specs.Lent.{clearedWitness, lentTable}
+use Rattle.format.specs.Format.{Sheet}
+use Rattle.format.specs.Numbers.{numbers}
+use Rattle.parser.specs.LettersOf.{LettersOf}
+use Rattle.sheet.specs.Read.{Accepted, Refuses}
+use Rattle.filling.specs.TrackerTables.{clearedTracker}
+use Rattle.tracker.specs.declared.Built.{Built}
+use Rattle.tracker.specs.declared.Built.the-variants.{Refused, Is}
+use Rattle.tracker.specs.Build.{BuildTables, EnoughToBuild, Tracks}
+
+-- a lent table of successor sets behind question 11: all zero with a refusal, and the sheet's with its tracker
+abbrev pub TableIs : List ℕ → List ℕ → List ℕ → Built → Type 0
+TableIs sets before after (Refused r) = after ≡ cleared before
+TableIs sets before after (Is x) = after ≡ lentTable sets before
+
+-- BUILDING FROM A SHEET FILE s
+pub data Builds (s : List ℕ) (room : ℕ) (before after : BuildTables) (b : Built) : Type 0 where
+  -- 1, asked first: nothing is touched
+  short : (EnoughToBuild room before → ⊥) → b ≡ Refused (refusal 1 0) → after ≡ before → Builds s room before after b
+  -- 2 to 10
+  refused : EnoughToBuild room before → (r : Refusal) → Refuses s (before .witness) (after .witness) r → b ≡ Refused r
+      → after .successors ≡ cleared (before .successors) → after .tracker ≡ clearedTracker (before .tracker) → Builds s room before after b
+  -- 11, or the tracker
+  asked : EnoughToBuild room before → (σ : Sheet) → Accepted s σ → after .witness ≡ clearedWitness (before .witness)
+      → Tracks (numbers σ) room (before .tracker) (after .tracker) b → TableIs (numbers σ .table) (before .successors) (after .successors) b
+      → Builds s room before after b
+
+-- the rows of the names behind building: all zero with a refusal, else the sheet's composed names, and behind them zeros
+abbrev pub RowsBuilt : List ℕ → List ℕ → List ℕ → Built → Type 0
+RowsBuilt s old rows (Refused r) = rows ≡ cleared old
+RowsBuilt s old rows (Is x) = LettersOf s rows (x .numbers) × (drop (24 * x .numbers .k) rows ≡ drop (24 * x .numbers .k) (cleared old))
+
+-- THE SAME WITH THE NAMES, for the calls that go on with a tracker once it is built
+abbrev pub BuildsNamed : List ℕ → ℕ → BuildTables → BuildTables → List ℕ → List ℕ → Built → Type 0
+BuildsNamed s room before after old rows b = Builds s room before after b × RowsBuilt s old rows b

@@ -1,0 +1,63 @@
+-- The answers of building from a sheet file, one by one. Assumes nothing.
+use Prim.Native.Nat.{ℕ, _*_}
+use mathlib.Core.Path.{_≡_, sym, subst, _∙_}
+use mathlib.Core.List.{List}
+use lib.ListN.{take, drop}
+use Rattle.gate.specs.Gate.{cleared}
+use Rattle.gate.specs.declared.Refusal.{Refusal}
+use Rattle.automaton.specs.Automaton.{Automaton, automaton, AreNumbers}
+use Rattle.automaton.specs.Lent.{clearedWitness, lentTable}
+use Rattle.automaton.specs.declared.Numbers.{Numbers}
+use Rattle.format.specs.Format.{Sheet}
+use Rattle.format.specs.Numbers.{numbers}
+use Rattle.parser.specs.LettersOf.{LettersOf}
+use Rattle.sheet.specs.Read.{Accepted, ReadTables, readTables, SheetRead}
+use Rattle.sheet.specs.ReadLaws.{read-automaton}
+use Rattle.filling.specs.TrackerTables.{TrackerTables, Fitted}
+use Rattle.tracker.specs.declared.Tracker.{Tracker}
+use Rattle.tracker.specs.declared.Built.the-variants.{Refused, Is}
+use Rattle.tracker.specs.Build.{BuildTables, buildTables, EnoughToBuild, Tracks}
+use Rattle.tracker.specs.BuildLaws.{no-refusal}
+use Rattle.file_tracker.specs.FileBuild.{Builds, RowsBuilt, BuildsNamed}
+
+-- a sheet that is read is one whose names are in the rows
+read-letters : {s : List ℕ} {before after : ReadTables} {a : Numbers} → SheetRead s before after a → LettersOf s (after .rows) a
+unfolding numbers
+read-letters h =
+    let range = h .accepted .file .right .range in
+    record { sheet = h .sheet; file = h .accepted .file; are = h .are; range = rw (h .are .n, h .are .k) range; names = h .names }
+
+-- a tracker's numbers are those that it is built from
+same-numbers : {a b : Numbers} {table : List ℕ} → AreNumbers (automaton a table) b → a ≡ b
+same-numbers are = sym (λ i. record { n = are .n i; k = are .k i; initial = are .initial i; recurring = are .recurring i })
+
+-- FROM A SHEET FILE that is read, with names in rows; the tables hold what is read then
+module _ {s : List ℕ} {room : ℕ} {before : BuildTables} (lent : EnoughToBuild room before) {rows : List ℕ} {read : ReadTables} {a : Numbers}
+    (h : SheetRead s (readTables (before .successors) rows (before .witness)) read a) {tracker : TrackerTables} where
+  -- 11
+  pub file-over : {r : Refusal} {successors : List ℕ} → Tracks (automaton a (take 128 (read .successors))) room (before .tracker) tracker (Refused r)
+      → successors ≡ cleared (before .successors) → Builds s room before (buildTables successors (read .witness) tracker) (Refused r)
+  file-over {r} over e =
+      Builds.asked lent (h .sheet) (h .accepted) (h .witness)
+      (subst (λ (A : Automaton). Tracks A room (before .tracker) tracker (Refused r)) (read-automaton h) over) e
+
+  pub file-is : {x : Tracker} → Tracks (automaton a (take 128 (read .successors))) room (before .tracker) tracker (Is x)
+      → Builds s room before (buildTables (read .successors) (read .witness) tracker) (Is x)
+  file-is {x} is =
+      Builds.asked lent (h .sheet) (h .accepted) (h .witness)
+      (subst (λ (A : Automaton). Tracks A room (before .tracker) tracker (Is x)) (read-automaton h) is) (h .successors)
+
+  -- and its names
+  pub rows-is : {x : Tracker} → Tracks (automaton a (take 128 (read .successors))) room (before .tracker) tracker (Is x) → RowsBuilt s rows (read .rows) (Is x)
+  rows-is (are, fitted) =
+      subst (λ (b : Numbers). LettersOf s (read .rows) b × (drop (24 * b .k) (read .rows) ≡ drop (24 * b .k) (cleared rows))) (same-numbers are) (read-letters h, h .behind)
+
+-- WHAT A TRACKER TELLS of the questions on the way to it
+pub file-built : {s : List ℕ} {room : ℕ} {before after : BuildTables} {x : Tracker} → Builds s room before after (Is x)
+    → EnoughToBuild room before
+    × ((σ : Sheet) × Accepted s σ × AreNumbers (numbers σ) (x .numbers) × (after .successors ≡ lentTable (numbers σ .table) (before .successors))
+    × Fitted (numbers σ) room (before .tracker) (after .tracker) (x .tuples))
+    × (after .witness ≡ clearedWitness (before .witness))
+file-built (Builds.short n e same) = absurd (no-refusal e)
+file-built (Builds.refused l r h e o c) = absurd (no-refusal e)
+file-built (Builds.asked l σ y c (a, h) o) = (l, (σ, y, a, o, h), c)

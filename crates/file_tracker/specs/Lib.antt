@@ -1,0 +1,2 @@
+pub mod FileBuild
+pub mod FileBuildLaws

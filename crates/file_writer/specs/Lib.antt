@@ -1,0 +1,4 @@
+pub mod FileWrite
+pub mod Same
+pub mod FileRoundTrip
+pub mod FileWriteLaws

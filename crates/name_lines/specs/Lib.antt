@@ -1,0 +1,5 @@
+pub mod NameLines
+pub mod NameLaws
+pub mod NameUniqueLaws
+pub mod NameStepLaws
+pub mod Unfold

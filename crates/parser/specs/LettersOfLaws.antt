@@ -1,0 +1,59 @@
+-- What the answer of a whole file says of the file: the theorem of ParseLaws, put to use. Assumes nothing.
+use Prim.Native.Nat.{ℕ, _*_}
+use mathlib.Core.Path.{_≡_, sym, _∙_, ap, subst}
+use mathlib.Core.List.{List}
+use native.Mathlib.Omega.{arith}
+use lib.ListN.{drop}
+use Rattle.gate.specs.Gate.{RefusedBy, cleared}
+use Rattle.gate.specs.declared.Refusal.{Refusal}
+use Rattle.automaton.specs.Automaton.{AreNumbers}
+use Rattle.automaton.specs.declared.Numbers.{Numbers}
+use Rattle.automaton.specs.Lent.{lentTable}
+use Rattle.name_rows.specs.Rows.{HoldNames}
+use Rattle.format.specs.Format.{Sheet, FileIs, Faulty}
+use Rattle.format.specs.Numbers.{numbers}
+use Rattle.parser.specs.Parse.{Contents, parse}
+use Rattle.frame.specs.Phase.{Phase, refused, passed}
+use Rattle.parser.specs.ParseLaws.{Means, AreContents, parse-means}
+use Rattle.parser.specs.PhaseAnswers.{numbersOf, FileRead}
+use Rattle.parser.specs.declared.File.the-variants as F
+use Rattle.parser.specs.LettersOf.{NamesIn, LettersOf}
+
+-- a file that is read: its numbers and names, and its successor sets
+pub record FileAccepted (s t u old rows : List ℕ) (a : Numbers) : Type 0 where
+  pub letters : LettersOf s rows a
+  pub table : u ≡ lentTable (numbers (letters .sheet) .table) t
+  pub behind : drop (24 * a .k) rows ≡ drop (24 * a .k) (cleared old)
+
+are-numbers : (σ : Sheet) {a : Numbers} → a ≡ numbersOf (numbers σ) → AreNumbers (numbers σ) a
+are-numbers σ e = record { n = ap (λ z. z .n) e; k = ap (λ z. z .k) e; initial = ap (λ z. z .initial) e; recurring = ap (λ z. z .recurring) e }
+
+names-in : {s rows : List ℕ} (σ : Sheet) {a : Numbers} → FileIs s σ → a ≡ numbersOf (numbers σ) → {c : Contents} → AreContents σ c → HoldNames (c .names) rows
+    → NamesIn σ (a .k) rows
+unfolding numbers
+names-in {rows = rows} σ file e are holds =
+    let k : σ .k ≡ _ = sym (ap (λ (z : Numbers). z .k) e) in
+    record { letters = k; all-names = file .all-names ∙ k; holds = subst (λ (names : List (List ℕ)). HoldNames names rows) (are .names) holds }
+
+module _ (s t u old rows : List ℕ) where
+  pub file-refused : (r : Refusal) → FileRead (parse s) t u old rows (F.Refused r) → RefusedBy (Faulty s) r × (u ≡ cleared t) × (rows ≡ cleared old)
+  file-refused r = cases (parse s) (parse-means s)
+    where
+      cases : (p : Phase Contents) → Means s p → FileRead p t u old rows (F.Refused r) → RefusedBy (Faulty s) r × (u ≡ cleared t) × (rows ≡ cleared old)
+      cases (refused number line) m e = ((number, line, m, (let d = e .0 in cc)), e .1, e .2)
+      cases (passed c) m e = absurd (let d = e .0 in let z : _≡_ {A = ℕ} 0 1 = cc in omega arith)
+
+  pub read-accepted : (a : Numbers) → FileRead (parse s) t u old rows (F.Is a) → FileAccepted s t u old rows a
+  read-accepted a = cases (parse s) (parse-means s)
+    where
+      cases : (p : Phase Contents) → Means s p → FileRead p t u old rows (F.Is a) → FileAccepted s t u old rows a
+      cases (refused number line) m e = absurd (let d = e .0 in let z : _≡_ {A = ℕ} 0 1 = cc in omega arith)
+      cases (passed c) (σ, file, are) e =
+          let d : F.Is a ≡ F.Is (numbersOf (c .numbers)) = e .0 in
+          let h : a ≡ numbersOf (c .numbers) = cc in
+          let n : a ≡ numbersOf (numbers σ) = h ∙ ap numbersOf (are .numbers) in
+          record {
+            letters = record { sheet = σ; file = file; are = are-numbers σ n; range = rw h (e .2); names = names-in σ file n are (e .4) };
+            table = e .1 ∙ ap (λ A. lentTable (A .table) t) (are .numbers);
+            behind = rw h (e .5);
+          }

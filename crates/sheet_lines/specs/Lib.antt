@@ -1,0 +1,3 @@
+pub mod RowName
+pub mod LineLaws
+pub mod RowNameLaws

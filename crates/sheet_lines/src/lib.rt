@@ -1,0 +1,102 @@
+// One line of a sheet file, of each kind, at a position of the output.
+ghost use mathlib.Core.Path.{_≡_};
+ghost use Prim.Native.Nat.{_+_, _≤_, _<_};
+ghost use lib.ListN.{length};
+ghost use lib.Seq.{sets};
+ghost use mathlib.Core.List.{[], _∷_};
+ghost use Rattle.columns.specs.Line.{numbersLine};
+ghost use Rattle.sets.specs.Sets.{bit};
+ghost use Rattle.format.specs.Format.{headLine, nameLine, stateLine, transitionLine};
+ghost use Rattle.format.specs.Written.{stateOf, placed};
+ghost use Rattle.sheet_lines.specs.RowName.{rowName};
+
+// The first line.
+pub fn put_head(out: &mut [u8], at: usize, n: usize, k: usize)
+    requires { ⌜ at + 12 ≤ length (now out) ⌝ }
+    ensures { λ _. ⌜ now (out .exit) ≡ sets (now (out .entry)) at (headLine n k) ⌝ }
+{
+    text::put_bytes(out, at, b"SHEET");
+    columns::put_column(out, at + 5, 3, n);
+    columns::put_column(out, at + 8, 3, k);
+    out[at + 11] = 10;
+}
+
+// The line of a letter's name. The answer is the place behind it.
+fn put_name(out: &mut [u8], at: usize, letter: usize, name: &[u8]) -> usize
+    requires { ⌜ at + (6 + length (now name)) ≤ length (now out) ⌝ }
+    ensures { λ r. ⌜ (r ≡ at + (6 + length (now (name .entry))))
+        × (now (out .exit) ≡ sets (now (out .entry)) at (nameLine letter (now (name .entry)))) ⌝ }
+{
+    out[at] = b'N';
+    columns::put_column(out, at + 1, 3, letter);
+    out[at + 4] = b' ';
+    text::put_bytes(out, at + 5, name);
+    let behind = at + 5 + name.len();
+    out[behind] = 10;
+    behind + 1
+}
+
+// How many bytes the name in row l has.
+pub fn name_length(rows: &[u8], l: usize) -> usize
+    requires { ⌜ (l < 8) × (192 ≤ length (now rows)) ⌝ }
+    ensures { λ r. ⌜ (r ≡ length (rowName (now (rows .entry)) l)) × (r ≤ 24) ⌝ }
+{
+    let mut i = 0;
+    while i < 24 {
+        if rows[24 * l + i] == 0 {
+            return i;
+        }
+        i += 1;
+    }
+    i
+}
+
+// The line of the name in row l. The answer is the place behind it.
+pub fn put_row(out: &mut [u8], at: usize, rows: &[u8], l: usize) -> usize
+    requires { ⌜ (l < 8) × (192 ≤ length (now rows)) × (at + (6 + length (rowName (now rows) l)) ≤ length (now out)) ⌝ }
+    ensures { λ r. ⌜ (r ≡ at + (6 + length (rowName (now (rows .entry)) l)))
+        × (now (out .exit) ≡ sets (now (out .entry)) at (nameLine l (rowName (now (rows .entry)) l))) ⌝ }
+{
+    let start = 24 * l;
+    let end = start + name_length(rows, l);
+    put_name(out, at, l, &rows[start..end])
+}
+
+// The byte `kind` and three numbers: the line of a state or of a transition.
+fn put_columns(out: &mut [u8], at: usize, kind: u8, a: usize, b: usize, c: usize)
+    requires { ⌜ at + 11 ≤ length (now out) ⌝ }
+    ensures { λ _. ⌜ now (out .exit) ≡ sets (now (out .entry)) at (numbersLine (kind ∷ []) (a ∷ b ∷ c ∷ [])) ⌝ }
+{
+    out[at] = kind;
+    columns::put_column(out, at + 1, 3, a);
+    columns::put_column(out, at + 4, 3, b);
+    columns::put_column(out, at + 7, 3, c);
+    out[at + 10] = 10;
+}
+
+// 1 where q is a member of the set, and 0 where it is not.
+fn flag(set: u16, q: usize) -> usize
+    requires { ⌜ q < 16 ⌝ }
+    ensures { λ r. ⌜ r ≡ bit set q ⌝ }
+{
+    if sets::contains(set, q) {
+        return 1;
+    }
+    0
+}
+
+// The line of state q.
+pub fn put_state(out: &mut [u8], at: usize, q: usize, initial: u16, recurring: u16)
+    requires { ⌜ (q < 16) × (at + 11 ≤ length (now out)) ⌝ }
+    ensures { λ _. ⌜ now (out .exit) ≡ sets (now (out .entry)) at (stateLine q (stateOf initial recurring q)) ⌝ }
+{
+    put_columns(out, at, b'S', q, flag(initial, q), flag(recurring, q));
+}
+
+// The line of the transition at place i.
+pub fn put_transition(out: &mut [u8], at: usize, i: usize)
+    requires { ⌜ at + 11 ≤ length (now out) ⌝ }
+    ensures { λ _. ⌜ now (out .exit) ≡ sets (now (out .entry)) at (transitionLine (placed i)) ⌝ }
+{
+    put_columns(out, at, b'T', i / 128, i / 16 % 8, i % 16);
+}

@@ -1,0 +1,4 @@
+pub mod WitnessText
+pub mod Put
+pub mod PutLaws
+pub mod WitnessTextLaws
