@@ -1,12 +1,8 @@
--- The answers of the public calls in numbers, for callers that have no enums: the cells of each answer, and a lent table that holds them.
+-- The answers of the public calls in numbers, for callers that have no enums: the cells of each answer.
 use Prim.Native.Nat.{ℕ}
 use mathlib.Core.Path.{_≡_}
 use mathlib.Core.List.{List, [], _∷_}
-use lib.ListN.{length, take}
-use Rattle.gate.specs.Gate.{padded}
-use Rattle.gate.specs.declared.Refusal.{Refusal}
-use Rattle.gate.specs.declared.Written.{Written}
-use Rattle.gate.specs.declared.Written.the-variants.{Refused as WriteRefused, Bytes}
+use Rattle.cells.specs.Cells.{into, refusalCells}
 use Rattle.automaton.specs.Automaton.{Automaton}
 use Rattle.automaton.specs.declared.Numbers.{Numbers}
 use Rattle.walks.specs.declared.Checked.{Checked}
@@ -23,28 +19,11 @@ use Rattle.passes.specs.declared.Answer.the-variants.{Yes, No}
 use Rattle.judge.specs.declared.Outcome.{Outcome}
 use Rattle.judge.specs.declared.Outcome.the-variants.{Refused as JudgeRefused, Judged}
 
--- as much of a list as a lent table holds, with zeros behind it
-abbrev pub into : List ℕ → List ℕ → List ℕ
-into table list = take (length table) (padded (length table) list)
-
--- THE ANSWER OF A CALL IN NUMBERS: an answer that the call's contract allows, by its cells in a lent table that was a and is b
-pub record InNumbers {X : Type 0} (Call : X → Type 0) (cells : X → List ℕ) (a b : List ℕ) : Type 0 where
-  pub answer : X
-  pub call : Call answer
-  pub table : b ≡ into a (cells answer)
-
 -- a sheet as numbers, from a call's arguments
 abbrev pub asNumbers : ℕ → ℕ → ℕ → ℕ → List ℕ → Automaton
 asNumbers n k initial recurring table = record { n = n; k = k; initial = initial; recurring = recurring; table = table }
 
--- THE CELLS OF AN ANSWER. Where there are several cases the first cell tells which it is, and 0 is a refusal.
-
--- "A refusal is the number with the line"; behind them the length of the witness
-abbrev pub numberCells : Refusal → List ℕ
-numberCells r = r .number ∷ r .line ∷ r .length ∷ []
-
-abbrev pub refusalCells : Refusal → List ℕ
-refusalCells r = 0 ∷ numberCells r
+-- THE CELLS OF EACH ANSWER. As with a written text, the first cell tells the case, and 0 is a refusal.
 
 abbrev pub checkedCells : Checked → List ℕ
 checkedCells (CheckRefused r) = refusalCells r
@@ -56,10 +35,6 @@ sheetCells a = a .n ∷ a .k ∷ a .initial ∷ a .recurring ∷ []
 abbrev pub readCells : Read → List ℕ
 readCells (ReadRefused r) = refusalCells r
 readCells (ReadIs a) = 1 ∷ sheetCells a
-
-abbrev pub writtenCells : Written → List ℕ
-writtenCells (WriteRefused r) = refusalCells r
-writtenCells (Bytes count) = 1 ∷ count ∷ []
 
 abbrev pub foundCells : Found → List ℕ
 foundCells (FindRefused r) = refusalCells r
@@ -77,10 +52,6 @@ answerCell No = 2
 abbrev pub outcomeCells : Outcome → List ℕ
 outcomeCells (JudgeRefused r) = refusalCells r
 outcomeCells (Judged z) = answerCell (z .answer) ∷ z .least ∷ z .passes ∷ []
-
--- a name: how many bytes it has
-abbrev pub nameCells : List ℕ → List ℕ
-nameCells name = length name ∷ []
 
 -- the name of a letter, with its bytes in a lent buffer that was b and is c
 pub record NameCopied (s : List ℕ) (letter : ℕ) (b c : List ℕ) (name : List ℕ) : Type 0 where

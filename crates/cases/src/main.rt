@@ -143,7 +143,7 @@ fn say_answers(sheet: &[u8], plan: &[u8], room: usize) {
 
 // The sheet, and behind its END the plan.
 fn answer_in(input: &[u8], room: usize) {
-    let e = report::sheet_end(input);
+    let e = sheet_end::sheet_end(input);
     say_answers(&input[..e], &input[e..], room);
 }
 

@@ -3,7 +3,8 @@ ghost use Rattle.automaton.specs.Lent.{witnessTables};
 ghost use Rattle.automaton.specs.Successors.{Successors};
 ghost use Rattle.letters.specs.Letters.{NumberIs};
 ghost use Rattle.letter_search.specs.Find.{Finds};
-ghost use Rattle.answers.specs.Answer.{InNumbers, NameCopied, nameCells, numberCells, foundCells};
+ghost use Rattle.cells.specs.Cells.{InNumbers, nameCells, numberCells};
+ghost use Rattle.answers.specs.Answer.{NameCopied, foundCells};
 
 // `letters::name`, its bytes copied
 #[no_mangle]
@@ -12,8 +13,8 @@ pub extern "C" fn lunthomi_name(sheet: &[u8], letter: usize, out: &mut [u8], ans
         nameCells (now (answer .entry)) (now (answer .exit)) ⌝ }
 {
     let name = letters::name(sheet, letter);
-    answers::copy_bytes(name, out);
-    answers::put_length(name, answer);
+    cells::copy_bytes(name, out);
+    cells::put_length(name, answer);
 }
 
 // `letters::name_number`
@@ -23,7 +24,7 @@ pub extern "C" fn lunthomi_name_number(sheet: &[u8], letter: usize, answer: &mut
         numberCells (now (answer .entry)) (now (answer .exit)) ⌝ }
 {
     let r = letters::name_number(sheet, letter);
-    answers::put_number(r, answer);
+    cells::put_number(r, answer);
 }
 
 // `letter_search::find`

@@ -4,7 +4,8 @@ ghost use Rattle.walks.specs.Check.{Checks};
 ghost use Rattle.sheet.specs.Read.{sheetTables, Reads};
 ghost use Rattle.writer.specs.Write.{writeTables, WritesNumbers};
 ghost use Rattle.file_writer.specs.FileWrite.{Writes};
-ghost use Rattle.answers.specs.Answer.{InNumbers, asNumbers, checkedCells, readCells, writtenCells};
+ghost use Rattle.cells.specs.Cells.{InNumbers, writtenCells};
+ghost use Rattle.answers.specs.Answer.{asNumbers, checkedCells, readCells};
 use automaton::Numbers;
 
 // `walks::check`
@@ -69,7 +70,7 @@ pub extern "C" fn lunthomi_write(
         writtenCells (now (answer .entry)) (now (answer .exit)) ⌝ }
 {
     let r = file_writer::write(sheet, word, one, other, out);
-    answers::put_written(r, answer);
+    cells::put_written(r, answer);
 }
 
 // `writer::write_numbers`
@@ -99,5 +100,5 @@ pub extern "C" fn lunthomi_write_numbers(
         recurring,
     };
     let r = writer::write_numbers(a, table, names, word, one, other, out);
-    answers::put_written(r, answer);
+    cells::put_written(r, answer);
 }

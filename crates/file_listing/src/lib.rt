@@ -1,10 +1,23 @@
 // The listing of a tracker from a sheet file.
 use gate::Written;
 use tracker::Built;
+ghost use mathlib.Core.Path.{_≡_};
+ghost use Rattle.gate.specs.Gate.{cleared};
 ghost use Rattle.automaton.specs.Lent.{witnessTables};
 ghost use Rattle.filling.specs.TrackerTables.{trackerTables};
 ghost use Rattle.tracker.specs.Build.{buildTables};
+ghost use Rattle.listing.specs.List.{Left};
 ghost use Rattle.file_listing.specs.FileList.{listTables, Lists};
+
+// With a refusal of the last question the successor sets are cleared too. The answer stays.
+fn clear_refused(listed: Written, table: &mut [u16]) -> Written
+    ensures { λ r. ⌜ (r ≡ listed) × Left (cleared (now (table .entry))) (now (table .entry)) (now (table .exit)) r ⌝ }
+{
+    if let Written::Refused(_) = listed {
+        gate::clear(table);
+    }
+    listed
+}
 
 // The listing of the tracker of a sheet file.
 pub fn list(
@@ -28,10 +41,7 @@ pub fn list(
         Built::Refused(r) => gate::refuse(r, out),
         Built::Is(x) => {
             let listed = listing::finish(x.numbers.n, x.numbers.k, x.tuples, tuples, nexts, out);
-            if let Written::Refused(_) = listed {
-                gate::clear(table);
-            }
-            listed
+            clear_refused(listed, table)
         }
     }
 }

@@ -1,6 +1,6 @@
 -- The answers of building from a sheet file, one by one. Assumes nothing.
 use Prim.Native.Nat.{ℕ, _*_}
-use mathlib.Core.Path.{_≡_, sym, subst, _∙_}
+use mathlib.Core.Path.{_≡_, sym, subst}
 use mathlib.Core.List.{List}
 use lib.ListN.{take, drop}
 use Rattle.gate.specs.Gate.{cleared}
@@ -18,18 +18,25 @@ use Rattle.tracker.specs.declared.Tracker.{Tracker}
 use Rattle.tracker.specs.declared.Built.the-variants.{Refused, Is}
 use Rattle.tracker.specs.Build.{BuildTables, buildTables, EnoughToBuild, Tracks}
 use Rattle.tracker.specs.BuildLaws.{no-refusal}
-use Rattle.file_tracker.specs.FileBuild.{Builds, RowsBuilt, BuildsNamed}
-
--- a sheet that is read is one whose names are in the rows
-read-letters : {s : List ℕ} {before after : ReadTables} {a : Numbers} → SheetRead s before after a → LettersOf s (after .rows) a
-unfolding numbers
-read-letters h =
-    let range = h .accepted .file .right .range in
-    record { sheet = h .sheet; file = h .accepted .file; are = h .are; range = rw (h .are .n, h .are .k) range; names = h .names }
+use Rattle.file_tracker.specs.FileBuild.{Builds, RowsBuilt}
 
 -- a tracker's numbers are those that it is built from
 same-numbers : {a b : Numbers} {table : List ℕ} → AreNumbers (automaton a table) b → a ≡ b
 same-numbers are = sym (λ i. record { n = are .n i; k = are .k i; initial = are .initial i; recurring = are .recurring i })
+
+-- THE NAMES of a sheet that is read go with its tracker
+module _ {s : List ℕ} {before after : ReadTables} {a : Numbers} (h : SheetRead s before after a) where
+  read-letters : LettersOf s (after .rows) a
+  unfolding numbers
+  read-letters =
+      let range = h .accepted .file .right .range in
+      record { sheet = h .sheet; file = h .accepted .file; are = h .are; range = rw (h .are .n, h .are .k) range; names = h .names }
+
+  pub rows-built : {room : ℕ} {lent tracker : TrackerTables} {x : Tracker} → Tracks (automaton a (take 128 (after .successors))) room lent tracker (Is x)
+      → RowsBuilt s (before .rows) (after .rows) (Is x)
+  rows-built (are, fitted) =
+      subst (λ (b : Numbers). LettersOf s (after .rows) b × (drop (24 * b .k) (after .rows) ≡ drop (24 * b .k) (cleared (before .rows)))) (same-numbers are)
+      (read-letters, h .behind)
 
 -- FROM A SHEET FILE that is read, with names in rows; the tables hold what is read then
 module _ {s : List ℕ} {room : ℕ} {before : BuildTables} (lent : EnoughToBuild room before) {rows : List ℕ} {read : ReadTables} {a : Numbers}
@@ -46,11 +53,6 @@ module _ {s : List ℕ} {room : ℕ} {before : BuildTables} (lent : EnoughToBuil
   file-is {x} is =
       Builds.asked lent (h .sheet) (h .accepted) (h .witness)
       (subst (λ (A : Automaton). Tracks A room (before .tracker) tracker (Is x)) (read-automaton h) is) (h .successors)
-
-  -- and its names
-  pub rows-is : {x : Tracker} → Tracks (automaton a (take 128 (read .successors))) room (before .tracker) tracker (Is x) → RowsBuilt s rows (read .rows) (Is x)
-  rows-is (are, fitted) =
-      subst (λ (b : Numbers). LettersOf s (read .rows) b × (drop (24 * b .k) (read .rows) ≡ drop (24 * b .k) (cleared rows))) (same-numbers are) (read-letters h, h .behind)
 
 -- WHAT A TRACKER TELLS of the questions on the way to it
 pub file-built : {s : List ℕ} {room : ℕ} {before after : BuildTables} {x : Tracker} → Builds s room before after (Is x)

@@ -4,7 +4,7 @@ use mathlib.Core.Path.{_≡_}
 use mathlib.Core.List.{List, _++_}
 use lib.ListN.{length, getD, set, replicate}
 use Rattle.gate.specs.Gate.{cleared}
-use Rattle.rows.specs.Rows.{Indexed}
+use Rattle.row_index.specs.Index.{Indexed}
 use Rattle.automaton.specs.Automaton.{Automaton, Fits}
 use Rattle.tuple.specs.Colour.{neutral}
 use Rattle.tuple.specs.Step.{Tuple}

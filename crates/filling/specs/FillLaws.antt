@@ -10,7 +10,8 @@ use lib.ListN.{length, getD, set, replicate, length-set, length-replicate}
 use lib.Seq.{sets, length-sets, getD-set-same, getD-set-other}
 use Rattle.lists.specs.AppendLaws.{length-more}
 use Rattle.gate.specs.GateLaws.{zeros, length-cleared}
-use Rattle.rows.specs.Rows.{rowAt, Indexed, Added, FoundOrAdded}
+use Rattle.row_index.specs.Index.{rowAt, Indexed, Added}
+use Rattle.rows.specs.Rows.{FoundOrAdded}
 use Rattle.automaton.specs.Automaton.{Automaton, Fits}
 use Rattle.gate.specs.Gate.{cleared}
 use Rattle.tuple.specs.Colour.{neutral}

@@ -7,7 +7,7 @@ use native.Mathlib.Decide.{decLt}
 use native.Mathlib.Omega.{arith}
 use lib.ListN.{length, getD, replicate, length-append, length-replicate}
 use lib.Seq.{getD-append-add}
-use Rattle.rows.specs.Rows.{rowAt}
+use Rattle.row_index.specs.Index.{rowAt}
 use Rattle.lists.specs.CellsLaws.{part-at}
 use Rattle.automaton.specs.Automaton.{Automaton, Fits}
 use Rattle.tuple.specs.Step.{Tuple, setAt, first, Formed}

@@ -6,7 +6,7 @@ use native.Mathlib.Omega.{arith}
 use lib.ListN.{length, getD, replicate, length-append, length-replicate}
 use lib.Seq.{take-at, drop-at, drop-drop, sets, sets-eq}
 use Rattle.gate.specs.GateLaws.{drop-zeros}
-use Rattle.rows.specs.Rows.{rowAt}
+use Rattle.row_index.specs.Index.{rowAt}
 use Rattle.automaton.specs.Automaton.{Automaton, Fits}
 use Rattle.tuple.specs.Step.{Tuple, first, Formed}
 use Rattle.tuple.specs.Row.{row}

@@ -3,7 +3,7 @@ use automaton::Numbers;
 ghost use mathlib.Core.Path.{_≡_};
 ghost use Prim.Native.Nat.{_<_, _≤_, _+_, _/_, _%_};
 ghost use lib.ListN.{length};
-ghost use Rattle.rows.specs.Rows.{rowAt, Added};
+ghost use Rattle.row_index.specs.Index.{rowAt, Added};
 ghost use Rattle.automaton.specs.Automaton.{automaton};
 ghost use Rattle.tuple.specs.Step.{next};
 ghost use Rattle.tuple.specs.Row.{row, tupleOf, Steps};
@@ -15,7 +15,7 @@ fn begin(a: Numbers, tuples: &mut [u16], head: &mut [u16], link: &mut [u16])
     requires { ⌜ (a .n ≤ 16) × (17 ≤ length (now tuples)) × NoRows (now head) (now link) ⌝ }
     ensures { λ _. ⌜ Added (now (tuples .entry)) (now (tuples .exit)) 0 (firstCells (a .n) (a .initial)) (now (head .exit)) (now (link .exit)) ⌝ }
 {
-    let mut w = [0u16; rows::CELLS];
+    let mut w = [0u16; row_index::CELLS];
     w[0] = a.initial;
     let neutral = tuple::Colour::neutral(a.n);
     w[16] = neutral.0;
@@ -49,7 +49,7 @@ fn expand(
     if a.k <= c % 8 {
         return m;
     }
-    let mut w = [0u16; rows::CELLS];
+    let mut w = [0u16; row_index::CELLS];
     enter(a, table, tuples, c, &mut w);
     let t = rows::find_or_add(tuples, m, room, &w, head, link);
     if room <= t {
@@ -67,8 +67,8 @@ pub fn fill(a: Numbers, table: &[u16], room: usize, tuples: &mut [u16], nexts: &
     requires { ⌜ Filling (automaton a (now table)) room (trackerTables (now tuples) (now nexts)) ⌝ }
     ensures { λ r. ⌜ Fills (automaton a (now (table .entry))) room (trackerTables (now (tuples .entry)) (now (nexts .entry))) (trackerTables (now (tuples .exit)) (now (nexts .exit))) r ⌝ }
 {
-    let mut head = [0u16; rows::DIGESTS];
-    let mut link = [0u16; rows::MOST];
+    let mut head = [0u16; row_index::DIGESTS];
+    let mut link = [0u16; row_index::MOST];
     begin(a, tuples, &mut head, &mut link);
     let mut m: usize = 1;
     let mut c: usize = 0;

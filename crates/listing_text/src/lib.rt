@@ -37,8 +37,8 @@ fn put_tuple(out: &mut [u8], at: usize, n: usize, k: usize, tuples: &[u16], next
     let next = at + 9 + 6 * n;
     text::put_bytes(out, at, b"Q");
     columns::put_column(out, at + 1, 5, t);
-    columns::put_column(out, at + 6, 3, tuples[rows::CELLS * t + 16] as usize);
-    put_cells(out, at + 9, 6, tuples, rows::CELLS * t, n);
+    columns::put_column(out, at + 6, 3, tuples[row_index::CELLS * t + 16] as usize);
+    put_cells(out, at + 9, 6, tuples, row_index::CELLS * t, n);
     put_cells(out, next, 5, nexts, 8 * t, k);
     text::put_bytes(out, next + 5 * k, b"\n");
 }

@@ -74,7 +74,7 @@ fn follow(
     let mut i = 0;
     while i < size {
         at = next(nexts, count, at, letter(letters, from + i));
-        least = lesser(least, tuples[rows::CELLS * at + 16]);
+        least = lesser(least, tuples[row_index::CELLS * at + 16]);
         i += 1;
     }
     Pass { at, least }

@@ -1,10 +1,9 @@
-// What the programs print, and where the sheet ends in the input of `verdict`.
+// What the programs print: their lines, and the buffer that they are put into.
 ghost use mathlib.Core.Path.{_≡_};
-ghost use Prim.Native.Nat.{_<_, _≤_};
+ghost use Prim.Native.Nat.{_≤_};
 ghost use lib.ListN.{length};
-ghost use Rattle.gate.specs.Gate.{Decides, cleared, lentText};
+ghost use Rattle.gate.specs.Gate.{cleared, lentText};
 ghost use Rattle.report.specs.Report.{reportLine, lineOf, verdictLine};
-ghost use Rattle.report.specs.Split.{EndLine, SheetEnds};
 use gate::Refusal;
 
 // A word of three letters and two numbers, in a line of 12 bytes.
@@ -56,31 +55,4 @@ pub fn put_refusal(r: Refusal, out: &mut [u8]) -> usize
     let line = refusal_line(r);
     text::put_bytes(out, 0, &line);
     12
-}
-
-// Whether the line that starts at a, if one does, is just END.
-fn ends_at(s: &[u8], a: usize) -> bool
-    requires { ⌜ a < length (now s) ⌝ }
-    ensures { λ r. ⌜ Decides r (EndLine (now (s .entry)) a) ⌝ }
-{
-    if a > 0 {
-        if s[a - 1] != 10 {
-            return false;
-        }
-    }
-    text::starts_at(&s[a..], 0, b"END\n")
-}
-
-// Where the sheet ends and the plan begins.
-pub fn sheet_end(s: &[u8]) -> usize
-    ensures { λ r. ⌜ SheetEnds (now (s .entry)) r × (r ≤ length (now (s .entry))) ⌝ }
-{
-    let mut a = 0;
-    while a < s.len() {
-        if ends_at(s, a) {
-            return a + 4;
-        }
-        a += 1;
-    }
-    a
 }

@@ -1,3 +1,2 @@
 pub mod Rows
-pub mod RowLaws
-pub mod IndexLaws
+pub mod RowsLaws

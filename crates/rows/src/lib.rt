@@ -1,104 +1,9 @@
-// Rows of a lent table, looked up by a digest of their cells.
+// Rows of a lent table, each known by its number.
 ghost use mathlib.Core.Path.{_≡_};
 ghost use Prim.Native.Nat.{_<_, _≤_, _*_, _+_};
-ghost use lib.ListN.{length, take, drop};
-ghost use lib.Seq.{sets};
-ghost use Rattle.gate.specs.Gate.{Decides};
-ghost use Rattle.rows.specs.Rows.{rowAt, mix, mixFrom, digestOf, Indexed, Sought, Added, RowFound, FoundOrAdded};
-
-// The cells of a row.
-pub const CELLS: usize = 17;
-// How many digests there are.
-pub const DIGESTS: usize = 1024;
-// The most rows that an index takes.
-pub const MOST: usize = 1024;
-
-// A cell mixed into a number below 2^32.
-fn mixed(h: usize, x: u16) -> usize
-    requires { ⌜ h < 4294967296 ⌝ }
-    ensures { λ r. ⌜ (r ≡ mix h x) × (r < 4294967296) ⌝ }
-{
-    (h + x as usize) * 1327217885 % 4294967296
-}
-
-// The sets of a row, mixed: those before the first empty one.
-fn mixed_sets(row: &[u16]) -> usize
-    requires { ⌜ length (now row) ≡ 17 ⌝ }
-    ensures { λ r. ⌜ (r ≡ mixFrom (now (row .entry)) 0 0 16) × (r < 4294967296) ⌝ }
-{
-    let mut h: usize = 0;
-    let mut i: usize = 0;
-    while i < 16 {
-        let x = row[i];
-        if x == 0 {
-            return h;
-        }
-        h = mixed(h, x);
-        i += 1;
-    }
-    h
-}
-
-// The digest of a row: of its sets and its colour.
-fn digest(row: &[u16]) -> usize
-    requires { ⌜ length (now row) ≡ 17 ⌝ }
-    ensures { λ r. ⌜ (r ≡ digestOf (now (row .entry))) × (r < 1024) ⌝ }
-{
-    mixed(mixed_sets(row), row[16]) / 4194304
-}
-
-// Do the table's cells from `at` on hold this row?
-fn same(table: &[u16], at: usize, row: &[u16]) -> bool
-    requires { ⌜ (at + 17 ≤ length (now table)) × (length (now row) ≡ 17) ⌝ }
-    ensures { λ r. ⌜ Decides r (take 17 (drop at (now (table .entry))) ≡ now (row .entry)) ⌝ }
-{
-    let mut i: usize = 0;
-    while i < CELLS {
-        if table[at + i] != row[i] {
-            return false;
-        }
-        i += 1;
-    }
-    true
-}
-
-// The number of a row of digest h among the table's m rows, and m where it is none of them: the chain of the digest is walked.
-fn find(table: &[u16], m: usize, row: &[u16], h: usize, head: &[u16], link: &[u16]) -> usize
-    requires { ⌜ Indexed (now table) m (now head) (now link) × Sought (now row) h ⌝ }
-    ensures { λ r. ⌜ RowFound (now (table .entry)) m (now (row .entry)) r ⌝ }
-{
-    let mut p = head[h] as usize;
-    while 0 < p {
-        let t = p - 1;
-        if same(table, CELLS * t, row) {
-            return t;
-        }
-        p = link[t] as usize;
-    }
-    m
-}
-
-// A row is written into the table's cells from `at` on.
-fn put(table: &mut [u16], at: usize, row: &[u16])
-    requires { ⌜ (at + 17 ≤ length (now table)) × (length (now row) ≡ 17) ⌝ }
-    ensures { λ _. ⌜ now (table .exit) ≡ sets (now (table .entry)) at (now (row .entry)) ⌝ }
-{
-    let mut i: usize = 0;
-    while i < row.len() {
-        table[at + i] = row[i];
-        i += 1;
-    }
-}
-
-// A row of digest h becomes row m of the table, behind its m rows, and is the last of its digest.
-fn add(table: &mut [u16], m: usize, row: &[u16], h: usize, head: &mut [u16], link: &mut [u16])
-    requires { ⌜ Indexed (now table) m (now head) (now link) × Sought (now row) h × (m < 1024) × (17 * m + 17 ≤ length (now table)) ⌝ }
-    ensures { λ _. ⌜ Added (now (table .entry)) (now (table .exit)) m (now (row .entry)) (now (head .exit)) (now (link .exit)) ⌝ }
-{
-    put(table, CELLS * m, row);
-    link[m] = head[h];
-    head[h] = (m + 1) as u16;
-}
+ghost use lib.ListN.{length};
+ghost use Rattle.row_index.specs.Index.{rowAt, Indexed};
+ghost use Rattle.rows.specs.Rows.{FoundOrAdded};
 
 // The number of a row among the table's m rows. One that is none of them has number m, and is added where there is room for it.
 pub fn find_or_add(
@@ -112,13 +17,13 @@ pub fn find_or_add(
     requires { ⌜ Indexed (now table) m (now head) (now link) × (length (now row) ≡ 17) × (room ≤ 1024) × (17 * room ≤ length (now table)) ⌝ }
     ensures { λ r. ⌜ FoundOrAdded (now (table .entry)) (now (table .exit)) m room (now (row .entry)) (now (head .exit)) (now (link .exit)) r ⌝ }
 {
-    let h = digest(row);
-    let t = find(table, m, row, h, head, link);
+    let h = row_index::digest(row);
+    let t = row_index::find(table, m, row, h, head, link);
     if t < m {
         return t;
     }
     if m < room {
-        add(table, m, row, h, head, link);
+        row_index::add(table, m, row, h, head, link);
         return m;
     }
     m
@@ -129,6 +34,6 @@ pub fn load(table: &[u16], t: usize, row: &mut [u16])
     requires { ⌜ (t < 1024) × (17 * t + 17 ≤ length (now table)) × (length (now row) ≡ 17) ⌝ }
     ensures { λ _. ⌜ now (row .exit) ≡ rowAt (now (table .entry)) t ⌝ }
 {
-    let at = CELLS * t;
-    put(row, 0, &table[at..at + CELLS]);
+    let at = row_index::CELLS * t;
+    row_index::put(row, 0, &table[at..at + row_index::CELLS]);
 }

@@ -5,7 +5,8 @@ ghost use Rattle.tracker.specs.Build.{buildNumbersTables, buildTables, BuildsNu
 ghost use Rattle.file_tracker.specs.FileBuild.{Builds};
 ghost use Rattle.listing.specs.List.{listNumbersTables, ListsNumbers};
 ghost use Rattle.file_listing.specs.FileList.{listTables, Lists};
-ghost use Rattle.answers.specs.Answer.{InNumbers, asNumbers, builtCells, writtenCells};
+ghost use Rattle.cells.specs.Cells.{InNumbers, writtenCells};
+ghost use Rattle.answers.specs.Answer.{asNumbers, builtCells};
 use automaton::Numbers;
 
 // `file_tracker::build`
@@ -83,7 +84,7 @@ pub extern "C" fn lunthomi_list(
         writtenCells (now (answer .entry)) (now (answer .exit)) ⌝ }
 {
     let r = file_listing::list(sheet, room, table, tuples, nexts, word, one, other, out);
-    answers::put_written(r, answer);
+    cells::put_written(r, answer);
 }
 
 // `listing::list_numbers`
@@ -117,5 +118,5 @@ pub extern "C" fn lunthomi_list_numbers(
         recurring,
     };
     let r = listing::list_numbers(a, table, room, tuples, nexts, word, one, other, out);
-    answers::put_written(r, answer);
+    cells::put_written(r, answer);
 }

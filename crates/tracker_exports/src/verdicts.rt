@@ -3,7 +3,8 @@ ghost use Rattle.automaton.specs.Lent.{witnessTables};
 ghost use Rattle.filling.specs.TrackerTables.{trackerTables};
 ghost use Rattle.tracker.specs.Build.{buildTables};
 ghost use Rattle.judge.specs.Verdict.{Judgement};
-ghost use Rattle.answers.specs.Answer.{InNumbers, outcomeCells};
+ghost use Rattle.cells.specs.Cells.{InNumbers};
+ghost use Rattle.answers.specs.Answer.{outcomeCells};
 
 // `judge::verdict`
 #[no_mangle]

@@ -14,7 +14,7 @@ use Rattle.passes.specs.Passes.{isYes}
 use Rattle.judge.specs.Verdict.{SizesFit, Refusing, Verdicts}
 use Rattle.passes.specs.declared.Verdict.{Verdict}
 use Rattle.report.specs.Report.{refusalLine, verdictLine}
-use Rattle.report.specs.Split.{SheetEnds}
+use Rattle.sheet_end.specs.Split.{SheetEnds}
 use Rattle.report.specs.Output.{programRoom}
 
 -- a line of a report

@@ -18,8 +18,8 @@ use Rattle.judge.specs.declared.Outcome.{Outcome}
 use Rattle.judge.specs.declared.Outcome.the-variants.{Refused, Judged}
 use Rattle.report.specs.Report.{refusalLine, lineOf}
 use Rattle.report.specs.ReportLaws.{refusal-length, verdict-length}
-use Rattle.report.specs.Split.{SheetEnds}
-use Rattle.report.specs.SplitLaws.{ends-within, some-end}
+use Rattle.sheet_end.specs.Split.{SheetEnds}
+use Rattle.sheet_end.specs.SplitLaws.{ends-within, some-end}
 use Rattle.report.specs.Output.{programRoom, Prints, TooLong}
 use Rattle.report.specs.OutputLaws.{enough}
 use Rattle.verdict_output.specs.Verdict.{longestVerdict, mostInput, VerdictOn, VerdictOutput}

@@ -35,7 +35,7 @@ fn outcome_line(o: Outcome) -> [u8; 12]
 fn judge_input(input: &[u8]) -> Outcome
     ensures { λ o. ⌜ VerdictOutput (now (input .entry)) (outcomeLine o) ⌝ }
 {
-    let e = report::sheet_end(input);
+    let e = sheet_end::sheet_end(input);
     let mut table = [0u16; 128];
     let mut tuples = [0u16; 17408];
     let mut nexts = [0u16; 8192];

@@ -1,15 +1,42 @@
 -- Each answer is that of building, or of the last question. Assumes nothing.
-use Prim.Native.Nat.{ℕ}
-use mathlib.Core.Path.{ap, _∙_}
-use lib.ListN.{replicate}
-use Rattle.file_listing.specs.FileListLaws.{list-file-refused, file-sized, file-last, file-bytes}
+use mathlib.Core.Path.{subst}
+use Rattle.automaton.specs.Lent.{witnessTables}
+use Rattle.filling.specs.TrackerTables.{trackerTables}
+use Rattle.tracker.specs.Build.{BuildTables, buildTables}
+use Rattle.file_tracker.specs.FileBuild.{Builds}
+use Rattle.tracker.specs.declared.Built.{Built}
+use Rattle.tracker.specs.declared.Built.the-variants as B
+use Rattle.file_listing.specs.FileListLaws.{list-file-refused, file-sized, file-finished}
 use borrow.Author.Needs.{needs}
 use Rattle.file_listing.proofs.list.Statement.{statement}
 use Rattle.file_listing.proofs.list.Tie as tie
 
+abbrev start : tie.After-build → tie.Start
+start c = c .before .before .before .before .before .before .before .before .before .before .before .before .before .before .before
+
+-- the tables before and behind building
+abbrev before : tie.Start → BuildTables
+before s =
+    let a = s .args in
+    buildTables (a .table .now) (witnessTables (a .word .now) (a .one .now) (a .other .now)) (trackerTables (a .tuples .now) (a .nexts .now))
+
+abbrev built : tie.After-build → BuildTables
+built c =
+    let w = c .build .last .1 .1 in
+    buildTables (w .0) (witnessTables (w .1 .1 .1 .0) (w .1 .1 .1 .1 .0) (w .1 .1 .1 .1 .1 .0)) (trackerTables (w .1 .0) (w .1 .1 .0))
+
+abbrev Built-as : tie.After-build → Built → Type 0
+Built-as c z = Builds (start c .args .sheet .now) (start c .args .room) (before (start c)) (built c) z
+
 -- building, from behind its tables
 abbrev behind : tie.After-slice-known13 → tie.After-build
 behind c = c .before .before .before .before .before .before .before .before .before .before .before .before
+
+abbrev building : tie.After-x → tie.After-build
+building c = behind (c .before .before)
+
+accepted : (c : tie.After-x) → Built-as (building c) (B.Is (c .x .given .0 .0))
+accepted c = subst (Built-as (building c)) (c .x .given .1) (building c .build .ensures)
 
 build-requires : tie.Need-build-requires
 build-requires c κs = search needs
@@ -26,16 +53,10 @@ enum-known-x c = search needs
 finish-requires : tie.Need-finish-requires
 finish-requires c κs =
     let told = c .before .before .before .before in
-    file-sized (behind (told .before .before) .build .ensures) (told .x .given .1)
+    file-sized (accepted told)
 
-enum-told : tie.Need-enum-told
-enum-told c = search needs
-
-clear-requires : tie.Need-clear-requires
-clear-requires c κs = search needs
-
-enum-told-2 : tie.Need-enum-told-2
-enum-told-2 c = search needs
+clear-refused-requires : tie.Need-clear-refused-requires
+clear-refused-requires c κs = search needs
 
 same-length : tie.Need-same-length
 same-length c = search needs
@@ -62,7 +83,8 @@ returns : tie.Need-returns
 returns c =
     let refused = c .before .before in
     let told = refused .before .before .before in
-    list-file-refused (behind (told .before .before) .build .ensures) (told .r .given .1) (refused .refuse .ensures)
+    let b = behind (told .before .before) in
+    list-file-refused (subst (Built-as b) (told .r .given .1) (b .build .ensures)) (refused .refuse .ensures)
 
 same-length-8 : tie.Need-same-length-8
 same-length-8 c = search needs
@@ -87,40 +109,10 @@ same-length-14 c = search needs
 
 returns-2 : tie.Need-returns-2
 returns-2 c =
-    let cleared = c .before .before in
-    let over = cleared .before .before in
+    let over = c .before .before in
     let finished = over .before .before .before .before .before .before .before .before in
     let told = finished .before .before .before .before .before in
-    let b = behind (told .before .before) .build in
-    file-last (b .ensures) (told .x .given .1) (finished .finish .ensures) (over .enum-told .given .1)
-    (cleared .clear .ensures ∙ ap (λ (n : ℕ). replicate n 0) (b .kept .1 .1 .0))
-
-same-length-15 : tie.Need-same-length-15
-same-length-15 c = search needs
-
-same-length-16 : tie.Need-same-length-16
-same-length-16 c = search needs
-
-same-length-17 : tie.Need-same-length-17
-same-length-17 c = search needs
-
-same-length-18 : tie.Need-same-length-18
-same-length-18 c = search needs
-
-same-length-19 : tie.Need-same-length-19
-same-length-19 c = search needs
-
-same-length-20 : tie.Need-same-length-20
-same-length-20 c = search needs
-
-same-length-21 : tie.Need-same-length-21
-same-length-21 c = search needs
-
-returns-3 : tie.Need-returns-3
-returns-3 c =
-    let finished = c .before .before .before .before .before .before .before .before in
-    let told = finished .before .before .before .before .before in
-    file-bytes (behind (told .before .before) .build .ensures) (told .x .given .1) (finished .finish .ensures) (c .enum-told2 .given .1)
+    file-finished (accepted told) (building told .build .kept .1 .1 .0) (finished .finish .ensures) (over .clear-refused .ensures)
 
 pub list-spec : {M : Type 1} → statement M
 list-spec =
@@ -131,9 +123,7 @@ list-spec =
     refuse-requires
     enum-known-x
     finish-requires
-    enum-told
-    clear-requires
-    enum-told-2
+    clear-refused-requires
     same-length
     same-length-2
     same-length-3
@@ -149,12 +139,4 @@ list-spec =
     same-length-12
     same-length-13
     same-length-14
-    returns-2
-    same-length-15
-    same-length-16
-    same-length-17
-    same-length-18
-    same-length-19
-    same-length-20
-    same-length-21
-    returns-3)
+    returns-2)

@@ -9,7 +9,7 @@ use Rattle.sheet.specs.ReadLaws.{read-fits}
 use Rattle.sheet.specs.declared.Read.{Read}
 use Rattle.sheet.specs.declared.Read.the-variants.{Is}
 use Rattle.file_tracker.specs.FileBuild.{Builds}
-use Rattle.file_tracker.specs.FileBuildLaws.{file-over, file-is, rows-is}
+use Rattle.file_tracker.specs.FileBuildLaws.{file-over, file-is, rows-built}
 use borrow.Author.Needs.{needs}
 use Rattle.file_tracker.proofs.build_long.Statement.{statement}
 use Rattle.file_tracker.proofs.build_long.Tie as tie
@@ -112,7 +112,7 @@ returns c =
     (Builds.refused (start read .pre .0) (told .r .given .0 .0) (refused .0) refl (refused .1) (cleared .clear .ensures), refused .2)
 
 same-length-8 : tie.Need-same-length-8
-same-length-8 c = c .before .before .before .before .before .before .clear2 .kept .0 ∙ over-at c .read-long .kept .1 .0
+same-length-8 c = omega (arith, c .before .before .before .before .before .before .clear2 .kept .0, over-at c .read-long .kept .1 .0)
 
 same-length-9 : tie.Need-same-length-9
 same-length-9 c = c .before .before .clear-bytes .kept .0 ∙ over-at c .read-long .kept .1 .1 .0
@@ -124,7 +124,7 @@ same-length-11 : tie.Need-same-length-11
 same-length-11 c = c .before .before .before .before .before .before .before .before .before .before .before .before .before .before .track .kept .1 .1 .1 .1 .0
 
 same-length-12 : tie.Need-same-length-12
-same-length-12 c = over-at c .read-long .kept .1 .1 .1 .0
+same-length-12 c = search needs
 
 same-length-13 : tie.Need-same-length-13
 same-length-13 c = over-at c .read-long .kept .1 .1 .1 .1 .0
@@ -173,7 +173,7 @@ returns-3 c =
     let tracked = c .before .before .before .before .before .before in
     let told = tracked .before .before .before .before .before in
     let is = rw (c .enum-told2 .given .1) at (tracked .track .ensures) in
-    rw (c .enum-told2 .given .1) (file-is (start (reading told) .pre .0) (accepted told) is, rows-is (start (reading told) .pre .0) (accepted told) is)
+    rw (c .enum-told2 .given .1) (file-is (start (reading told) .pre .0) (accepted told) is, rows-built (accepted told) is)
 
 pub build-long-spec : {M : Type 1} → statement M
 build-long-spec =

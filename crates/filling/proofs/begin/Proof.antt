@@ -3,8 +3,8 @@ use Prim.Native.Nat.{ℕ}
 use mathlib.Core.Path.{refl, subst}
 use native.Mathlib.Omega.{arith}
 use lib.ListN.{set, replicate}
-use Rattle.rows.specs.Rows.{Indexed, Added}
-use Rattle.rows.specs.IndexLaws.{indexed-none}
+use Rattle.row_index.specs.Index.{Indexed, Added}
+use Rattle.row_index.specs.IndexLaws.{indexed-none}
 use Rattle.filling.specs.Fill.{firstCells}
 use borrow.Author.Needs.{needs}
 use Rattle.filling.proofs.begin.Statement.{statement}

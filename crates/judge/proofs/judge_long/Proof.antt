@@ -115,7 +115,7 @@ returns c =
     sheet-refused (pre .0) (pre .1) (built-as built _ (told .r .given .1) .0)
 
 same-length-7 : tie.Need-same-length-7
-same-length-7 c = c .before .before .before .before .before .before .before .before .before .clear .kept .0 ∙ plan-at c .build-long .kept .1 .1 .0
+same-length-7 c = omega (arith, c .before .before .before .before .before .before .before .before .before .clear .kept .0, plan-at c .build-long .kept .1 .1 .0)
 
 same-length-8 : tie.Need-same-length-8
 same-length-8 c = c .before .before .before .before .clear2 .kept .0 ∙ plan-at c .build-long .kept .1 .1 .1 .1 .0
@@ -124,7 +124,7 @@ same-length-9 : tie.Need-same-length-9
 same-length-9 c = c .before .before .before .before .clear2 .kept .1 .0 ∙ plan-at c .build-long .kept .1 .1 .1 .1 .1 .0
 
 same-length-10 : tie.Need-same-length-10
-same-length-10 c = plan-at c .build-long .kept .1 .1 .1 .1 .1 .1 .0
+same-length-10 c = search needs
 
 same-length-11 : tie.Need-same-length-11
 same-length-11 c = plan-at c .build-long .kept .1 .1 .1 .1 .1 .1 .1 .0

@@ -30,8 +30,11 @@ array-write-out c = search needs
 
 returns : tie.Need-returns
 returns c =
-    let s = c .before .before .before .before .before .before .before .before .before .before in
-    cc (line-put (replicate 12 0) (now (s .args .word)) (s .args .a) (s .args .b) refl (s .pre))
+    let second = c .before in
+    let first = second .before .before .before in
+    let word = first .before .before .before in
+    let s = word .before .before .before in
+    rw (second .put-column2 .ensures, first .put-column .ensures, word .put-bytes .ensures) (line-put (replicate 12 0) (now (s .args .word)) (s .args .a) (s .args .b) refl (s .pre))
 
 pub line-spec : {M : Type 1} → statement M
 line-spec =

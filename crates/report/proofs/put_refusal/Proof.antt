@@ -7,28 +7,19 @@ use Rattle.report.specs.OutputLaws.{front-lent}
 use borrow.Author.Needs.{needs}
 use Rattle.report.proofs.put_refusal.Statement.{statement}
 use Rattle.report.proofs.put_refusal.Tie as tie
-use Rattle.report.proofs.put_refusal.Reads as reads
-use Rattle.report.proofs.put_refusal.Lts as lts
-use Rattle.report.proofs.refusal_line.Reads as refusal-line-reads
-use Rattle.text.proofs.put_bytes.Reads as put-bytes-reads
 
--- src/lib.rt:56:16
 refusal-line-requires : tie.Need-refusal-line-requires
 refusal-line-requires c κs = search needs
 
--- src/lib.rt:57:29
 slice-aggregate-put-bytes : tie.Need-slice-aggregate-put-bytes
 slice-aggregate-put-bytes c = search needs
 
--- src/lib.rt:57:5
 put-bytes-requires : tie.Need-put-bytes-requires
 put-bytes-requires c κs = search needs
 
--- src/lib.rt:52:1
 same-length : tie.Need-same-length
 same-length c = search needs
 
--- src/lib.rt:52:1
 returns : tie.Need-returns
 returns c =
     let put = c .before .before in

@@ -1,5 +1,5 @@
 -- A row is looked for by its digest, and added behind the others where it is new and there is room. Assumes nothing.
-use Rattle.rows.specs.IndexLaws.{number-found, number-added, number-over}
+use Rattle.rows.specs.RowsLaws.{number-found, number-added, number-over}
 use borrow.Author.Needs.{needs}
 use Rattle.rows.proofs.find_or_add.Statement.{statement}
 use Rattle.rows.proofs.find_or_add.Tie as tie

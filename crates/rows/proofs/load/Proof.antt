@@ -2,7 +2,7 @@
 use Prim.Native.Nat.{_+_, _*_, _-_}
 use mathlib.Core.Path.{_≡_, sym, _∙_}
 use native.Mathlib.Omega.{arith}
-use Rattle.rows.specs.Rows.{rowAt}
+use Rattle.row_index.specs.Index.{rowAt}
 use Rattle.lists.specs.CellsLaws.{part-length}
 use Rattle.lists.specs.StoreLaws.{sets-over}
 use borrow.Author.Needs.{needs}

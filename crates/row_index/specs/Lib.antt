@@ -1,0 +1,4 @@
+pub mod Digest
+pub mod Index
+pub mod DigestLaws
+pub mod IndexLaws
