@@ -22,7 +22,7 @@ use Rattle.gate.specs.declared.Written.the-variants.{Refused, Bytes}
 use Rattle.listing.specs.List.{listingOf, Left}
 use Rattle.listing.specs.ListLaws.{sized, room-number}
 use Rattle.file_listing.specs.FileList.{listTables, Lists}
-use Rattle.listing_text.specs.Put.{Sized}
+use Rattle.listing_lines.specs.PutLine.{Sized}
 use Rattle.listing.specs.Finish.{Finishes}
 
 -- WHAT IS LEFT of the tables that building gave, from what the last question leaves of the tracker's. The buffer was old and is new.

@@ -1,41 +1,14 @@
--- The lent tables while the tuples are found, step by step.
-use Prim.Native.Nat.{ℕ, _+_, _-_, _*_, _/_, _%_, _≤_, _<_}
+-- The filling of the lent tables: what it asks, what it begins with, and what it leaves.
+use Prim.Native.Nat.{ℕ, _≤_, _<_}
 use mathlib.Core.Path.{_≡_}
-use mathlib.Core.List.{List, _++_}
-use lib.ListN.{length, getD, set, replicate}
+use mathlib.Core.List.{List}
+use lib.ListN.{set, replicate}
 use Rattle.gate.specs.Gate.{cleared}
-use Rattle.row_index.specs.Index.{Indexed}
 use Rattle.automaton.specs.Automaton.{Automaton, Fits}
 use Rattle.tuple.specs.Colour.{neutral}
-use Rattle.tuple.specs.Step.{Tuple}
-use Rattle.numbering.specs.Numbering.{tupleAt, entered, rows, MoreThan}
-use Rattle.filling.specs.TrackerTables.{TrackerTables, trackerTables, EnoughForTracker, Fitted}
-use Rattle.numbering.specs.Explore.{found}
-
--- "its next on letter l is number 8t+l", of the steps before c; every other cell is zero
-pub record NextsBefore (A : Automaton) (c : ℕ) (ts : List Tuple) (nexts : List ℕ) : Type 0 where
-  pub next : (d : ℕ) → d < c → d / 8 < length ts → d % 8 < A .k → (getD nexts d 0 < length ts) × (tupleAt A ts (getD nexts d 0) ≡ entered A ts d)
-  pub zero : (d : ℕ) → (d < c → d / 8 < length ts → d % 8 < A .k → ⊥) → getD nexts d 0 ≡ 0
-
--- before step c the tables hold the m tuples that are found, with the index of their rows, and zero behind
-pub record Filled (A : Automaton) (room c m : ℕ) (tuples nexts head link : List ℕ) : Type 0 where
-  pub fits : Fits A
-  pub room-fits : EnoughForTracker room (trackerTables tuples nexts)
-  pub count : m ≡ length (found A c)
-  pub room-is : m ≤ room
-  pub tuples-are : tuples ≡ rows (found A c) ++ replicate (length tuples - 17 * m) 0
-  pub nexts-are : NextsBefore A c (found A c) nexts
-  pub index : Indexed tuples m head link
-
--- a step that can be taken
-pub record Taken (A : Automaton) (c m : ℕ) : Type 0 where
-  pub from : c / 8 < m
-  pub letter : c % 8 < A .k
-
--- the answer of a step is the count of tuples behind it, or a number above the room where they are too many
-pub record Goes (A : Automaton) (room c r : ℕ) (tuples nexts head link : List ℕ) : Type 0 where
-  pub fitting : r ≤ room → Filled A room c r tuples nexts head link
-  pub over : room < r → room < length (found A c)
+use Rattle.numbering.specs.Numbering.{MoreThan}
+use Rattle.expanding.specs.Tables.{TrackerTables, EnoughForTracker}
+use Rattle.filling.specs.TrackerTables.{Fitted}
 
 -- the cells of the first tuple's row: "the initial states, then empty sets, colour 2n+1"
 unfoldable pub firstCells : ℕ → ℕ → List ℕ
@@ -45,12 +18,6 @@ firstCells n initial = set (set (replicate 17 0) 0 initial) 16 (neutral n)
 pub record NoRows (head link : List ℕ) : Type 0 where
   pub heads : head ≡ replicate 1024 0
   pub links : link ≡ replicate 1024 0
-
--- what loading the row of step c asks of the tables
-pub record Entering (c : ℕ) (tuples w : List ℕ) : Type 0 where
-  pub small : c / 8 < 1024
-  pub row : 17 * (c / 8) + 17 ≤ length tuples
-  pub cells : length w ≡ 17
 
 -- what filling asks: the numbers fit, and the tables are long enough and zero
 pub record Filling (A : Automaton) (room : ℕ) (tracker : TrackerTables) : Type 0 where

@@ -15,10 +15,12 @@ use Rattle.tuple.specs.Row.{row}
 use Rattle.tuple.specs.RowLaws.{row-set, row-colour}
 use Rattle.numbering.specs.Numbering.{Reachable, tupleAt, rows}
 use Rattle.numbering.specs.NumberingLaws.{numbering-reachable}
-use Rattle.filling.specs.TrackerTables.{TrackerTables, clearedTracker, EnoughForTracker, Fitted}
+use Rattle.filling.specs.TrackerTables.{clearedTracker, Fitted}
 use Rattle.gate.specs.GateLaws.{zeros}
-use Rattle.filling.specs.RowsLaws.{Whole, rows-length, row-is, reachable-formed, reachable-whole}
-use Rattle.filling.specs.TrackerTablesLaws.{room-alike, room-less, cleared-alike}
+use Rattle.expanding.specs.Tables.{TrackerTables, EnoughForTracker}
+use Rattle.expanding.specs.TablesLaws.{room-alike}
+use Rattle.expanding.specs.RowsLaws.{Whole, rows-length, row-is, reachable-formed, reachable-whole}
+use Rattle.filling.specs.TrackerTablesLaws.{room-less, cleared-alike}
 
 module _ (A : Automaton) (fits : Fits A) (room m : ℕ) (v w : TrackerTables) (f : Fitted A room v w m) where
   -- tuple t of the tracker

@@ -1,4 +1,3 @@
-pub mod RowsLaws
 pub mod TrackerTables
 pub mod TrackerTablesLaws
 pub mod Fill

@@ -7,25 +7,11 @@ use Rattle.gate.specs.Gate.{cleared}
 use Rattle.automaton.specs.Automaton.{Automaton}
 use Rattle.tuple.specs.Step.{Tuple}
 use Rattle.numbering.specs.Numbering.{Numbering, NextCells, rows}
-
--- the lent tuple table and next table
-pub record TrackerTables : Type 0 where
-  pub tuples : List ℕ
-  pub nexts : List ℕ
-
-abbrev pub trackerTables : List ℕ → List ℕ → TrackerTables
-trackerTables tuples nexts = record { tuples = tuples; nexts = nexts }
+pub use Rattle.expanding.specs.Tables.{TrackerTables, trackerTables, EnoughForTracker}
 
 -- both tables cleared
 abbrev pub clearedTracker : TrackerTables → TrackerTables
 clearedTracker before = record { tuples = cleared (before .tuples); nexts = cleared (before .nexts) }
-
--- "for room R, 17·R tuple numbers and 8·R next numbers .. and is R 1 to 1,024?"
-pub record EnoughForTracker (room : ℕ) (tracker : TrackerTables) : Type 0 where
-  pub some : 1 ≤ room
-  pub most : room ≤ 1024
-  pub tuples : 17 * room ≤ length (tracker .tuples)
-  pub nexts : 8 * room ≤ length (tracker .nexts)
 
 -- the tracker of A in lent tables: every cell is given, and those without a meaning are zero
 pub record Holds (A : Automaton) (ts : List Tuple) (before after : TrackerTables) : Type 0 where

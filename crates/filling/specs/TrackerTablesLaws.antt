@@ -5,11 +5,8 @@ use mathlib.Core.List.{List}
 use native.Mathlib.Omega.{arith}
 use lib.ListN.{length, replicate}
 use Rattle.gate.specs.Gate.{cleared}
-use Rattle.filling.specs.TrackerTables.{TrackerTables, trackerTables, clearedTracker, EnoughForTracker}
-
--- as long as tables that are long enough
-pub room-alike : {room : ℕ} {v w : TrackerTables} → length (w .tuples) ≡ length (v .tuples) → length (w .nexts) ≡ length (v .nexts) → EnoughForTracker room v → EnoughForTracker room w
-room-alike p q r = record { some = r .some; most = r .most; tuples = rw p (r .tuples); nexts = rw q (r .nexts) }
+use Rattle.expanding.specs.Tables.{TrackerTables, trackerTables, EnoughForTracker}
+use Rattle.filling.specs.TrackerTables.{clearedTracker}
 
 -- long enough for fewer tuples
 pub room-less : {room m : ℕ} {v : TrackerTables} → 1 ≤ m → m ≤ room → EnoughForTracker room v → EnoughForTracker m v

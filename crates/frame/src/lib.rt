@@ -6,8 +6,8 @@ ghost use lib.ListN.{length};
 ghost use Rattle.columns.specs.Pair.{wordAndPair};
 ghost use Rattle.frame.specs.Phase.{firstPhase, endAt};
 ghost use Rattle.frame.specs.Answers.{firstAnswer, FirstFits, endAnswer};
-use gate::Refusal;
 use columns::Pair;
+use gate::Refusal;
 
 // What the two numbers of a first line may be: the first from `least` to `most`, the second from `low` to `high`.
 pub struct Bounds {

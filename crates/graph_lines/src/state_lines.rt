@@ -5,8 +5,8 @@ ghost use Rattle.graph_lines.specs.StateLines.{stateLineAt, statesAt, Fl
 use super::Sets;
 use super::StateLine;
 use super::States;
-use gate::Refusal;
 use columns::Pair;
+use gate::Refusal;
 
 // The line of state q: its two flags, each 0 or 1.
 fn state_line(s: &[u8], at: usize, q: usize) -> StateLine

@@ -5,11 +5,11 @@ ghost use lib.ListN.{length, take};
 ghost use Rattle.format.specs.Format.{mostSheet};
 ghost use Rattle.graph_lines.specs.TransitionLines.{transitionOf, transitionLineAt, transitionsAt, TransitionFits, FillsTable};
 use super::TransitionLine;
+use columns::Number;
+use columns::Pair;
 use frame::End;
 use frame::end_line;
 use gate::Refusal;
-use columns::Number;
-use columns::Pair;
 
 // The transition, if it is in range and not below the place `least`.
 fn transition_of(

@@ -5,7 +5,6 @@ use mathlib.Core.Bool.{true, and-eq-true-iff}
 use mathlib.Core.List.{List, _∷_, List·Memᴰ, List·Memᴰ·head, List·Memᴰ·tail}
 use Rattle.known.specs.Case.{Case, Forced}
 use Rattle.known.specs.Cases.{cases}
-use Rattle.known.specs.Below.{all}
 use Rattle.known.specs.CaseTest.{right, allRight}
 use Rattle.known.specs.Unfold.{known·unfold}
 use Rattle.known.specs.CaseLaws.{right-forced}

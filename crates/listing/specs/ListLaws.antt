@@ -19,7 +19,7 @@ use Rattle.tracker.specs.declared.Built.the-variants.{Refused as BuildRefused, 
 use Rattle.gate.specs.declared.Written.{Written}
 use Rattle.gate.specs.declared.Written.the-variants.{Refused, Bytes}
 use Rattle.listing.specs.List.{listNumbersTables, listingOf, Left, ListsNumbers}
-use Rattle.listing_text.specs.Put.{Sized}
+use Rattle.listing_lines.specs.PutLine.{Sized}
 use Rattle.listing.specs.Finish.{Finishes}
 
 -- what writing asks of a tracker that was built

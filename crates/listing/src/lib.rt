@@ -9,7 +9,7 @@ ghost use Rattle.filling.specs.TrackerTables.{trackerTables};
 ghost use Rattle.tracker.specs.Build.{buildNumbersTables};
 ghost use Rattle.listing_text.specs.Listing.{listing};
 ghost use Rattle.listing.specs.List.{listNumbersTables, ListsNumbers};
-ghost use Rattle.listing_text.specs.Put.{Sized};
+ghost use Rattle.listing_lines.specs.PutLine.{Sized};
 ghost use Rattle.listing.specs.Finish.{Finishes};
 
 // The last question, whether the buffer is long enough, and the listing with zeros behind it.

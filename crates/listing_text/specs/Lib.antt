@@ -1,4 +1,3 @@
 pub mod Listing
-pub mod Put
 pub mod PutLaws
 pub mod ListingLaws

@@ -15,9 +15,11 @@ use Rattle.lists.specs.AppendLaws.{append-same}
 use Rattle.columns.specs.Column.{column}
 use Rattle.columns.specs.ColumnLaws.{column-length, column-injective}
 use Rattle.text.specs.PiecesLaws.{pieces-same}
-use Rattle.listing_text.specs.Listing.{columns, trackLine, tupleLine, tupleLines, listing}
-use Rattle.listing_text.specs.Put.{cellsFrom, ListingLimits}
-use Rattle.listing_text.specs.PutLaws.{columns-length, line-length, lines-length, track-line-length}
+use Rattle.listing_lines.specs.ListingLine.{columns, trackLine, tupleLine}
+use Rattle.listing_lines.specs.PutLine.{cellsFrom, ListingLimits}
+use Rattle.listing_lines.specs.PutLineLaws.{columns-length, line-length, track-line-length}
+use Rattle.listing_text.specs.Listing.{tupleLines, listing}
+use Rattle.listing_text.specs.PutLaws.{lines-length}
 
 -- the numbers of a tracker as a listing shows them: each has its columns, and every cell that is not listed is zero
 pub record Shown (n k count : ℕ) (tuples nexts : List ℕ) : Type 0 where

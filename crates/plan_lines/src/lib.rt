@@ -8,8 +8,8 @@ ghost use Rattle.plan_lines.specs.PlanLines.{mostPlan};
 ghost use Rattle.plan_lines.specs.LetterLines.{letterLineAt, lettersAt, LineFits, LettersRead, PlaceFits};
 use frame::Position;
 use gate::Refusal;
-use names::Ending;
 use name_rows::letter_of;
+use names::Ending;
 
 // A line with a name.
 pub enum LetterLine {

@@ -4,8 +4,8 @@ use mathlib.Core.Path.{_≡_, refl, sym, _∙_}
 use native.Mathlib.Omega.{arith}
 use lib.ListN.{length}
 use Rattle.automaton.specs.Automaton.{automaton}
-use Rattle.filling.specs.TrackerTables.{trackerTables}
-use Rattle.filling.specs.Fill.{Filled}
+use Rattle.expanding.specs.Tables.{trackerTables}
+use Rattle.expanding.specs.Expand.{Filled}
 use Rattle.filling.specs.FillLaws.{filled-begins, fills-over, fills-all}
 use borrow.Author.Needs.{needs}
 use Rattle.filling.proofs.fill.Statement.{statement}

@@ -2,7 +2,7 @@
 use Prim.Native.Nat.{_+_, _-_, _*_}
 use mathlib.Core.Path.{_≡_, sym}
 use native.Mathlib.Omega.{arith}
-use Rattle.listing_text.specs.Put.{lineBytes}
+use Rattle.listing_lines.specs.PutLine.{lineBytes}
 use Rattle.listing_text.specs.PutLaws.{listing-put}
 use borrow.Author.Needs.{needs}
 use Rattle.listing_text.proofs.put_listing.Statement.{statement}

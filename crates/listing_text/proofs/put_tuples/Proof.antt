@@ -5,10 +5,11 @@ use mathlib.Core.List.{List}
 use native.Mathlib.Omega.{arith}
 use lib.ListN.{length}
 use Rattle.filling.specs.TrackerTablesLaws.{room-less}
-use Rattle.listing_text.specs.Listing.{tupleLine}
-use Rattle.listing_text.specs.Put.{lineBytes}
+use Rattle.listing_lines.specs.ListingLine.{tupleLine}
+use Rattle.listing_lines.specs.PutLine.{lineBytes}
+use Rattle.listing_lines.specs.PutLineLaws.{line-length}
 use Rattle.text.specs.PiecesLaws.{Putting, put-none, put-room, put-more, put-all}
-use Rattle.listing_text.specs.PutLaws.{line-length, lines-length}
+use Rattle.listing_text.specs.PutLaws.{lines-length}
 use borrow.Author.Needs.{needs}
 use Rattle.listing_text.proofs.put_tuples.Statement.{statement}
 use Rattle.listing_text.proofs.put_tuples.Tie as tie

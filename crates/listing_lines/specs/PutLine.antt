@@ -1,4 +1,4 @@
--- What the parts of a listing's text ask of their tables and of the buffer.
+-- What a line of a listing asks of its tables and of the buffer.
 use Prim.Native.Nat.{ℕ, _+_, _*_, _≤_}
 use mathlib.Core.List.{List}
 use lib.ListN.{length, getD}
@@ -14,12 +14,9 @@ pub record ColumnsThere (out : List ℕ) (at w : ℕ) (table : List ℕ) (from c
   pub cells : from + count ≤ length table
   pub bytes : at + count * w ≤ length out
 
--- the bytes of a tuple's line, and of the whole listing
+-- the bytes of a tuple's line
 abbrev pub lineBytes : ℕ → ℕ → ℕ
 lineBytes n k = 10 + (6 * n + 5 * k)
-
-abbrev pub listingBytes : ℕ → ℕ → ℕ → ℕ
-listingBytes n k count = 21 + count * lineBytes n k
 
 -- at most as many states, letters and tuples as there may be
 pub record ListingLimits (n k count : ℕ) : Type 0 where

@@ -2,10 +2,10 @@
 use Prim.Native.Nat.{_+_, _*_}
 use mathlib.Core.Path.{sym}
 use native.Mathlib.Omega.{arith}
-use Rattle.listing_text.specs.PutLaws.{tuple-put}
+use Rattle.listing_lines.specs.PutLineLaws.{tuple-put}
 use borrow.Author.Needs.{needs}
-use Rattle.listing_text.proofs.put_tuple.Statement.{statement}
-use Rattle.listing_text.proofs.put_tuple.Tie as tie
+use Rattle.listing_lines.proofs.put_tuple.Statement.{statement}
+use Rattle.listing_lines.proofs.put_tuple.Tie as tie
 
 add-next : tie.Need-add-next
 add-next c = search needs

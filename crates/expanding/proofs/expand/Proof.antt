@@ -2,11 +2,11 @@
 use mathlib.Core.Path.{refl}
 use native.Mathlib.Omega.{arith}
 use Rattle.automaton.specs.Automaton.{Automaton, automaton}
-use Rattle.filling.specs.Fill.{Taken}
-use Rattle.filling.specs.FillLaws.{fill-steps, Looked, goes-skip, goes-old, goes-new, goes-over}
+use Rattle.expanding.specs.Expand.{Taken}
+use Rattle.expanding.specs.ExpandLaws.{fill-steps, Looked, goes-skip, goes-old, goes-new, goes-over}
 use borrow.Author.Needs.{needs}
-use Rattle.filling.proofs.expand.Statement.{statement}
-use Rattle.filling.proofs.expand.Tie as tie
+use Rattle.expanding.proofs.expand.Statement.{statement}
+use Rattle.expanding.proofs.expand.Tie as tie
 
 -- behind the first test the step can be taken
 abbrev start : tie.Else1 → tie.Start

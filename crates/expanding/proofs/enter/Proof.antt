@@ -6,8 +6,8 @@ use Rattle.automaton.specs.Automaton.{automaton}
 use Rattle.tuple.specs.Step.{next}
 use Rattle.tuple.specs.Row.{row, tupleOf, Steps}
 use borrow.Author.Needs.{needs}
-use Rattle.filling.proofs.enter.Statement.{statement}
-use Rattle.filling.proofs.enter.Tie as tie
+use Rattle.expanding.proofs.enter.Statement.{statement}
+use Rattle.expanding.proofs.enter.Tie as tie
 
 load-requires : tie.Need-load-requires
 load-requires c κs = search needs

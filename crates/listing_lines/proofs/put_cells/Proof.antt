@@ -6,12 +6,12 @@ use native.Mathlib.Omega.{arith}
 use lib.ListN.{length}
 use Rattle.columns.specs.Column.{column}
 use Rattle.columns.specs.ColumnLaws.{column-length}
-use Rattle.listing_text.specs.Put.{cellsFrom}
+use Rattle.listing_lines.specs.PutLine.{cellsFrom}
 use Rattle.text.specs.PiecesLaws.{Putting, put-none, put-room, put-more, put-all}
-use Rattle.listing_text.specs.PutLaws.{columns-length}
+use Rattle.listing_lines.specs.PutLineLaws.{columns-length}
 use borrow.Author.Needs.{needs}
-use Rattle.listing_text.proofs.put_cells.Statement.{statement}
-use Rattle.listing_text.proofs.put_cells.Tie as tie
+use Rattle.listing_lines.proofs.put_cells.Statement.{statement}
+use Rattle.listing_lines.proofs.put_cells.Tie as tie
 
 abbrev Inv-loop : tie.InvT-loop
 Inv-loop out₀ at w table from count p₀ i₀ out p i = Putting (λ i. column w (cellsFrom table from i)) out₀ at count out p i

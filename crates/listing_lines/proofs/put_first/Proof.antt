@@ -1,9 +1,9 @@
 -- The parts of the line follow one another. Assumes nothing.
 use mathlib.Core.Path.{sym}
-use Rattle.listing_text.specs.PutLaws.{first-put}
+use Rattle.listing_lines.specs.PutLineLaws.{first-put}
 use borrow.Author.Needs.{needs}
-use Rattle.listing_text.proofs.put_first.Statement.{statement}
-use Rattle.listing_text.proofs.put_first.Tie as tie
+use Rattle.listing_lines.proofs.put_first.Statement.{statement}
+use Rattle.listing_lines.proofs.put_first.Tie as tie
 
 slice-aggregate-put-bytes : tie.Need-slice-aggregate-put-bytes
 slice-aggregate-put-bytes c = search needs

@@ -1,0 +1,5 @@
+pub mod Tables
+pub mod Expand
+pub mod TablesLaws
+pub mod RowsLaws
+pub mod ExpandLaws

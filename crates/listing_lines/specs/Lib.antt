@@ -1,0 +1,3 @@
+pub mod ListingLine
+pub mod PutLine
+pub mod PutLineLaws
