@@ -1,5 +1,5 @@
 // The calls on letters: a letter's name, its companion number, the letter of a name, the successors of a set on a letter.
-ghost use Rattle.automaton.specs.Lent.{witnessTables};
+ghost use Rattle.lent.specs.Lent.{witnessTables};
 ghost use Rattle.automaton.specs.Successors.{Successors};
 ghost use Rattle.letters.specs.Letters.{NumberIs};
 ghost use Rattle.letter_search.specs.Find.{Finds};

@@ -1,5 +1,5 @@
 // The calls on a whole sheet: checked, read, written.
-ghost use Rattle.automaton.specs.Lent.{witnessTables};
+ghost use Rattle.lent.specs.Lent.{witnessTables};
 ghost use Rattle.walks.specs.Check.{Checks};
 ghost use Rattle.sheet.specs.Read.{sheetTables, Reads};
 ghost use Rattle.writer.specs.Write.{writeTables, WritesNumbers};

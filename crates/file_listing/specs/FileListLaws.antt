@@ -6,7 +6,7 @@ use lib.ListN.{length, replicate}
 use Rattle.gate.specs.Gate.{refusal, cleared, RefusedWith}
 use Rattle.gate.specs.GateLaws.{refused-first}
 use Rattle.gate.specs.declared.Refusal.{Refusal}
-use Rattle.automaton.specs.Lent.{clearedWitness}
+use Rattle.lent.specs.Lent.{clearedWitness}
 use Rattle.format.specs.Numbers.{numbers}
 use Rattle.format.specs.NumbersLaws.{sheet-fits}
 use Rattle.sheet.specs.ReadLaws.{refuses-number}

@@ -3,7 +3,7 @@ use gate::Written;
 use tracker::Built;
 ghost use mathlib.Core.Path.{_≡_};
 ghost use Rattle.gate.specs.Gate.{cleared};
-ghost use Rattle.automaton.specs.Lent.{witnessTables};
+ghost use Rattle.lent.specs.Lent.{witnessTables};
 ghost use Rattle.filling.specs.TrackerTables.{trackerTables};
 ghost use Rattle.tracker.specs.Build.{buildTables};
 ghost use Rattle.listing.specs.List.{Left};

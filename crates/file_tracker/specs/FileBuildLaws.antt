@@ -6,7 +6,7 @@ use lib.ListN.{take, drop}
 use Rattle.gate.specs.Gate.{cleared}
 use Rattle.gate.specs.declared.Refusal.{Refusal}
 use Rattle.automaton.specs.Automaton.{Automaton, automaton, AreNumbers}
-use Rattle.automaton.specs.Lent.{clearedWitness, lentTable}
+use Rattle.lent.specs.Lent.{clearedWitness, lentTable}
 use Rattle.automaton.specs.declared.Numbers.{Numbers}
 use Rattle.format.specs.Format.{Sheet}
 use Rattle.format.specs.Numbers.{numbers}

@@ -1,7 +1,7 @@
 // The tracker of a sheet file: its questions, its successor sets, and every tuple that some word reaches, in lent tables.
 ghost use Prim.Native.Nat.{_≤_};
 ghost use lib.ListN.{length};
-ghost use Rattle.automaton.specs.Lent.{witnessTables};
+ghost use Rattle.lent.specs.Lent.{witnessTables};
 ghost use Rattle.filling.specs.TrackerTables.{trackerTables};
 ghost use Rattle.tracker.specs.Build.{buildTables, EnoughToBuild};
 ghost use Rattle.file_tracker.specs.FileBuild.{Builds, BuildsNamed};

@@ -4,7 +4,7 @@ use mathlib.Core.Path.{_≡_}
 use mathlib.Core.List.{List}
 use Rattle.gate.specs.Gate.{refusal, cleared, Put}
 use Rattle.gate.specs.declared.Refusal.{Refusal}
-use Rattle.automaton.specs.Lent.{EnoughForWitness, clearedWitness}
+use Rattle.lent.specs.Lent.{EnoughForWitness, clearedWitness}
 use Rattle.format.specs.Format.{Sheet}
 use Rattle.sheet.specs.Read.{Accepted, Refuses}
 use Rattle.gate.specs.declared.Written.{Written}

@@ -8,7 +8,7 @@ use Rattle.gate.specs.Gate.{Put}
 use Rattle.gate.specs.declared.Written.{Written}
 use Rattle.automaton.specs.declared.Numbers.{Numbers}
 use Rattle.automaton.specs.Automaton.{Automaton, automaton}
-use Rattle.automaton.specs.Lent.{WitnessTables, EnoughForWitness}
+use Rattle.lent.specs.Lent.{WitnessTables, EnoughForWitness}
 use Rattle.format.specs.Numbers.{numbers}
 use Rattle.format.specs.NumbersLaws.{sheet-fits, numbers-length, automaton-is}
 use Rattle.parser.specs.LettersOf.{NamesIn}

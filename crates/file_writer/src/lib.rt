@@ -1,5 +1,5 @@
 // Writing a sheet file anew.
-ghost use Rattle.automaton.specs.Lent.{witnessTables};
+ghost use Rattle.lent.specs.Lent.{witnessTables};
 ghost use Rattle.writer.specs.Write.{writeTables};
 ghost use Rattle.file_writer.specs.FileWrite.{Writes};
 use gate::Refusal;
@@ -20,7 +20,7 @@ pub fn write(
         (writeTables (witnessTables (now (word .exit)) (now (one .exit)) (now (other .exit))) (now (out .exit))) r ⌝ }
 {
     let mut table = [0u16; 128];
-    if !walks::long_enough(&table, word, one, other) {
+    if !lent::long_enough(&table, word, one, other) {
         return Written::Refused(Refusal {
             number: 1,
             line: 0,

@@ -5,7 +5,7 @@ use mathlib.Core.List.{List}
 use lib.ListN.{set, replicate}
 use Rattle.gate.specs.Gate.{cleared}
 use Rattle.automaton.specs.Automaton.{Automaton, Fits}
-use Rattle.tuple.specs.Colour.{neutral}
+use Rattle.colour.specs.Colour.{neutral}
 use Rattle.numbering.specs.Numbering.{MoreThan}
 use Rattle.expanding.specs.Tables.{TrackerTables, EnoughForTracker}
 use Rattle.filling.specs.TrackerTables.{Fitted}

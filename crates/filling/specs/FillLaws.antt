@@ -11,7 +11,7 @@ use Rattle.gate.specs.GateLaws.{zeros, length-cleared}
 use Rattle.row_index.specs.Index.{Added}
 use Rattle.automaton.specs.Automaton.{Automaton, Fits}
 use Rattle.gate.specs.Gate.{cleared}
-use Rattle.tuple.specs.Colour.{neutral}
+use Rattle.colour.specs.Colour.{neutral}
 use Rattle.sets.specs.Sets.{isEmpty}
 use Rattle.tuple.specs.Step.{Tuple, unlessEmpty, closed, first}
 use Rattle.tuple.specs.Row.{row}

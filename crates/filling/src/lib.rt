@@ -15,7 +15,7 @@ fn begin(a: Numbers, tuples: &mut [u16], head: &mut [u16], link: &mut [u16])
 {
     let mut w = [0u16; row_index::CELLS];
     w[0] = a.initial;
-    let neutral = tuple::Colour::neutral(a.n);
+    let neutral = colour::Colour::neutral(a.n);
     w[16] = neutral.0;
     rows::find_or_add(tuples, 0, 1, &w, head, link);
 }

@@ -15,7 +15,7 @@ use Rattle.sets.specs.SetLaws.{no-member, some-member, member-lt, union-right, 
 use Rattle.automaton.specs.declared.Numbers.{Numbers}
 use Rattle.automaton.specs.Automaton.{automaton, graphOf, AreNumbers, Fits}
 use Rattle.automaton.specs.Graph.{Edge, InRange}
-use Rattle.automaton.specs.Lent.{lentTable}
+use Rattle.lent.specs.Lent.{lentTable}
 use Rattle.format.specs.Format.{State, Transition, Sheet, FlagsRight, StatesRight, TransitionRight, TransitionsRight, cell, transitionIndex, Right, FileIs}
 use Rattle.format.specs.Numbers.{flagSet, inserted, tableOf, numbers}
 

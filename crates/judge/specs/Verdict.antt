@@ -5,7 +5,7 @@ use mathlib.Core.List.{List}
 use lib.ListN.{length}
 use Rattle.gate.specs.Gate.{refusal, cleared}
 use Rattle.gate.specs.declared.Refusal.{Refusal}
-use Rattle.automaton.specs.Lent.{clearedWitness, lentTable}
+use Rattle.lent.specs.Lent.{clearedWitness, lentTable}
 use Rattle.format.specs.Format.{Sheet, mostSheet}
 use Rattle.format.specs.Numbers.{numbers}
 use Rattle.sheet.specs.Read.{Accepted, Refuses}

@@ -9,7 +9,7 @@ use Rattle.gate.specs.Gate.{cleared}
 use Rattle.gate.specs.GateLaws.{same-cleared}
 use Rattle.gate.specs.declared.Refusal.{Refusal}
 use Rattle.automaton.specs.Automaton.{Fits}
-use Rattle.automaton.specs.Lent.{clearedWitness, lentTable}
+use Rattle.lent.specs.Lent.{clearedWitness, lentTable}
 use Rattle.format.specs.Format.{Sheet}
 use Rattle.format.specs.Numbers.{numbers}
 use Rattle.format.specs.NumbersLaws.{sheet-fits}

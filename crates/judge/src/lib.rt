@@ -2,7 +2,7 @@
 ghost use Prim.Native.Nat.{_≤_};
 ghost use lib.ListN.{length};
 ghost use Rattle.gate.specs.Gate.{Decides};
-ghost use Rattle.automaton.specs.Lent.{witnessTables};
+ghost use Rattle.lent.specs.Lent.{witnessTables};
 ghost use Rattle.name_rows.specs.Rows.{OnlyRow};
 ghost use Rattle.format.specs.Format.{Sheet};
 ghost use Rattle.parser.specs.LettersOf.{NamesIn};
@@ -131,9 +131,7 @@ pub fn verdict(
     if !sizes_fit(sheet, plan) {
         gate::clear(table);
         filling::clear(tuples, nexts);
-        gate::clear(word);
-        gate::clear(one);
-        gate::clear(other);
+        lent::clear_witness(word, one, other);
         return Outcome::Refused(Refusal {
             number: 2,
             line: 0,

@@ -4,7 +4,7 @@ use mathlib.Core.Path.{_≡_}
 use mathlib.Core.List.{List}
 use Rattle.gate.specs.Gate.{refusal}
 use Rattle.gate.specs.declared.Refusal.{Refusal}
-use Rattle.automaton.specs.Lent.{WitnessTables, EnoughForWitness, clearedWitness}
+use Rattle.lent.specs.Lent.{WitnessTables, EnoughForWitness, clearedWitness}
 use Rattle.letter_search.specs.declared.Found.{Found}
 use Rattle.letter_search.specs.declared.Found.the-variants.{Refused, Letter}
 use Rattle.format.specs.Format.{Sheet}

@@ -2,7 +2,7 @@
 use mathlib.Core.List.{List}
 use Prim.Native.Nat.{ℕ}
 use Rattle.automaton.specs.declared.Numbers.{Numbers}
-use Rattle.automaton.specs.Lent.{EnoughForWitness}
+use Rattle.lent.specs.Lent.{EnoughForWitness}
 use Rattle.format.specs.Format.{Sheet}
 use Rattle.letter_search.specs.declared.Found.{Found}
 use Rattle.parser.specs.LettersOf.{NamesIn}

@@ -1,7 +1,7 @@
 // The letter of a name in a sheet file.
 mod finding;
 
-ghost use Rattle.automaton.specs.Lent.{witnessTables};
+ghost use Rattle.lent.specs.Lent.{witnessTables};
 ghost use Rattle.letter_search.specs.Find.{Finds};
 use gate::Refusal;
 use sheet::Read;
@@ -26,7 +26,7 @@ pub fn find(
         (witnessTables (now (word .entry)) (now (one .entry)) (now (other .entry))) (witnessTables (now (word .exit)) (now (one .exit)) (now (other .exit))) r ⌝ }
 {
     let mut table = [0u16; 128];
-    if !walks::long_enough(&table, word, one, other) {
+    if !lent::long_enough(&table, word, one, other) {
         return Found::Refused(Refusal {
             number: 1,
             line: 0,

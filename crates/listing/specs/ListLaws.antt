@@ -7,8 +7,8 @@ use Rattle.gate.specs.Gate.{refusal, RefusedWith}
 use Rattle.gate.specs.GateLaws.{refused-first}
 use Rattle.gate.specs.declared.Refusal.{Refusal}
 use Rattle.automaton.specs.Automaton.{Automaton, Fits, AreNumbers}
-use Rattle.automaton.specs.Lent.{clearedWitness}
-use Rattle.automaton.specs.QuestionLaws.{numbers-number}
+use Rattle.lent.specs.Lent.{clearedWitness}
+use Rattle.lent.specs.LentLaws.{numbers-number}
 use Rattle.filling.specs.TrackerTables.{TrackerTables, clearedTracker, EnoughForTracker, Fitted}
 use Rattle.tracker.specs.Build.{BuildNumbersTables, buildNumbersTables, clearedBuildNumbers, BuildsNumbers}
 use Rattle.tracker.specs.BuildLaws.{numbers-built}

@@ -4,7 +4,7 @@ use gate::Refusal;
 use gate::Written;
 use tracker::Built;
 ghost use Rattle.automaton.specs.Automaton.{automaton};
-ghost use Rattle.automaton.specs.Lent.{witnessTables};
+ghost use Rattle.lent.specs.Lent.{witnessTables};
 ghost use Rattle.filling.specs.TrackerTables.{trackerTables};
 ghost use Rattle.tracker.specs.Build.{buildNumbersTables};
 ghost use Rattle.listing_text.specs.Listing.{listing};
@@ -27,8 +27,7 @@ pub fn finish(
 {
     let bytes = listing_text::listing_length(n, k, count);
     if out.len() < bytes {
-        gate::clear(tuples);
-        gate::clear(nexts);
+        filling::clear(tuples, nexts);
         gate::clear_bytes(out);
         return Written::Refused(Refusal {
             number: 1,

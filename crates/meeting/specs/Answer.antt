@@ -3,7 +3,7 @@ use Prim.Native.Nat.{ℕ, _<_}
 use mathlib.Core.Path.{_≡_}
 use Rattle.automaton.specs.Graph.{Graph, GraphFits}
 use Rattle.automaton.specs.Meeting.{Free, Witness}
-use Rattle.automaton.specs.Lent.{WitnessTables, EnoughForSheet, clearedWitness, SameLengths}
+use Rattle.lent.specs.Lent.{WitnessTables, EnoughForSheet, clearedWitness, SameLengths}
 
 -- the questions before are answered yes, and the tables are lent, long enough and all zero
 pub record Asked (G : Graph) (witness : WitnessTables) : Type 0 where

@@ -6,7 +6,7 @@ use Rattle.sets.specs.Sets.{Member}
 use Rattle.sets.specs.SetLaws.{all-members}
 use Rattle.automaton.specs.Graph.{Graph, GraphFits}
 use Rattle.automaton.specs.Meeting.{Meet, Everywhere, Free, Witness}
-use Rattle.automaton.specs.Lent.{WitnessTables, SameLengths}
+use Rattle.lent.specs.Lent.{WitnessTables, SameLengths}
 use Rattle.pairs.specs.Joining.{Backwards}
 use Rattle.automaton.specs.EdgeLaws.{walk-in}
 use Rattle.meeting.specs.Answer.{Answered}

@@ -10,7 +10,7 @@ use Rattle.gate.specs.Gate.{Zero}
 use Rattle.gate.specs.GateLaws.{zero-cleared}
 use Rattle.sets.specs.Sets.{Member}
 use Rattle.automaton.specs.Graph.{Graph, Edge, successorSet}
-use Rattle.automaton.specs.Lent.{WitnessTables}
+use Rattle.lent.specs.Lent.{WitnessTables}
 use Rattle.queue.specs.Queue.{pair, depth, one, other}
 use Rattle.automaton.specs.EdgeLaws.{edge-of}
 use Rattle.meeting.specs.Answer.{Asked}

@@ -5,7 +5,7 @@ use mathlib.Core.List.{List}
 use lib.ListN.{length, getD, set}
 use Rattle.sets.specs.Sets.{Member}
 use Rattle.automaton.specs.Graph.{Graph, Edge}
-use Rattle.automaton.specs.Lent.{WitnessTables, witnessTables}
+use Rattle.lent.specs.Lent.{WitnessTables, witnessTables}
 use Rattle.queue.specs.Queue.{pair, origin, depth, one, other}
 use Rattle.pair_search.specs.Search.{AllJustified}
 

@@ -8,7 +8,7 @@ use native.Mathlib.Decide.{ℕ-discrete}
 use lib.ListN.{length, getD, set}
 use lib.Seq.{getD-set-same, getD-set-other}
 use Rattle.automaton.specs.Graph.{Graph, Edge}
-use Rattle.automaton.specs.Lent.{WitnessTables}
+use Rattle.lent.specs.Lent.{WitnessTables}
 use Rattle.queue.specs.Queue.{pair, origin, depth, one, other}
 use Rattle.pair_search.specs.Search.{Justified, AllJustified, Next}
 use Rattle.meeting.specs.Trace.{noted, Tail, Traced, Linked, Leads}

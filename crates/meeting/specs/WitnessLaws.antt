@@ -10,7 +10,7 @@ use lib.ListN.{getD}
 use Rattle.sets.specs.Sets.{Member}
 use Rattle.automaton.specs.Graph.{Graph}
 use Rattle.automaton.specs.Meeting.{Walk, Witness, cells}
-use Rattle.automaton.specs.Lent.{WitnessTables}
+use Rattle.lent.specs.Lent.{WitnessTables}
 use Rattle.queue.specs.Queue.{pair, depth, one, other}
 use Rattle.pair_search.specs.Search.{Justified, JoinsOn, Common, Joining, MeetingFound}
 use Rattle.meeting.specs.Trace.{noted, ended, Tail, Traced, Leads}

@@ -6,7 +6,7 @@ ghost use Rattle.sets.specs.Sets.{Member};
 ghost use Rattle.pairs.specs.Joining.{Backwards};
 ghost use Rattle.automaton.specs.Graph.{graph};
 ghost use Rattle.automaton.specs.Meeting.{Witness};
-ghost use Rattle.automaton.specs.Lent.{witnessTables};
+ghost use Rattle.lent.specs.Lent.{witnessTables};
 ghost use Rattle.meeting.specs.Answer.{Asked, Answered};
 ghost use Rattle.pair_search.specs.Search.{MeetingFound};
 ghost use Rattle.meeting.specs.Trace.{noted, Traceable, Leads};

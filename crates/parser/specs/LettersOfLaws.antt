@@ -8,7 +8,7 @@ use Rattle.gate.specs.Gate.{RefusedBy, cleared}
 use Rattle.gate.specs.declared.Refusal.{Refusal}
 use Rattle.automaton.specs.Automaton.{AreNumbers}
 use Rattle.automaton.specs.declared.Numbers.{Numbers}
-use Rattle.automaton.specs.Lent.{lentTable}
+use Rattle.lent.specs.Lent.{lentTable}
 use Rattle.name_rows.specs.Rows.{HoldNames}
 use Rattle.format.specs.Format.{Sheet, FileIs, Faulty}
 use Rattle.format.specs.Numbers.{numbers}

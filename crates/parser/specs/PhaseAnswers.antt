@@ -12,7 +12,7 @@ use Rattle.parser.specs.declared.File.the-variants as F
 use Rattle.parser.specs.Parse.{Contents}
 use Rattle.frame.specs.Phase.{Phase, refused, passed}
 use Rattle.name_rows.specs.Rows.{HoldNames}
-use Rattle.automaton.specs.Lent.{lentTable}
+use Rattle.lent.specs.Lent.{lentTable}
 
 -- an automaton's numbers but for its table
 abbrev pub numbersOf : Automaton → Numbers

@@ -5,7 +5,7 @@ use lib.Dec.{eqb}
 use lib.ListN.{length}
 use Rattle.gate.specs.declared.Refusal.{Refusal}
 use Rattle.lists.specs.Choice.{choose}
-use Rattle.automaton.specs.Lent.{WitnessTables, EnoughForWitness}
+use Rattle.lent.specs.Lent.{WitnessTables, EnoughForWitness}
 use Rattle.report.specs.Report.{refusalLine}
 use Rattle.witness_text.specs.WitnessText.{witnessText}
 use Rattle.rewrite_output.specs.Rewrite.{longestRewrite}

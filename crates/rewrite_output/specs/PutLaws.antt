@@ -11,7 +11,7 @@ use lib.Seq.{sets}
 use borrow.Author.Tests.{eq-eqb, ne-eqb}
 use Rattle.gate.specs.declared.Refusal.{Refusal}
 use Rattle.lists.specs.Choice.{choose}
-use Rattle.automaton.specs.Lent.{WitnessTables}
+use Rattle.lent.specs.Lent.{WitnessTables}
 use Rattle.report.specs.Report.{refusalLine}
 use Rattle.report.specs.ReportLaws.{refusal-length}
 use Rattle.witness_text.specs.WitnessText.{witnessText}

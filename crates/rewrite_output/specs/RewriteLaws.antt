@@ -14,7 +14,7 @@ use Rattle.automaton.specs.Automaton.{graphOf}
 use Rattle.automaton.specs.QuestionLaws.{fits-graph}
 use Rattle.automaton.specs.EdgeLaws.{edge-letter, walk-in}
 use Rattle.automaton.specs.Meeting.{cells}
-use Rattle.automaton.specs.Lent.{WitnessTables, EnoughForWitness, Meets}
+use Rattle.lent.specs.Lent.{WitnessTables, EnoughForWitness, Meets}
 use Rattle.format.specs.Format.{Sheet, FileIs, Faulty, mostSheet}
 use Rattle.format.specs.FormatLaws.{fault-number}
 use Rattle.format.specs.Numbers.{numbers}

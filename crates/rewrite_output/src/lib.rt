@@ -1,7 +1,7 @@
 // The whole of program `rewrite`: from the bytes of standard input to those of standard output.
 ghost use Prim.Native.Nat.{_+_};
 ghost use mathlib.Core.Path.{_≡_};
-ghost use Rattle.automaton.specs.Lent.{witnessTables};
+ghost use Rattle.lent.specs.Lent.{witnessTables};
 ghost use Rattle.format.specs.Format.{mostSheet};
 ghost use Rattle.report.specs.Output.{Prints};
 ghost use Rattle.witness_text.specs.Put.{WrittenAt};

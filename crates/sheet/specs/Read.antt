@@ -9,7 +9,7 @@ use Rattle.gate.specs.declared.Refusal.{Refusal}
 use Rattle.automaton.specs.declared.Numbers.{Numbers}
 use Rattle.automaton.specs.Automaton.{graphOf, AreNumbers}
 use Rattle.automaton.specs.Meeting.{Free, Everywhere}
-use Rattle.automaton.specs.Lent.{WitnessTables, EnoughForSheet, clearedWitness, lentTable, Meets}
+use Rattle.lent.specs.Lent.{WitnessTables, EnoughForSheet, clearedWitness, lentTable, Meets}
 use Rattle.sheet.specs.declared.Read.{Read}
 use Rattle.sheet.specs.declared.Read.the-variants.{Refused, Is}
 use Rattle.format.specs.Format.{Sheet, FileIs, Faulty}

@@ -14,8 +14,8 @@ use Rattle.automaton.specs.QuestionLaws.{same-graph, fits-graph}
 use Rattle.automaton.specs.declared.GraphNumbers.{GraphNumbers}
 use Rattle.automaton.specs.declared.Numbers.{Numbers}
 use Rattle.automaton.specs.Meeting.{Everywhere}
-use Rattle.automaton.specs.Lent.{WitnessTables, EnoughForWitness, clearedWitness, EnoughForSheet}
-use Rattle.automaton.specs.LentLaws.{tables-twice, long-cleared, meets-cleared}
+use Rattle.lent.specs.Lent.{WitnessTables, EnoughForWitness, clearedWitness, EnoughForSheet}
+use Rattle.lent.specs.LentLaws.{tables-twice, long-cleared, meets-cleared}
 use Rattle.meeting.specs.Answer.{Asked, Answered}
 use Rattle.walks.specs.CheckLaws.{meets-answered}
 use Rattle.format.specs.FormatLaws.{fault-number}

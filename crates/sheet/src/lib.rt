@@ -1,7 +1,7 @@
 // The sheet file, read.
 pub mod reading;
 
-ghost use Rattle.automaton.specs.Lent.{witnessTables};
+ghost use Rattle.lent.specs.Lent.{witnessTables};
 ghost use Rattle.sheet.specs.Read.{sheetTables, Reads};
 use automaton::Numbers;
 use gate::Refusal;
@@ -25,7 +25,7 @@ pub fn read_sheet(
         (sheetTables (now (table .entry)) (witnessTables (now (word .entry)) (now (one .entry)) (now (other .entry))))
         (sheetTables (now (table .exit)) (witnessTables (now (word .exit)) (now (one .exit)) (now (other .exit)))) r ⌝ }
 {
-    if !walks::long_enough(table, word, one, other) {
+    if !lent::long_enough(table, word, one, other) {
         return Read::Refused(Refusal {
             number: 1,
             line: 0,

@@ -3,7 +3,7 @@ ghost use mathlib.Core.Path.{_≡_};
 ghost use Prim.Native.Nat.{_≤_};
 ghost use lib.ListN.{length};
 ghost use Rattle.gate.specs.Gate.{cleared};
-ghost use Rattle.automaton.specs.Lent.{witnessTables, EnoughForSheet, clearedWitness};
+ghost use Rattle.lent.specs.Lent.{witnessTables, EnoughForSheet, clearedWitness};
 ghost use Rattle.sheet.specs.Read.{readTables, ReadsNamed};
 use super::Read;
 use gate::Refusal;
@@ -59,8 +59,6 @@ pub fn read_long(
         (readTables (now (table .exit)) (now (rows .exit)) (witnessTables (now (word .exit)) (now (one .exit)) (now (other .exit)))) r ⌝ }
 {
     gate::clear(table);
-    gate::clear(word);
-    gate::clear(one);
-    gate::clear(other);
+    lent::clear_witness(word, one, other);
     read_cleared(sheet, table, rows, word, one, other)
 }

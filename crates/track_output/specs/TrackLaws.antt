@@ -10,7 +10,7 @@ use Rattle.gate.specs.declared.Refusal.{Refusal}
 use Rattle.gate.specs.declared.Written.{Written}
 use Rattle.gate.specs.declared.Written.the-variants.{Refused, Bytes}
 use Rattle.automaton.specs.Automaton.{AreNumbers}
-use Rattle.automaton.specs.Lent.{witnessTables}
+use Rattle.lent.specs.Lent.{witnessTables}
 use Rattle.format.specs.Format.{Sheet, Faulty, mostSheet}
 use Rattle.format.specs.Numbers.{numbers}
 use Rattle.format.specs.NumbersLaws.{sheet-fits}

@@ -6,7 +6,7 @@ use Rattle.gate.specs.Gate.{refusal, cleared}
 use Rattle.gate.specs.declared.Refusal.{Refusal}
 use Rattle.automaton.specs.Automaton.{Automaton, graphOf, Fits, AreNumbers}
 use Rattle.automaton.specs.Meeting.{Free, Everywhere}
-use Rattle.automaton.specs.Lent.{WitnessTables, EnoughForSheet, clearedWitness, NumbersRefuse}
+use Rattle.lent.specs.Lent.{WitnessTables, EnoughForSheet, clearedWitness, NumbersRefuse}
 use Rattle.numbering.specs.Numbering.{MoreThan}
 use Rattle.filling.specs.TrackerTables.{TrackerTables, clearedTracker, EnoughForTracker, Fitted}
 use Rattle.tracker.specs.declared.Built.{Built}

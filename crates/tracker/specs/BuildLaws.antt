@@ -4,7 +4,7 @@ use mathlib.Core.Path.{_≡_}
 use native.Mathlib.Omega.{arith}
 use Rattle.gate.specs.declared.Refusal.{Refusal}
 use Rattle.automaton.specs.Automaton.{Automaton, Fits, AreNumbers}
-use Rattle.automaton.specs.Lent.{clearedWitness}
+use Rattle.lent.specs.Lent.{clearedWitness}
 use Rattle.filling.specs.TrackerTables.{Fitted}
 use Rattle.tracker.specs.declared.Tracker.{Tracker}
 use Rattle.tracker.specs.declared.Built.the-variants.{Refused, Is}

@@ -4,7 +4,7 @@ use gate::Refusal;
 use walks::Checked;
 ghost use Rattle.automaton.specs.Automaton.{automaton, Fits};
 ghost use Rattle.gate.specs.Gate.{Decides};
-ghost use Rattle.automaton.specs.Lent.{witnessTables};
+ghost use Rattle.lent.specs.Lent.{witnessTables};
 ghost use Rattle.filling.specs.TrackerTables.{trackerTables, EnoughForTracker};
 ghost use Rattle.tracker.specs.Build.{buildNumbersTables, buildTables, EnoughToBuild, Tracks, BuildsNumbers};
 
@@ -44,7 +44,7 @@ pub fn enough(
     if nexts.len() < 8 * room {
         return false;
     }
-    walks::long_enough(table, word, one, other)
+    lent::long_enough(table, word, one, other)
 }
 
 // Question 11 on an automaton that fits, in tables with any contents.

@@ -1,5 +1,5 @@
 // The calls that build a tracker and list it.
-ghost use Rattle.automaton.specs.Lent.{witnessTables};
+ghost use Rattle.lent.specs.Lent.{witnessTables};
 ghost use Rattle.filling.specs.TrackerTables.{trackerTables};
 ghost use Rattle.tracker.specs.Build.{buildNumbersTables, buildTables, BuildsNumbers};
 ghost use Rattle.file_tracker.specs.FileBuild.{Builds};

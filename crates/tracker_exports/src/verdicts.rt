@@ -1,5 +1,5 @@
 // The call that judges a plan.
-ghost use Rattle.automaton.specs.Lent.{witnessTables};
+ghost use Rattle.lent.specs.Lent.{witnessTables};
 ghost use Rattle.filling.specs.TrackerTables.{trackerTables};
 ghost use Rattle.tracker.specs.Build.{buildTables};
 ghost use Rattle.judge.specs.Verdict.{Judgement};

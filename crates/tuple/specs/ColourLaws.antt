@@ -9,24 +9,12 @@ use native.Mathlib.Decide.{decLe}
 use lib.Dec.{T, ltb, ltb→lt, lt→ltb}
 use lib.ListN.{length}
 use Rattle.sets.specs.TestLaws.{none-of, empty-of}
-use Rattle.theory.specs.Run.{Some, None}
-use Rattle.tuple.specs.Colour.{neutral, marked, emptied, dead}
 use Rattle.sets.specs.Sets.{isEmpty}
-use Rattle.tuple.specs.Step.{Place, isEmptied, colourAt, least, deadOr, setAtPlace, colourOf}
+use Rattle.colour.specs.Colour.{neutral, marked, emptied, dead, isEmptied, colourAt, deadOr}
+use Rattle.colour.specs.ColourLaws.{colour-mark, colour-gone}
+use Rattle.theory.specs.Run.{Some, None}
+use Rattle.tuple.specs.Step.{Place, least, setAtPlace, colourOf}
 use Rattle.tuple.specs.PassLaws.{After, Marked, and-l, and-r, and-i}
-
--- The colour of one place
-
-colour-mark : (n i : ℕ) (m e : Bool) → T m → colourAt n i m e ≡ marked i
-unfolding colourAt
-colour-mark n i true e h = refl
-colour-mark n i false e h = absurd h
-
-colour-gone : (n i : ℕ) (m e : Bool) → (T m → ⊥) → T e → colourAt n i m e ≡ emptied i
-unfolding colourAt
-colour-gone n i true e f h = absurd (f tt)
-colour-gone n i false true f h = refl
-colour-gone n i false false f h = absurd h
 
 -- The least colour is at most that of each place
 

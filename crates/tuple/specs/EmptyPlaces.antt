@@ -10,7 +10,8 @@ use lib.Dec.{ltb}
 use lib.ListN.{length, replicate}
 use Rattle.sets.specs.Sets.{unionOf, minusOf, isEmpty}
 use Rattle.sets.specs.SetLaws.{union-zero, zero-minus}
-use Rattle.tuple.specs.Step.{unionAll, isMarked, minusEach, removed, Place, place, turns, pass, isEmptied, colourAt, least, deadOr, colourOf, unlessEmpty, closed, closeUp}
+use Rattle.colour.specs.Colour.{isEmptied, colourAt, deadOr}
+use Rattle.tuple.specs.Step.{unionAll, isMarked, minusEach, removed, Place, place, turns, pass, least, colourOf, unlessEmpty, closed, closeUp}
 use Rattle.tuple.specs.PassLaws.{removed-length, pass-cons, turns-length}
 
 -- the places with k empty ones behind them

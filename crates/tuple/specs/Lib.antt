@@ -1,4 +1,3 @@
-pub mod Colour
 pub mod Step
 pub mod Row
 pub mod Parts

@@ -3,13 +3,12 @@ use Prim.Native.Nat.{ℕ, zero, suc, min, _≤_, _<_}
 use mathlib.Core.Path.{_≡_}
 use mathlib.Core.Bool.{Bool, true, false, not, _&&_}
 use mathlib.Core.List.{List, [], _∷_, _++_, map}
-use lib.Dec.{ltb}
 use lib.ListN.{length, getD}
 use Rattle.sets.specs.Sets.{Member, unionOf, interOf, minusOf, isEmpty, isWithin}
 use Rattle.automaton.specs.Automaton.{Automaton, graphOf}
 use Rattle.automaton.specs.Graph.{Edge}
 use Rattle.automaton.specs.Successors.{successorsOf}
-use Rattle.tuple.specs.Colour.{neutral, marked, emptied, dead}
+use Rattle.colour.specs.Colour.{neutral, isEmptied, colourAt, deadOr}
 
 -- "A tuple is n sets, the non-empty ones first, and the colour of the step that entered it." Listed are the non-empty sets: their
 -- count is the list's length, and each place behind them is empty. "Tuples are equal when sets and colour are."
@@ -77,25 +76,11 @@ turns (suc k) (x ∷ later) =
 unfoldable pub pass : List ℕ → List Place
 pass sets = turns (length sets) sets
 
--- 4. is place i, with set x now, "non-empty before the step and empty now"? The first p places were non-empty before the step.
-abbrev pub isEmptied : ℕ → ℕ → ℕ → Bool
-isEmptied p i x = isEmpty x && ltb i p
-
--- the colour of place i: is it marked, is it emptied
-unfoldable pub colourAt : ℕ → ℕ → Bool → Bool → ℕ
-colourAt n i true e = marked i
-colourAt n i false true = emptied i
-colourAt n i false false = neutral n
-
--- "the least of 2i+2 for marked i and 2i+1 for each i non-empty before the step and empty now; 2n+1 if there is none", over the
+-- 4. "the least of 2i+2 for marked i and 2i+1 for each i non-empty before the step and empty now; 2n+1 if there is none", over the
 -- places from i on. A marked or emptied place has a colour below the neutral one.
 unfoldable pub least : ℕ → ℕ → ℕ → List Place → ℕ
 least n p i [] = neutral n
 least n p i (x ∷ later) = min (colourAt n i (x .mark) (isEmptied p i (x .states))) (least n p (suc i) later)
-
-unfoldable pub deadOr : Bool → ℕ → ℕ
-deadOr true c = dead
-deadOr false c = c
 
 -- the set at place i after the pass, before closing up
 abbrev pub setAtPlace : List Place → ℕ → ℕ

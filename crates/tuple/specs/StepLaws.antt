@@ -10,7 +10,8 @@ use Rattle.sets.specs.Sets.{interOf, isEmpty}
 use Rattle.automaton.specs.Automaton.{Automaton}
 use Rattle.automaton.specs.Successors.{successorsOf}
 use Rattle.automaton.specs.SuccessorLaws.{successors-empty}
-use Rattle.tuple.specs.Step.{setAt, recurrent, places, turns, pass, setAtPlace, deadOr, colourOf, closeUp, next}
+use Rattle.colour.specs.Colour.{deadOr}
+use Rattle.tuple.specs.Step.{setAt, recurrent, places, turns, pass, setAtPlace, colourOf, closeUp, next}
 use Rattle.tuple.specs.PassLaws.{turns-length}
 use Rattle.tuple.specs.CloseLaws.{closeUp-length}
 use Rattle.tuple.specs.PlaceLaws.{places-length}

@@ -10,8 +10,8 @@ use borrow.Author.Tests.{eq-eqb, ne-eqb}
 use lib.ListN.{length, getD, set, take, drop, replicate, length-append, length-replicate, length-drop}
 use lib.Seq.{drop-cons, getD-at, set-at, slice, slice-empty, slice-cons}
 use Rattle.sets.specs.Sets.{minusOf}
-use Rattle.tuple.specs.Colour.{neutral}
-use Rattle.tuple.specs.Step.{unionAll, isMarked, minusEach, Place, place, turns, pass, isEmptied, colourAt, least, unlessEmpty, closed, closeUp}
+use Rattle.colour.specs.Colour.{neutral, isEmptied, colourAt}
+use Rattle.tuple.specs.Step.{unionAll, isMarked, minusEach, Place, place, turns, pass, least, unlessEmpty, closed, closeUp}
 use Rattle.tuple.specs.ColourLaws.{least-top}
 use Rattle.tuple.specs.Parts.{outOf, Swept}
 use Rattle.tuple.specs.GatherLaws.{minus-each-none, pass-turn}

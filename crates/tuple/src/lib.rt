@@ -1,75 +1,14 @@
 // One step of the tuple, on its row of 17 cells: 16 sets, the non-empty ones first, and the colour.
 use automaton::Numbers;
+use colour::Colour;
 ghost use mathlib.Core.Path.{_≡_};
-ghost use Prim.Native.Nat.{_+_, _≤_, _<_, min};
+ghost use Prim.Native.Nat.{_+_, _≤_, _<_};
 ghost use lib.ListN.{length};
-ghost use Rattle.sets.specs.Sets.{interOf, isEmpty};
+ghost use Rattle.sets.specs.Sets.{interOf};
 ghost use Rattle.automaton.specs.Automaton.{automaton};
-ghost use Rattle.tuple.specs.Colour.{neutral, marked, emptied};
-ghost use Rattle.tuple.specs.Step.{isMarked, isEmptied, colourAt, deadOr, next};
+ghost use Rattle.tuple.specs.Step.{isMarked, next};
 ghost use Rattle.tuple.specs.Parts.{outOf, Advanced, Unions, Swept, Placed, settled};
 ghost use Rattle.tuple.specs.Row.{row, tupleOf, Steps};
-
-// The colour of a step.
-pub struct Colour(pub u16);
-
-impl Colour {
-    // Set 0 is empty.
-    pub const DEAD: Colour = Colour(1);
-
-    // No place is marked or emptied, of n.
-    pub fn neutral(n: usize) -> Colour
-        requires { ⌜ n ≤ 16 ⌝ }
-        ensures { λ r. ⌜ r .0 ≡ neutral n ⌝ }
-    {
-        Colour(2 * (n as u16) + 1)
-    }
-
-    // Place i is marked.
-    pub fn marked(i: usize) -> Colour
-        requires { ⌜ i ≤ 16 ⌝ }
-        ensures { λ r. ⌜ r .0 ≡ marked i ⌝ }
-    {
-        Colour(2 * (i as u16) + 2)
-    }
-
-    // Place i was not empty before the step, and is now.
-    pub fn emptied(i: usize) -> Colour
-        requires { ⌜ i ≤ 16 ⌝ }
-        ensures { λ r. ⌜ r .0 ≡ emptied i ⌝ }
-    {
-        Colour(2 * (i as u16) + 1)
-    }
-
-    pub fn least(self, other: Colour) -> Colour
-        ensures { λ r. ⌜ r .0 ≡ min (self .0) (other .0) ⌝ }
-    {
-        if self.0 < other.0 { self } else { other }
-    }
-}
-
-// "1 if set 0 is empty": the colour of a step whose set 0 is given.
-fn dead_or(first: u16, colour: Colour) -> Colour
-    ensures { λ r. ⌜ r .0 ≡ deadOr (isEmpty first) (colour .0) ⌝ }
-{
-    if first == 0 { Colour::DEAD } else { colour }
-}
-
-// The colour of place i with set x after its turn: marked, or one of the first p places and empty now, or neither.
-fn colour_at(n: usize, i: usize, p: usize, x: u16, mark: bool) -> Colour
-    requires { ⌜ (n ≤ 16) × (i ≤ 16) ⌝ }
-    ensures { λ r. ⌜ r .0 ≡ colourAt n i mark (isEmptied p i x) ⌝ }
-{
-    if mark {
-        return Colour::marked(i);
-    }
-    if x == 0 {
-        if i < p {
-            return Colour::emptied(i);
-        }
-    }
-    Colour::neutral(n)
-}
 
 // Is a place with set x marked, where the later places have the members given?
 fn is_marked(x: u16, later: u16) -> bool
@@ -138,7 +77,7 @@ fn sweep(n: usize, p: usize, later: &[u16], w: &mut [u16]) -> Colour
     while i <= p {
         let x = sets::minus(w[i], out);
         let mark = is_marked(x, later[i]);
-        colour = colour.least(colour_at(n, i, p, x, mark));
+        colour = colour.least(colour::colour_at(n, i, p, x, mark));
         out = out_of(mark, out, x);
         w[i] = 0;
         if x != 0 {
@@ -169,7 +108,7 @@ fn settle(n: usize, p: usize, w: &mut [u16])
     let mut later = [0u16; 17];
     unions(w, p + 1, &mut later);
     let first = w[0];
-    let colour = dead_or(first, sweep(n, p, &later, w));
+    let colour = colour::dead_or(first, sweep(n, p, &later, w));
     w[16] = colour.0;
 }
 

@@ -7,7 +7,7 @@ use native.Mathlib.Omega.{arith}
 use lib.ListN.{length, take, drop, length-drop}
 use lib.Seq.{length-take-le}
 use Rattle.gate.specs.Gate.{refusal, lentText}
-use Rattle.automaton.specs.Lent.{witnessTables}
+use Rattle.lent.specs.Lent.{witnessTables}
 use Rattle.text.specs.Bytes.{stretch}
 use Rattle.text.specs.BytesLaws.{stretch-end}
 use Rattle.filling.specs.TrackerTables.{trackerTables}

@@ -5,7 +5,7 @@ use mathlib.Core.Logic.{_⊎_}
 use Rattle.gate.specs.Gate.{refusal}
 use Rattle.automaton.specs.Automaton.{Automaton, graphOf, Fits}
 use Rattle.automaton.specs.Meeting.{Everywhere, Free}
-use Rattle.automaton.specs.Lent.{WitnessTables, EnoughForSheet, clearedWitness, NumbersRefuse}
+use Rattle.lent.specs.Lent.{WitnessTables, EnoughForSheet, clearedWitness, NumbersRefuse}
 use Rattle.walks.specs.declared.Checked.{Checked}
 use Rattle.walks.specs.declared.Checked.the-variants.{Refused, Accepted}
 

@@ -6,8 +6,8 @@ use mathlib.Core.List.{List}
 use native.Mathlib.Omega.{arith}
 use Rattle.automaton.specs.Automaton.{Automaton, graphOf, Fits}
 use Rattle.automaton.specs.Graph.{Graph}
-use Rattle.automaton.specs.Lent.{WitnessTables, EnoughForSheet, clearedWitness, Meets}
-use Rattle.automaton.specs.LentLaws.{lengths-cleared, tables-twice, refuse-cleared}
+use Rattle.lent.specs.Lent.{WitnessTables, EnoughForSheet, clearedWitness, Meets}
+use Rattle.lent.specs.LentLaws.{lengths-cleared, tables-twice, refuse-cleared}
 use Rattle.automaton.specs.Meeting.{Everywhere}
 use Rattle.meeting.specs.Answer.{Answered}
 use Rattle.walks.specs.declared.Checked.{Checked}

@@ -1,10 +1,9 @@
 // The walk check: question 10, and the whole check of a sheet that is handed over as numbers.
 ghost use mathlib.Core.Path.{_≡_};
-ghost use Rattle.gate.specs.Gate.{Decides};
 ghost use Rattle.automaton.specs.Automaton.{automaton};
 ghost use Rattle.automaton.specs.Graph.{graph};
 ghost use Rattle.automaton.specs.Meeting.{Everywhere};
-ghost use Rattle.automaton.specs.Lent.{witnessTables, EnoughForSheet, clearedWitness};
+ghost use Rattle.lent.specs.Lent.{witnessTables, EnoughForSheet, clearedWitness};
 ghost use Rattle.meeting.specs.Answer.{Asked, Answered};
 ghost use Rattle.walks.specs.Check.{Checks, ChecksLong};
 use automaton::GraphNumbers;
@@ -31,25 +30,6 @@ pub fn ask(
         (witnessTables (now (word .exit)) (now (one .exit)) (now (other .exit))) r ⌝ }
 {
     meeting::search(g, table, 65535, word, one, other)
-}
-
-// Question 1 of a call that takes a sheet.
-pub fn long_enough(table: &[u16], word: &[u16], one: &[u16], other: &[u16]) -> bool
-    ensures { λ r. ⌜ Decides r (EnoughForSheet (now (table .entry)) (witnessTables (now (word .entry)) (now (one .entry)) (now (other .entry)))) ⌝ }
-{
-    if table.len() < 128 {
-        return false;
-    }
-    if word.len() < 136 {
-        return false;
-    }
-    if one.len() < 137 {
-        return false;
-    }
-    if other.len() < 137 {
-        return false;
-    }
-    true
 }
 
 // Questions 4, 7, 8 and 10, in tables that are long enough and all zero.
@@ -96,9 +76,7 @@ pub fn check_long(
     ensures { λ r. ⌜ ChecksLong (automaton a (now (table .entry))) (witnessTables (now (word .entry)) (now (one .entry)) (now (other .entry)))
         (witnessTables (now (word .exit)) (now (one .exit)) (now (other .exit))) r ⌝ }
 {
-    gate::clear(word);
-    gate::clear(one);
-    gate::clear(other);
+    lent::clear_witness(word, one, other);
     check_cleared(a, table, word, one, other)
 }
 
@@ -114,7 +92,7 @@ pub fn check(
     ensures { λ r. ⌜ Checks (automaton a (now (table .entry)))
         (witnessTables (now (word .entry)) (now (one .entry)) (now (other .entry))) (witnessTables (now (word .exit)) (now (one .exit)) (now (other .exit))) r ⌝ }
 {
-    if !long_enough(table, word, one, other) {
+    if !lent::long_enough(table, word, one, other) {
         return Checked::Refused(Refusal {
             number: 1,
             line: 0,

@@ -13,7 +13,7 @@ use Rattle.text.specs.Bytes.{space}
 use Rattle.columns.specs.Column.{column}
 use Rattle.columns.specs.ColumnLaws.{column-length}
 use Rattle.text.specs.PiecesLaws.{pieces-most}
-use Rattle.automaton.specs.Lent.{WitnessTables}
+use Rattle.lent.specs.Lent.{WitnessTables}
 use Rattle.witness_text.specs.WitnessText.{spaced, cellsLine, witnessText}
 use Rattle.witness_text.specs.Put.{spacedCells, WrittenAt}
 

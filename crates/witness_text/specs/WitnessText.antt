@@ -7,7 +7,7 @@ use Rattle.lists.specs.Choice.{choose}
 use Rattle.text.specs.Bytes.{lf, space}
 use Rattle.columns.specs.Column.{column}
 use Rattle.text.specs.Pieces.{pieces}
-use Rattle.automaton.specs.Lent.{WitnessTables}
+use Rattle.lent.specs.Lent.{WitnessTables}
 
 -- a letter or a state behind a space: it is below 16, and has one digit or two
 unfoldable pub spaced : ℕ → List ℕ

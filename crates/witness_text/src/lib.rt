@@ -5,7 +5,7 @@ ghost use mathlib.Core.List.{_∷_};
 ghost use lib.ListN.{length};
 ghost use Rattle.text.specs.Bytes.{space};
 ghost use Rattle.columns.specs.Column.{column};
-ghost use Rattle.automaton.specs.Lent.{witnessTables, EnoughForWitness};
+ghost use Rattle.lent.specs.Lent.{witnessTables, EnoughForWitness};
 ghost use Rattle.witness_text.specs.WitnessText.{spaced, cellsLine, witnessText};
 ghost use Rattle.witness_text.specs.Put.{spacedCells, WrittenAt, CellsThere};
 

@@ -1,6 +1,5 @@
 pub mod Writing
 pub mod Write
-pub mod Ask
 pub mod NumbersLaws
 pub mod FileLaws
 pub mod TrimmedLaws

@@ -4,12 +4,11 @@ use mathlib.Core.Path.{_≡_}
 use mathlib.Core.List.{List}
 use Rattle.gate.specs.Gate.{refusal, cleared, Put}
 use Rattle.gate.specs.declared.Refusal.{Refusal}
-use Rattle.automaton.specs.Automaton.{Automaton, graphOf, Fits}
-use Rattle.automaton.specs.Meeting.{Free, Everywhere}
-use Rattle.automaton.specs.Lent.{WitnessTables, clearedWitness, NumbersRefuse, EnoughForSheet}
+use Rattle.automaton.specs.Automaton.{Automaton}
+use Rattle.lent.specs.Lent.{WitnessTables, clearedWitness, EnoughForSheet}
 use Rattle.format.specs.Format.{Sheet}
 use Rattle.format.specs.Written.{written}
-use Rattle.sheet.specs.Read.{Accepted, Refuses}
+use Rattle.named_numbers.specs.Ask.{NamedRefuse, NamedAccepted}
 use Rattle.gate.specs.declared.Written.{Written}
 use Rattle.gate.specs.declared.Written.the-variants.{Refused}
 
@@ -23,20 +22,7 @@ pub record WriteTables : Type 0 where
 abbrev pub writeTables : WitnessTables → List ℕ → WriteTables
 writeTables witness output = record { witness = witness; output = output }
 
--- WRITING FROM NUMBERS A with a file s for the names. Questions 2 to 10; the tables are the witness:
--- "that file's questions come first, then a differing k is 4, line 0, then the questions on the numbers"
-pub data NamedRefuse (A : Automaton) (s : List ℕ) (before after : WitnessTables) (x : Refusal) : Type 0 where
-  by-names : Refuses s before after x → NamedRefuse A s before after x
-  by-letters : (σ : Sheet) → Accepted s σ → (σ .k ≡ A .k → ⊥) → x ≡ refusal 4 0 → after ≡ clearedWitness before → NamedRefuse A s before after x
-  by-numbers : (σ : Sheet) → Accepted s σ → σ .k ≡ A .k → NumbersRefuse A before after x → NamedRefuse A s before after x
-
--- all answered yes: s is the file of σ
-pub record NamedAccepted (A : Automaton) (s : List ℕ) (σ : Sheet) : Type 0 where
-  pub names : Accepted s σ
-  pub letters : σ .k ≡ A .k
-  pub fits : Fits A
-  pub free : Free (graphOf A) Everywhere
-
+-- WRITING FROM NUMBERS A with a file s for the names
 pub data WritesNumbers (A : Automaton) (s : List ℕ) (before after : WriteTables) (r : Written) : Type 0 where
   -- 1, asked first, "touches nothing"
   short : (EnoughForSheet (A .table) (before .witness) → ⊥) → r ≡ Refused (refusal 1 0) → after ≡ before → WritesNumbers A s before after r

@@ -27,6 +27,7 @@ use bench::Bench;
 use expected::ROOM;
 use random::Random;
 use sheet::{write_plan, write_sheet};
+use std::ops::Range;
 use std::path::PathBuf;
 
 /// A random sheet through every program, whole and damaged, and against Safra's construction.
@@ -62,14 +63,16 @@ fn main() {
         limits::run(b);
         larger::run(b);
     };
-    let of_sheets = |b: &mut Bench| {
-        for seed in 0..count {
+    let of_seeds = |b: &mut Bench, seeds: Range<usize>| {
+        for seed in seeds {
             let mut r = Random::new(seed as u64);
             let most = [3, 5, 8, 16][seed % 4];
             random_sheet(b, &mut r, most);
         }
     };
-    let b = Bench::side_by_side(programs, &[&of_limits, &calls::run, &of_sheets]);
+    let first_half = |b: &mut Bench| of_seeds(b, 0..count / 2);
+    let second_half = |b: &mut Bench| of_seeds(b, count / 2..count);
+    let b = Bench::side_by_side(programs, &[&of_limits, &calls::run, &first_half, &second_half]);
     b.report();
     println!("outside: {} passed, {} failed", b.passed, b.failed);
     if b.failed > 0 {

@@ -1,6 +1,6 @@
 -- Each answer is that of building, or of the last question. Assumes nothing.
 use mathlib.Core.Path.{subst}
-use Rattle.automaton.specs.Lent.{witnessTables}
+use Rattle.lent.specs.Lent.{witnessTables}
 use Rattle.filling.specs.TrackerTables.{trackerTables}
 use Rattle.tracker.specs.Build.{BuildTables, buildTables}
 use Rattle.file_tracker.specs.FileBuild.{Builds}

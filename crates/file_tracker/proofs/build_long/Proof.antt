@@ -3,7 +3,7 @@ use mathlib.Core.Path.{_≡_, refl, sym, subst, _∙_}
 use native.Mathlib.Omega.{arith}
 use lib.Seq.{length-take-le}
 use Rattle.gate.specs.GateLaws.{same-cleared}
-use Rattle.automaton.specs.Lent.{witnessTables}
+use Rattle.lent.specs.Lent.{witnessTables}
 use Rattle.sheet.specs.Read.{readTables, ReadsNamed}
 use Rattle.sheet.specs.ReadLaws.{read-fits}
 use Rattle.sheet.specs.declared.Read.{Read}

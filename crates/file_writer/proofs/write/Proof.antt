@@ -3,7 +3,7 @@ use mathlib.Core.Path.{refl, subst}
 use native.Mathlib.Omega.{arith}
 use lib.ListN.{replicate}
 use borrow.Author.Tests.{not-true, not-false}
-use Rattle.automaton.specs.Lent.{WitnessTables, witnessTables, EnoughForWitness}
+use Rattle.lent.specs.Lent.{WitnessTables, witnessTables, EnoughForWitness}
 use Rattle.sheet.specs.declared.Read.{Read}
 use Rattle.sheet.specs.declared.Read.the-variants as R
 use Rattle.sheet.specs.Read.{ReadTables, readTables, ReadsNamed}

@@ -2,7 +2,7 @@
 use mathlib.Core.Path.{_≡_, subst, _∙_}
 use native.Mathlib.Omega.{arith}
 use lib.ListN.{replicate}
-use Rattle.automaton.specs.Lent.{witnessTables}
+use Rattle.lent.specs.Lent.{witnessTables}
 use Rattle.filling.specs.TrackerTables.{trackerTables}
 use Rattle.tracker.specs.declared.Built.{Built}
 use Rattle.tracker.specs.declared.Built.the-variants.{Is}

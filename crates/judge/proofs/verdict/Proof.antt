@@ -1,7 +1,5 @@
 -- Questions 1 and 2 are answered first, and the others behind them. Assumes nothing.
 use mathlib.Core.Path.{refl}
-use Rattle.automaton.specs.Lent.{witnessTables}
-use Rattle.automaton.specs.LentLaws.{tables-cleared}
 use Rattle.judge.specs.Verdict.{Refusing, Judgement}
 use borrow.Author.Needs.{needs}
 use borrow.Author.Tests.{not-true, not-false}
@@ -45,48 +43,38 @@ clear-requires c κs = search needs
 clear-requires-2 : tie.Need-clear-requires-2
 clear-requires-2 c κs = search needs
 
-clear-requires-3 : tie.Need-clear-requires-3
-clear-requires-3 c κs = search needs
-
-clear-requires-4 : tie.Need-clear-requires-4
-clear-requires-4 c κs = search needs
-
-clear-requires-5 : tie.Need-clear-requires-5
-clear-requires-5 c κs = search needs
+clear-witness-requires : tie.Need-clear-witness-requires
+clear-witness-requires c κs = search needs
 
 same-length-7 : tie.Need-same-length-7
-same-length-7 c = c .before .before .before .before .before .before .before .before .before .before .before .before .before .before .before .before .before .before .before .before .before .clear .kept .0
+same-length-7 c = c .before .before .before .before .before .before .before .before .before .before .before .before .before .before .before .before .before .before .before .clear .kept .0
 
 same-length-8 : tie.Need-same-length-8
-same-length-8 c = c .before .before .before .before .before .before .before .before .before .before .before .before .before .before .before .before .clear2 .kept .0
+same-length-8 c = c .before .before .before .before .before .before .before .before .before .before .before .before .before .before .clear2 .kept .0
 
 same-length-9 : tie.Need-same-length-9
-same-length-9 c = c .before .before .before .before .before .before .before .before .before .before .before .before .before .before .before .before .clear2 .kept .1 .0
+same-length-9 c = c .before .before .before .before .before .before .before .before .before .before .before .before .before .before .clear2 .kept .1 .0
 
 same-length-10 : tie.Need-same-length-10
-same-length-10 c = c .before .before .before .before .before .before .before .before .before .before .clear3 .kept .0
+same-length-10 c = c .before .before .before .before .before .before .clear-witness .kept .0
 
 same-length-11 : tie.Need-same-length-11
-same-length-11 c = c .before .before .before .before .before .before .clear4 .kept .0
+same-length-11 c = c .before .before .before .before .before .before .clear-witness .kept .1 .0
 
 same-length-12 : tie.Need-same-length-12
-same-length-12 c = c .before .before .clear5 .kept .0
+same-length-12 c = c .before .before .before .before .before .before .clear-witness .kept .1 .1 .0
 
 returns-2 : tie.Need-returns-2
 returns-2 c =
-    let fifth = c .before .before in
-    let fourth = fifth .before .before .before .before in
-    let third = fourth .before .before .before .before in
-    let second = third .before .before .before .before .before .before in
-    let first = second .before .before .before .before .before in
-    let large = first .before .before in
+    let witness = c .before .before .before .before .before .before in
+    let tracker = witness .before .before .before .before .before .before .before .before in
+    let sets = tracker .before .before .before .before .before in
+    let large = sets .before .before in
     let sizes = large .before in
     let long = sizes .before in
-    let asked = long .before in
-    let a = asked .before .before .before .before .before .before .before .before .before .before .before .before .before .before .before .args in
-    let witness = tables-cleared (witnessTables (a .word .now) (a .one .now) (a .other .now)) (third .clear3 .ensures) (fourth .clear4 .ensures) (fifth .clear5 .ensures) in
-    Judgement.refused (asked .enough .ensures .0 (not-false _ (long .if1 .left))) _
-    (Refusing.by-size (sizes .sizes-fit .ensures .1 (not-true _ (large .if2 .taken))) refl witness) refl (first .clear .ensures) (second .clear2 .ensures)
+    Judgement.refused (long .before .enough .ensures .0 (not-false _ (long .if1 .left))) _
+    (Refusing.by-size (sizes .sizes-fit .ensures .1 (not-true _ (large .if2 .taken))) refl (witness .clear-witness .ensures))
+    refl (sets .clear .ensures) (tracker .clear2 .ensures)
 
 judge-long-requires : tie.Need-judge-long-requires
 judge-long-requires c κs =
@@ -131,9 +119,7 @@ verdict-spec =
     sizes-fit-requires
     clear-requires
     clear-requires-2
-    clear-requires-3
-    clear-requires-4
-    clear-requires-5
+    clear-witness-requires
     same-length-7
     same-length-8
     same-length-9

@@ -3,7 +3,7 @@ use mathlib.Core.Path.{refl, subst}
 use native.Mathlib.Omega.{arith}
 use lib.ListN.{replicate}
 use borrow.Author.Tests.{not-true, not-false}
-use Rattle.automaton.specs.Lent.{WitnessTables, witnessTables, EnoughForWitness}
+use Rattle.lent.specs.Lent.{WitnessTables, witnessTables, EnoughForWitness}
 use Rattle.sheet.specs.declared.Read.{Read}
 use Rattle.sheet.specs.declared.Read.the-variants as R
 use Rattle.sheet.specs.Read.{ReadTables, readTables, ReadsNamed}
@@ -44,6 +44,13 @@ reading c = c .before .before .before .before .before .before .before .before .b
 accepted : (c : tie.After-a) → Read-as (reading c) (R.Is (c .a .given .0 .0))
 accepted c = subst (Read-as (reading c)) (c .a .given .1) (reading c .read-long .ensures)
 
+-- reading, from the ends: the file is refused, the name is looked up
+abbrev refused-at : tie.After-known-told → tie.After-read-long
+refused-at c = c .before .before .before .before .before .before .before .before .before .before .before
+
+abbrev looked-at : tie.After-rows4 → tie.After-read-long
+looked-at c = c .before .before .before .before .before .before .before .before .before .before .before .before .before .before
+
 slice-aggregate-long-enough : tie.Need-slice-aggregate-long-enough
 slice-aggregate-long-enough c = search needs
 
@@ -51,13 +58,13 @@ long-enough-requires : tie.Need-long-enough-requires
 long-enough-requires c κs = search needs
 
 same-length : tie.Need-same-length
-same-length c = search needs
+same-length c = refl
 
 same-length-2 : tie.Need-same-length-2
-same-length-2 c = search needs
+same-length-2 c = refl
 
 same-length-3 : tie.Need-same-length-3
-same-length-3 c = search needs
+same-length-3 c = refl
 
 returns : tie.Need-returns
 returns c = Finds.short (λ l. c .before .long-enough .ensures .1 (not-true _ (c .if1 .taken)) (record { cells = omega arith; long = l })) refl refl
@@ -83,32 +90,31 @@ slice-aggregate-letter-named c = search needs
 letter-named-requires : tie.Need-letter-named-requires
 letter-named-requires c κs =
     let k = few-letters (accepted (c .before .before)) in
-    let z = reading (c .before .before) .read-long .kept .1 .1 .0 in
-    (k, omega arith)
+    (k, omega (arith, k, reading (c .before .before) .read-long .kept .1 .1 .0))
 
 same-length-4 : tie.Need-same-length-4
-same-length-4 c = search needs
+same-length-4 c = refused-at c .read-long .kept .1 .1 .1 .0
 
 same-length-5 : tie.Need-same-length-5
-same-length-5 c = search needs
+same-length-5 c = refused-at c .read-long .kept .1 .1 .1 .1 .0
 
 same-length-6 : tie.Need-same-length-6
-same-length-6 c = search needs
+same-length-6 c = refused-at c .read-long .kept .1 .1 .1 .1 .1 .0
 
 returns-2 : tie.Need-returns-2
 returns-2 c =
-    let read = c .before .before .before .before .before .before .before .before .before .before .before in
+    let read = refused-at c in
     let refused = subst (Read-as read) (c .before .r .given .1) (read .read-long .ensures) in
     Finds.refused (enough (asked read)) (c .before .r .given .0 .0) (refused .0) refl
 
 same-length-7 : tie.Need-same-length-7
-same-length-7 c = search needs
+same-length-7 c = looked-at c .read-long .kept .1 .1 .1 .0
 
 same-length-8 : tie.Need-same-length-8
-same-length-8 c = search needs
+same-length-8 c = looked-at c .read-long .kept .1 .1 .1 .1 .0
 
 same-length-9 : tie.Need-same-length-9
-same-length-9 c = search needs
+same-length-9 c = looked-at c .read-long .kept .1 .1 .1 .1 .1 .0
 
 returns-3 : tie.Need-returns-3
 returns-3 c =

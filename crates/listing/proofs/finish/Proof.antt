@@ -1,8 +1,6 @@
 -- The answer is that of the last question. Assumes nothing.
 use mathlib.Core.Path.{_≡_, refl, sym, _∙_}
 use lib.ListN.{length}
-use Rattle.filling.specs.TrackerTables.{trackerTables}
-use Rattle.filling.specs.TrackerTablesLaws.{tracker-cleared}
 use Rattle.listing_text.specs.Listing.{listing}
 use Rattle.listing_text.specs.PutLaws.{listing-length}
 use borrow.Author.Needs.{needs}
@@ -24,43 +22,36 @@ listing-length-requires c κs = search needs
 clear-requires : tie.Need-clear-requires
 clear-requires c κs = search needs
 
-clear-requires-2 : tie.Need-clear-requires-2
-clear-requires-2 c κs = search needs
-
 clear-bytes-requires : tie.Need-clear-bytes-requires
 clear-bytes-requires c κs = search needs
 
 same-length : tie.Need-same-length
-same-length c = search needs
+same-length c = c .before .before .before .before .before .before .before .before .clear .kept .0
 
 same-length-2 : tie.Need-same-length-2
-same-length-2 c = search needs
+same-length-2 c = c .before .before .before .before .before .before .before .before .clear .kept .1 .0
 
 same-length-3 : tie.Need-same-length-3
-same-length-3 c = search needs
+same-length-3 c = c .before .before .clear-bytes .kept .0
 
 returns : tie.Need-returns
 returns c =
     let emptied = c .before .before in
-    let second = emptied .before .before .before .before in
-    let first = second .before .before .before .before in
-    let short = first .before .before in
-    let a = start (short .before) .args in (
-      (rw (length-is (short .before)) (short .if1 .taken), refl, emptied .clear-bytes .ensures),
-      tracker-cleared (trackerTables (a .tuples .now) (a .nexts .now)) (first .clear .ensures) (second .clear2 .ensures),
-    )
+    let zero = emptied .before .before .before .before .before .before in
+    let short = zero .before .before .before in
+    ((rw (length-is (short .before)) (short .if1 .taken), refl, emptied .clear-bytes .ensures), zero .clear .ensures)
 
 write-requires : tie.Need-write-requires
 write-requires c κs = search needs
 
 same-length-4 : tie.Need-same-length-4
-same-length-4 c = search needs
+same-length-4 c = refl
 
 same-length-5 : tie.Need-same-length-5
-same-length-5 c = search needs
+same-length-5 c = refl
 
 same-length-6 : tie.Need-same-length-6
-same-length-6 c = search needs
+same-length-6 c = c .before .before .write .kept .0
 
 returns-2 : tie.Need-returns-2
 returns-2 c =
@@ -75,7 +66,6 @@ finish-spec =
     (tie.spec
     listing-length-requires
     clear-requires
-    clear-requires-2
     clear-bytes-requires
     same-length
     same-length-2

@@ -1,12 +1,33 @@
 -- Each answer is that of building, or of the last question. Assumes nothing.
+use mathlib.Core.Path.{_∙_}
+use Rattle.lent.specs.Lent.{witnessTables}
+use Rattle.filling.specs.TrackerTables.{trackerTables}
+use Rattle.tracker.specs.Build.{BuildNumbersTables, buildNumbersTables}
 use Rattle.listing.specs.ListLaws.{list-numbers-refused, numbers-sized, numbers-finished}
 use borrow.Author.Needs.{needs}
 use Rattle.listing.proofs.list_numbers.Statement.{statement}
 use Rattle.listing.proofs.list_numbers.Tie as tie
 
--- building, from behind its tables
+-- building, from behind its tables, and from the ends: refused, and the last question is asked
 abbrev behind : tie.After-slice-known11 → tie.After-build-numbers
 behind c = c .before .before .before .before .before .before .before .before .before .before
+
+abbrev refused-at : tie.After-slice-known12 → tie.After-build-numbers
+refused-at c = c .before .before .before .before .before .before .before .before .before .before .before .before .before .before .before .before .before
+
+abbrev finished-at : tie.After-slice-known15 → tie.After-build-numbers
+finished-at c = c .before .before .before .before .before .before .before .before .before .before .before .before .before .before .before .before .before .before .before .before .before .before .before
+
+-- the tables that building was lent, and as it left them
+abbrev lent : tie.After-build-numbers → BuildNumbersTables
+lent c =
+    let a = c .before .before .before .before .before .before .before .before .before .before .before .before .before .args in
+    buildNumbersTables (witnessTables (a .word .now) (a .one .now) (a .other .now)) (trackerTables (a .tuples .now) (a .nexts .now))
+
+abbrev built : tie.After-build-numbers → BuildNumbersTables
+built c =
+    let w = c .build-numbers .last .1 .1 .1 in
+    buildNumbersTables (witnessTables (w .1 .1 .0) (w .1 .1 .1 .0) (w .1 .1 .1 .1 .0)) (trackerTables (w .0) (w .1 .0))
 
 build-numbers-requires : tie.Need-build-numbers-requires
 build-numbers-requires c κs = search needs
@@ -23,55 +44,58 @@ enum-known-x c = search needs
 finish-requires : tie.Need-finish-requires
 finish-requires c κs =
     let told = c .before .before .before .before in
-    numbers-sized (behind (told .before .before) .build-numbers .ensures) (told .x .given .1)
+    let at = behind (told .before .before) in
+    numbers-sized {before = lent at} {built = built at} (at .build-numbers .ensures) (told .x .given .1)
 
 same-length : tie.Need-same-length
-same-length c = search needs
+same-length c = refused-at c .build-numbers .kept .1 .1 .1 .0
 
 same-length-2 : tie.Need-same-length-2
-same-length-2 c = search needs
+same-length-2 c = refused-at c .build-numbers .kept .1 .1 .1 .1 .0
 
 same-length-3 : tie.Need-same-length-3
-same-length-3 c = search needs
+same-length-3 c = refused-at c .build-numbers .kept .1 .1 .1 .1 .1 .0
 
 same-length-4 : tie.Need-same-length-4
-same-length-4 c = search needs
+same-length-4 c = refused-at c .build-numbers .kept .1 .1 .1 .1 .1 .1 .0
 
 same-length-5 : tie.Need-same-length-5
-same-length-5 c = search needs
+same-length-5 c = refused-at c .build-numbers .kept .1 .1 .1 .1 .1 .1 .1 .0
 
 same-length-6 : tie.Need-same-length-6
-same-length-6 c = search needs
+same-length-6 c = c .before .before .refuse .kept .1 .0
 
 returns : tie.Need-returns
 returns c =
     let refused = c .before .before in
     let told = refused .before .before .before in
-    list-numbers-refused (behind (told .before .before) .build-numbers .ensures) (told .r .given .1) (refused .refuse .ensures)
+    let at = refused-at c in
+    list-numbers-refused {before = lent at} {built = built at} (at .build-numbers .ensures) (told .r .given .1) (refused .refuse .ensures)
 
 same-length-7 : tie.Need-same-length-7
-same-length-7 c = search needs
+same-length-7 c = c .before .before .before .before .before .before .finish .kept .1 .1 .1 .0 ∙ finished-at c .build-numbers .kept .1 .1 .1 .0
 
 same-length-8 : tie.Need-same-length-8
-same-length-8 c = search needs
+same-length-8 c = c .before .before .before .before .before .before .finish .kept .1 .1 .1 .1 .0 ∙ finished-at c .build-numbers .kept .1 .1 .1 .1 .0
 
 same-length-9 : tie.Need-same-length-9
-same-length-9 c = search needs
+same-length-9 c = finished-at c .build-numbers .kept .1 .1 .1 .1 .1 .0
 
 same-length-10 : tie.Need-same-length-10
-same-length-10 c = search needs
+same-length-10 c = finished-at c .build-numbers .kept .1 .1 .1 .1 .1 .1 .0
 
 same-length-11 : tie.Need-same-length-11
-same-length-11 c = search needs
+same-length-11 c = finished-at c .build-numbers .kept .1 .1 .1 .1 .1 .1 .1 .0
 
 same-length-12 : tie.Need-same-length-12
-same-length-12 c = search needs
+same-length-12 c = c .before .before .before .before .before .before .finish .kept .1 .1 .1 .1 .1 .0
 
 returns-2 : tie.Need-returns-2
 returns-2 c =
     let finished = c .before .before .before .before .before .before in
     let told = finished .before .before .before .before .before in
-    numbers-finished (behind (told .before .before) .build-numbers .ensures) (told .x .given .1) (finished .finish .result) (finished .finish .ensures)
+    let at = finished-at c in
+    numbers-finished {before = lent at} {built = built at} (at .build-numbers .ensures) (told .x .given .1) (finished .finish .result) (finished .finish .ensures)
 
 pub list-numbers-spec : {M : Type 1} → statement M
 list-numbers-spec =

@@ -3,7 +3,7 @@ use Prim.Native.Nat.{ℕ, suc, _/_, _-_, _≤_, _<_}
 use mathlib.Core.Path.{_≡_, refl, subst, _∙_}
 use native.Mathlib.Omega.{arith}
 use lib.ListN.{length}
-use Rattle.automaton.specs.Lent.{witnessTables}
+use Rattle.lent.specs.Lent.{witnessTables}
 use Rattle.queue.specs.Queue.{pair, depth}
 use Rattle.meeting.specs.Trace.{Leads}
 use Rattle.meeting.specs.TraceLaws.{leads-step}

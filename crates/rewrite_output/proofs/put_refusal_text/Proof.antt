@@ -1,6 +1,6 @@
 -- The line, and with a 10 the witness behind it. Assumes nothing.
 use native.Mathlib.Omega.{arith}
-use Rattle.automaton.specs.Lent.{witnessTables}
+use Rattle.lent.specs.Lent.{witnessTables}
 use Rattle.witness_text.specs.PutLaws.{witness-most}
 use Rattle.rewrite_output.specs.PutLaws.{written-other, written-ten}
 use borrow.Author.Needs.{needs}

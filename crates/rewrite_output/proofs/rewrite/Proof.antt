@@ -3,7 +3,7 @@ use mathlib.Core.Path.{refl, subst}
 use lib.ListN.{replicate}
 use native.Mathlib.Omega.{arith}
 use Rattle.gate.specs.declared.Written.{Written}
-use Rattle.automaton.specs.Lent.{WitnessTables, witnessTables, EnoughForWitness}
+use Rattle.lent.specs.Lent.{WitnessTables, witnessTables, EnoughForWitness}
 use Rattle.writer.specs.Write.{writeTables}
 use Rattle.file_writer.specs.FileWrite.{Writes}
 use Rattle.report.specs.Output.{Prints}

@@ -4,7 +4,7 @@ use mathlib.Core.Logic._⊎_.{inl}
 use native.Mathlib.Omega.{arith}
 use lib.ListN.{replicate}
 use borrow.Author.Tests.{not-true, not-false}
-use Rattle.automaton.specs.Lent.{WitnessTables, witnessTables, EnoughForSheet}
+use Rattle.lent.specs.Lent.{WitnessTables, witnessTables, EnoughForSheet}
 use Rattle.sheet.specs.Read.{readTables}
 use Rattle.sheet.specs.ReadLaws.{reads-asked}
 use borrow.Author.Needs.{needs}

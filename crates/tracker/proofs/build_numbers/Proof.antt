@@ -2,7 +2,7 @@
 use mathlib.Core.Path.{refl, subst}
 use borrow.Author.Tests.{not-true, not-false}
 use Rattle.automaton.specs.Automaton.{automaton}
-use Rattle.automaton.specs.Lent.{WitnessTables, witnessTables}
+use Rattle.lent.specs.Lent.{WitnessTables, witnessTables}
 use Rattle.walks.specs.Check.{ChecksLong}
 use Rattle.walks.specs.declared.Checked.{Checked}
 use Rattle.walks.specs.declared.Checked.the-variants.{Accepted}
@@ -41,23 +41,30 @@ checking c = c .before .before .before .before .before .before .before .before
 accepted : (c : tie.After-enum-told) → Checked-as (checking c) Accepted
 accepted c = subst (Checked-as (checking c)) (c .enum-told .given .1) (checking c .check-long .ensures)
 
+-- checking, from the ends: the numbers are refused, the tracker is built
+abbrev refused-at : tie.After-slice-known10 → tie.After-check-long
+refused-at c = c .before .before .before .before .before .before .before .before .before .before .before .before .before .before .before .before
+
+abbrev tracked-at : tie.After-slice-known12 → tie.After-check-long
+tracked-at c = c .before .before .before .before .before .before .before .before .before .before .before .before .before .before .before
+
 enough-requires : tie.Need-enough-requires
 enough-requires c κs = search needs
 
 same-length : tie.Need-same-length
-same-length c = search needs
+same-length c = refl
 
 same-length-2 : tie.Need-same-length-2
-same-length-2 c = search needs
+same-length-2 c = refl
 
 same-length-3 : tie.Need-same-length-3
-same-length-3 c = search needs
+same-length-3 c = refl
 
 same-length-4 : tie.Need-same-length-4
-same-length-4 c = search needs
+same-length-4 c = refl
 
 same-length-5 : tie.Need-same-length-5
-same-length-5 c = search needs
+same-length-5 c = refl
 
 returns : tie.Need-returns
 returns c = BuildsNumbers.short (c .before .enough .ensures .1 (not-true _ (c .if1 .taken))) refl refl
@@ -72,24 +79,24 @@ clear-requires : tie.Need-clear-requires
 clear-requires c κs = search needs
 
 same-length-6 : tie.Need-same-length-6
-same-length-6 c = search needs
+same-length-6 c = c .before .before .before .before .clear .kept .0
 
 same-length-7 : tie.Need-same-length-7
-same-length-7 c = search needs
+same-length-7 c = c .before .before .before .before .clear .kept .1 .0
 
 same-length-8 : tie.Need-same-length-8
-same-length-8 c = search needs
+same-length-8 c = refused-at c .check-long .kept .1 .1 .0
 
 same-length-9 : tie.Need-same-length-9
-same-length-9 c = search needs
+same-length-9 c = refused-at c .check-long .kept .1 .1 .1 .0
 
 same-length-10 : tie.Need-same-length-10
-same-length-10 c = search needs
+same-length-10 c = refused-at c .check-long .kept .1 .1 .1 .1 .0
 
 returns-2 : tie.Need-returns-2
 returns-2 c =
     let told = c .before .before .before .before .before .before .before .before in
-    let checked = told .before .before .before .before .before .before .before .before in
+    let checked = refused-at c in
     let refused = subst (Checked-as checked) (told .r .given .1) (checked .check-long .ensures) in
     BuildsNumbers.refused (lent (asked checked)) (told .r .given .0 .0) refused refl (c .before .before .before .before .clear .ensures)
 
@@ -102,19 +109,19 @@ track-requires c κs =
     (accepted told .0, lent (asked (checking told)) .tracker)
 
 same-length-11 : tie.Need-same-length-11
-same-length-11 c = search needs
+same-length-11 c = c .before .before .before .before .track .kept .1 .1 .1 .0
 
 same-length-12 : tie.Need-same-length-12
-same-length-12 c = search needs
+same-length-12 c = c .before .before .before .before .track .kept .1 .1 .1 .1 .0
 
 same-length-13 : tie.Need-same-length-13
-same-length-13 c = search needs
+same-length-13 c = tracked-at c .check-long .kept .1 .1 .0
 
 same-length-14 : tie.Need-same-length-14
-same-length-14 c = search needs
+same-length-14 c = tracked-at c .check-long .kept .1 .1 .1 .0
 
 same-length-15 : tie.Need-same-length-15
-same-length-15 c = search needs
+same-length-15 c = tracked-at c .check-long .kept .1 .1 .1 .1 .0
 
 returns-3 : tie.Need-returns-3
 returns-3 c =

@@ -3,7 +3,7 @@ use mathlib.Core.Path.{refl}
 use mathlib.Core.Logic.{inl}
 use borrow.Author.Tests.{not-true, not-false}
 use Rattle.automaton.specs.Automaton.{automaton}
-use Rattle.automaton.specs.Lent.{WitnessTables, witnessTables, EnoughForSheet}
+use Rattle.lent.specs.Lent.{WitnessTables, witnessTables, EnoughForSheet}
 use Rattle.walks.specs.CheckLaws.{checks-asked}
 use borrow.Author.Needs.{needs}
 use Rattle.walks.proofs.check.Statement.{statement}

@@ -4,7 +4,7 @@ use Rattle.automaton.specs.Automaton.{automaton, graphOf, Fits}
 use Rattle.automaton.specs.Graph.{Graph, graph}
 use Rattle.automaton.specs.QuestionLaws.{same-graph, fits-graph}
 use Rattle.automaton.specs.Meeting.{Everywhere}
-use Rattle.automaton.specs.Lent.{WitnessTables, witnessTables, NumbersRefuse}
+use Rattle.lent.specs.Lent.{WitnessTables, witnessTables, NumbersRefuse}
 use Rattle.meeting.specs.Answer.{Asked, Answered}
 use Rattle.walks.specs.CheckLaws.{free-answered, meets-answered}
 use borrow.Author.Needs.{needs}

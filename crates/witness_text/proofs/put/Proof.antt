@@ -4,7 +4,7 @@ use mathlib.Core.Path.{_≡_}
 use mathlib.Core.List.{[], _∷_}
 use native.Mathlib.Omega.{arith}
 use lib.ListN.{length}
-use Rattle.automaton.specs.Lent.{WitnessTables, witnessTables}
+use Rattle.lent.specs.Lent.{WitnessTables, witnessTables}
 use Rattle.witness_text.specs.WitnessText.{cellsLine, witnessText}
 use Rattle.witness_text.specs.PutLaws.{witness-length, written-append}
 use borrow.Author.Needs.{needs}

@@ -15,7 +15,7 @@ clear-bytes-requires : tie.Need-clear-bytes-requires
 clear-bytes-requires c κs = search needs
 
 same-length : tie.Need-same-length
-same-length c = search needs
+same-length c = c .before .before .clear-bytes .kept .0
 
 returns : tie.Need-returns
 returns c = (omega (arith, c .before .before .before .before .before .text-length .ensures), refl, c .before .before .clear-bytes .ensures)

@@ -3,11 +3,11 @@ use mathlib.Core.Path.{refl, subst}
 use native.Mathlib.Omega.{arith}
 use borrow.Author.Tests.{not-true, not-false}
 use Rattle.automaton.specs.Automaton.{Automaton, automaton}
-use Rattle.automaton.specs.Lent.{WitnessTables, witnessTables, EnoughForSheet}
+use Rattle.lent.specs.Lent.{WitnessTables, witnessTables, EnoughForSheet}
 use Rattle.walks.specs.declared.Checked.{Checked}
 use Rattle.walks.specs.declared.Checked.the-variants as K
-use Rattle.writer.specs.Write.{WritesNumbers}
-use Rattle.writer.specs.Ask.{Asks}
+use Rattle.writer.specs.Write.{writeTables, WritesNumbers}
+use Rattle.named_numbers.specs.Ask.{Asks}
 use Rattle.writer.specs.WriteLaws.{writable, numbers-finishes}
 use borrow.Author.Needs.{needs}
 use Rattle.writer.proofs.write_numbers.Statement.{statement}
@@ -42,17 +42,24 @@ asking c = c .before .before .before .before .before .before .before .before .be
 accepted : (c : tie.After-enum-told) → Asked-as (asking c) K.Accepted
 accepted c = subst (Asked-as (asking c)) (c .enum-told .given .1) (asking c .ask .ensures)
 
+-- the questions, from the ends: refused, and the last one is asked
+abbrev refused-at : tie.After-slice-known8 → tie.After-ask
+refused-at c = c .before .before .before .before .before .before .before .before .before .before .before .before .before .before
+
+abbrev finished-at : tie.After-slice-known9 → tie.After-ask
+finished-at c = c .before .before .before .before .before .before .before .before .before .before .before .before .before .before
+
 long-enough-requires : tie.Need-long-enough-requires
 long-enough-requires c κs = search needs
 
 same-length : tie.Need-same-length
-same-length c = search needs
+same-length c = refl
 
 same-length-2 : tie.Need-same-length-2
-same-length-2 c = search needs
+same-length-2 c = refl
 
 same-length-3 : tie.Need-same-length-3
-same-length-3 c = search needs
+same-length-3 c = refl
 
 returns : tie.Need-returns
 returns c = WritesNumbers.short (c .before .long-enough .ensures .1 (not-true _ (c .if1 .taken))) refl refl
@@ -78,44 +85,46 @@ slice-aggregate-finish c = search needs
 finish-requires : tie.Need-finish-requires
 finish-requires c κs =
     let told = c .before .before in
-    let z = asking told .ask .kept .1 .1 .1 .0 in
-    (writable (accepted told .1 .fits) (enough (long (asking told)) .cells), omega arith)
+    (writable (accepted told .1 .fits) (enough (long (asking told)) .cells), omega (arith, asking told .ask .kept .1 .1 .1 .0))
 
 same-length-4 : tie.Need-same-length-4
-same-length-4 c = search needs
+same-length-4 c = refused-at c .ask .kept .1 .1 .1 .1 .0
 
 same-length-5 : tie.Need-same-length-5
-same-length-5 c = search needs
+same-length-5 c = refused-at c .ask .kept .1 .1 .1 .1 .1 .0
 
 same-length-6 : tie.Need-same-length-6
-same-length-6 c = search needs
+same-length-6 c = refused-at c .ask .kept .1 .1 .1 .1 .1 .1 .0
 
 same-length-7 : tie.Need-same-length-7
-same-length-7 c = search needs
+same-length-7 c = c .before .before .clear-bytes .kept .0
 
 returns-2 : tie.Need-returns-2
 returns-2 c =
     let told = c .before .before .before .before .before in
-    let asked = told .before .before .before .before .before .before .before .before .before in
+    let asked = refused-at c in
     WritesNumbers.refused (enough (long asked)) (told .r .given .0 .0) (subst (Asked-as asked) (told .r .given .1) (asked .ask .ensures)) refl
     (c .before .before .clear-bytes .ensures)
 
 same-length-8 : tie.Need-same-length-8
-same-length-8 c = search needs
+same-length-8 c = finished-at c .ask .kept .1 .1 .1 .1 .0
 
 same-length-9 : tie.Need-same-length-9
-same-length-9 c = search needs
+same-length-9 c = finished-at c .ask .kept .1 .1 .1 .1 .1 .0
 
 same-length-10 : tie.Need-same-length-10
-same-length-10 c = search needs
+same-length-10 c = finished-at c .ask .kept .1 .1 .1 .1 .1 .1 .0
 
 same-length-11 : tie.Need-same-length-11
-same-length-11 c = search needs
+same-length-11 c = c .before .before .finish .kept .1 .1 .1 .0
 
 returns-3 : tie.Need-returns-3
 returns-3 c =
     let told = c .before .before .before .before .before in
-    numbers-finishes (given (start (long (asking told)))) (enough (long (asking told))) (accepted told) (c .before .before .finish .ensures)
+    let end = c .before .before .finish in
+    let w = asking told .ask .last .1 .1 .1 .1 in
+    numbers-finishes (given (start (long (asking told)))) {after = writeTables (witnessTables (w .0) (w .1 .0) (w .1 .1 .0)) (end .last .1 .1 .1 .0)}
+    (enough (long (asking told))) (accepted told) (end .ensures)
 
 pub write-numbers-spec : {M : Type 1} → statement M
 write-numbers-spec =

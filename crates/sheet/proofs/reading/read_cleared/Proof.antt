@@ -4,7 +4,7 @@ use mathlib.Core.Path.{_≡_, sym, _∙_, ap, subst}
 use native.Mathlib.Omega.{arith}
 use lib.ListN.{length, replicate}
 use lib.Seq.{length-take-le}
-use Rattle.automaton.specs.Lent.{WitnessTables, witnessTables, clearedWitness}
+use Rattle.lent.specs.Lent.{WitnessTables, witnessTables, clearedWitness}
 use Rattle.parser.specs.Parse.{parse}
 use Rattle.parser.specs.PhaseAnswers.{FileRead}
 use Rattle.parser.specs.declared.File.{File}

@@ -1,0 +1,3 @@
+pub mod Colour
+pub mod ColourLaws
+pub mod Unfold
