@@ -8,8 +8,8 @@ use Rattle.automaton.specs.declared.Numbers.{Numbers}
 use Rattle.walks.specs.declared.Checked.{Checked}
 use Rattle.walks.specs.declared.Checked.the-variants.{Refused as CheckRefused, Accepted}
 use Rattle.letters.specs.Letters.{NameIs}
-use Rattle.sheet.specs.declared.Read.{Read}
-use Rattle.sheet.specs.declared.Read.the-variants.{Refused as ReadRefused, Is as ReadIs}
+use Rattle.reading.specs.declared.Read.{Read}
+use Rattle.reading.specs.declared.Read.the-variants.{Refused as ReadRefused, Is as ReadIs}
 use Rattle.letter_search.specs.declared.Found.{Found}
 use Rattle.letter_search.specs.declared.Found.the-variants.{Refused as FindRefused, Letter}
 use Rattle.tracker.specs.declared.Built.{Built}

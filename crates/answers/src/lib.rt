@@ -5,7 +5,7 @@ ghost use Rattle.answers.specs.Answer.{checkedCells, readCells, foundCel
 use judge::Outcome;
 use letter_search::Found;
 use passes::Answer;
-use sheet::Read;
+use reading::Read;
 use tracker::Built;
 use walks::Checked;
 

@@ -5,7 +5,7 @@ use mathlib.Core.List.{List}
 use Rattle.gate.specs.Gate.{refusal, cleared, Put}
 use Rattle.gate.specs.declared.Refusal.{Refusal}
 use Rattle.tracker.specs.Build.{BuildTables, clearedBuild, EnoughToBuild}
-use Rattle.file_tracker.specs.FileBuild.{Builds}
+use Rattle.building.specs.FileBuild.{Builds}
 use Rattle.tracker.specs.declared.Tracker.{Tracker}
 use Rattle.tracker.specs.declared.Built.the-variants.{Refused as BuildRefused, Is}
 use Rattle.gate.specs.declared.Written.{Written}

@@ -9,11 +9,11 @@ use Rattle.gate.specs.declared.Refusal.{Refusal}
 use Rattle.lent.specs.Lent.{clearedWitness}
 use Rattle.format.specs.Numbers.{numbers}
 use Rattle.format.specs.NumbersLaws.{sheet-fits}
-use Rattle.sheet.specs.ReadLaws.{refuses-number}
+use Rattle.reading.specs.ReadLaws.{refuses-number}
 use Rattle.filling.specs.TrackerTables.{TrackerTables, clearedTracker}
 use Rattle.tracker.specs.Build.{BuildTables, buildTables, clearedBuild}
-use Rattle.file_tracker.specs.FileBuild.{Builds}
-use Rattle.file_tracker.specs.FileBuildLaws.{file-built}
+use Rattle.building.specs.FileBuild.{Builds}
+use Rattle.building.specs.FileBuildLaws.{file-built}
 use Rattle.filling.specs.FittedLaws.{fitted-cleared}
 use Rattle.tracker.specs.declared.Tracker.{Tracker}
 use Rattle.tracker.specs.declared.Built.the-variants.{Refused as BuildRefused, Is}

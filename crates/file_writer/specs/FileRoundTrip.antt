@@ -10,7 +10,7 @@ use Rattle.format.specs.Format.{Sheet, FileIs}
 use Rattle.format.specs.Numbers.{numbers}
 use Rattle.format.specs.Written.{writtenSheet, written}
 use Rattle.format.specs.NumbersLaws.{sheet-fits, numbers-length}
-use Rattle.sheet.specs.Read.{Accepted}
+use Rattle.reading.specs.Read.{Accepted}
 use Rattle.writer.specs.Writing.{writing}
 use Rattle.writer.specs.TrimmedLaws.{trimmed-numbers}
 use Rattle.writer.specs.FileLaws.{longest, written-file}

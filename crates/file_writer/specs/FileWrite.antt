@@ -6,7 +6,7 @@ use Rattle.gate.specs.Gate.{refusal, cleared, Put}
 use Rattle.gate.specs.declared.Refusal.{Refusal}
 use Rattle.lent.specs.Lent.{EnoughForWitness, clearedWitness}
 use Rattle.format.specs.Format.{Sheet}
-use Rattle.sheet.specs.Read.{Accepted, Refuses}
+use Rattle.reading.specs.Read.{Accepted, Refuses}
 use Rattle.gate.specs.declared.Written.{Written}
 use Rattle.gate.specs.declared.Written.the-variants.{Refused}
 use Rattle.writer.specs.Writing.{writing}

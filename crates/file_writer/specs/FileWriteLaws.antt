@@ -12,7 +12,7 @@ use Rattle.lent.specs.Lent.{WitnessTables, EnoughForWitness}
 use Rattle.format.specs.Numbers.{numbers}
 use Rattle.format.specs.NumbersLaws.{sheet-fits, numbers-length, automaton-is}
 use Rattle.parser.specs.LettersOf.{NamesIn}
-use Rattle.sheet.specs.Read.{ReadTables, readTables, SheetRead}
+use Rattle.reading.specs.Read.{ReadTables, readTables, SheetRead}
 use Rattle.writer.specs.Write.{writeTables}
 use Rattle.writer.specs.WriteLaws.{named-text, writable}
 use Rattle.file_writer.specs.FileWrite.{Writes}

@@ -4,8 +4,8 @@ ghost use Rattle.writer.specs.Write.{writeTables};
 ghost use Rattle.file_writer.specs.FileWrite.{Writes};
 use gate::Refusal;
 use gate::Written;
-use sheet::Read;
-use sheet::reading::read_long;
+use reading::Read;
+use reading::read_long;
 
 // A sheet file written anew, with composed letters: questions 1 to 10, and last of all whether the output is long enough.
 pub fn write(

@@ -8,7 +8,7 @@ use Rattle.gate.specs.declared.Refusal.{Refusal}
 use Rattle.lent.specs.Lent.{clearedWitness, lentTable}
 use Rattle.format.specs.Format.{Sheet, mostSheet}
 use Rattle.format.specs.Numbers.{numbers}
-use Rattle.sheet.specs.Read.{Accepted, Refuses}
+use Rattle.reading.specs.Read.{Accepted, Refuses}
 use Rattle.passes.specs.Letter.{letterAt}
 use Rattle.plan.specs.Plan.{PlanIs, PlanFaulty}
 use Rattle.plan_lines.specs.PlanLines.{mostPlan}

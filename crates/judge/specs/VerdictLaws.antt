@@ -15,15 +15,15 @@ use Rattle.format.specs.Numbers.{numbers}
 use Rattle.format.specs.NumbersLaws.{sheet-fits}
 use Rattle.parser.specs.LettersOf.{LettersOf}
 use Rattle.parser.specs.UniqueLaws.{file-unique}
-use Rattle.sheet.specs.Read.{Accepted}
+use Rattle.reading.specs.Read.{Accepted}
 use Rattle.passes.specs.Letter.{letterAt}
 use Rattle.passes.specs.LetterLaws.{letter-below}
 use Rattle.plan.specs.Plan.{PlanIs}
 use Rattle.plan_lines.specs.KnownLaws.{known-below}
 use Rattle.filling.specs.TrackerTables.{TrackerTables, clearedTracker, Fitted}
 use Rattle.tracker.specs.Build.{BuildTables, buildTables, EnoughToBuild}
-use Rattle.file_tracker.specs.FileBuild.{Builds}
-use Rattle.file_tracker.specs.FileBuildLaws.{file-built}
+use Rattle.building.specs.FileBuild.{Builds}
+use Rattle.building.specs.FileBuildLaws.{file-built}
 use Rattle.filling.specs.FittedLaws.{fitted-cleared}
 use Rattle.tracker.specs.declared.Tracker.{Tracker}
 use Rattle.tracker.specs.declared.Built.the-variants as B

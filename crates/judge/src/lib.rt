@@ -12,7 +12,7 @@ ghost use Rattle.tracker.specs.Build.{buildTables, EnoughToBuild};
 ghost use Rattle.passes.specs.TableRun.{TablesFit};
 ghost use Rattle.judge.specs.Parts.{PlanJudged};
 ghost use Rattle.judge.specs.Verdict.{SizesFit, Judgement};
-use file_tracker::build_long;
+use building::build_long;
 use gate::Refusal;
 use passes::Verdict;
 use passes::judge_letters;

@@ -15,7 +15,7 @@ use Rattle.tracker.specs.declared.Built.{Built}
 use Rattle.tracker.specs.declared.Built.the-variants as B
 use Rattle.filling.specs.TrackerTables.{TrackerTables, Holds}
 use Rattle.tracker.specs.Build.{BuildTables, EnoughToBuild}
-use Rattle.file_tracker.specs.FileBuild.{Builds}
+use Rattle.building.specs.FileBuild.{Builds}
 use Rattle.judge.specs.declared.Outcome.{Outcome}
 use Rattle.judge.specs.declared.Outcome.the-variants as O
 use Rattle.passes.specs.declared.Verdict.{Verdict}

@@ -11,7 +11,7 @@ use Rattle.automaton.specs.Automaton.{graphOf}
 use Rattle.automaton.specs.Meeting.{Everywhere, Witness}
 use Rattle.format.specs.Format.{Sheet, FileIs, Faulty}
 use Rattle.format.specs.Numbers.{numbers}
-use Rattle.sheet.specs.Read.{Accepted, Refuses}
+use Rattle.reading.specs.Read.{Accepted, Refuses}
 use Rattle.tuple.specs.Step.{Tuple}
 use Rattle.tracker.specs.declared.Tracker.{Tracker}
 use Rattle.tracker.specs.declared.Built.{Built}
@@ -19,7 +19,7 @@ use Rattle.tracker.specs.declared.Built.the-variants as B
 use Rattle.numbering.specs.Numbering.{Numbering, MoreThan}
 use Rattle.filling.specs.TrackerTables.{TrackerTables, Holds, Fitted}
 use Rattle.tracker.specs.Build.{BuildTables, EnoughToBuild}
-use Rattle.file_tracker.specs.FileBuild.{Builds}
+use Rattle.building.specs.FileBuild.{Builds}
 use Rattle.passes.specs.Letter.{letterAt}
 use Rattle.plan.specs.Plan.{PlanIs}
 use Rattle.plan.specs.Plan as Plan

@@ -17,7 +17,7 @@ use Rattle.automaton.specs.QuestionLaws.{fits-graph}
 use Rattle.format.specs.Format.{Sheet, FileIs, Faulty}
 use Rattle.format.specs.Numbers.{numbers}
 use Rattle.format.specs.NumbersLaws.{sheet-fits}
-use Rattle.sheet.specs.Read.{Accepted}
+use Rattle.reading.specs.Read.{Accepted}
 use Rattle.parser.specs.Parse.{parse, Contents}
 use Rattle.frame.specs.Phase.{Phase, refused, passed}
 use Rattle.parser.specs.ParseLaws.{AreContents}

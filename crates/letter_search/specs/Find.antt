@@ -9,7 +9,7 @@ use Rattle.letter_search.specs.declared.Found.{Found}
 use Rattle.letter_search.specs.declared.Found.the-variants.{Refused, Letter}
 use Rattle.format.specs.Format.{Sheet}
 use Rattle.format.specs.StandsFor.{StandsFor}
-use Rattle.sheet.specs.Read.{Accepted, Refuses}
+use Rattle.reading.specs.Read.{Accepted, Refuses}
 
 -- "Is each name known? No: 14.", on a sheet that is accepted. A stretch that is no name is no letter's.
 abbrev pub LetterOf : Sheet → List ℕ → Found → Type 0

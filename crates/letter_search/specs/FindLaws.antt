@@ -6,7 +6,7 @@ use Rattle.lent.specs.Lent.{EnoughForWitness}
 use Rattle.format.specs.Format.{Sheet}
 use Rattle.letter_search.specs.declared.Found.{Found}
 use Rattle.parser.specs.LettersOf.{NamesIn}
-use Rattle.sheet.specs.Read.{ReadTables, SheetRead}
+use Rattle.reading.specs.Read.{ReadTables, SheetRead}
 use Rattle.letter_search.specs.Find.{LetterOf, Finds}
 
 module _ {s : List ℕ} {before after : ReadTables} {a : Numbers} (h : SheetRead s before after a) where

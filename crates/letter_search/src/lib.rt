@@ -4,8 +4,7 @@ mod finding;
 ghost use Rattle.lent.specs.Lent.{witnessTables};
 ghost use Rattle.letter_search.specs.Find.{Finds};
 use gate::Refusal;
-use sheet::Read;
-use sheet::reading;
+use reading::Read;
 
 // The answer of a search for a name: a refusal, or the letter's number.
 pub enum Found {

@@ -11,7 +11,7 @@ use Rattle.walks.specs.declared.Checked.{Checked}
 use Rattle.walks.specs.declared.Checked.the-variants as K
 use Rattle.format.specs.Format.{Sheet}
 use Rattle.parser.specs.LettersOf.{NamesIn}
-use Rattle.sheet.specs.Read.{Accepted, Refuses}
+use Rattle.reading.specs.Read.{Accepted, Refuses}
 
 -- NUMBERS A with a file s for the names. Questions 2 to 10; the tables are the witness:
 -- "that file's questions come first, then a differing k is 4, line 0, then the questions on the numbers"

@@ -12,7 +12,7 @@ use Rattle.walks.specs.declared.Checked.{Checked}
 use Rattle.walks.specs.declared.Checked.the-variants as K
 use Rattle.walks.specs.Check.{ChecksLong}
 use Rattle.parser.specs.LettersOf.{NamesIn}
-use Rattle.sheet.specs.Read.{ReadTables, SheetRead}
+use Rattle.reading.specs.Read.{ReadTables, SheetRead}
 use Rattle.named_numbers.specs.Ask.{NamedRefuse, Asks}
 
 module _ (A : Automaton) {s : List ℕ} {before after : ReadTables} {a : Numbers} (h : SheetRead s before after a) where

@@ -6,8 +6,8 @@ ghost use Rattle.lent.specs.Lent.{witnessTables, EnoughForSheet};
 ghost use Rattle.named_numbers.specs.Ask.{Asks};
 use automaton::Numbers;
 use gate::Refusal;
-use sheet::Read;
-use sheet::reading::read_long;
+use reading::Read;
+use reading::read_long;
 use walks::Checked;
 
 // The questions behind 1 on a sheet as numbers with a sheet file for the names: that file's questions 2 to 10, a differing k (4), and the

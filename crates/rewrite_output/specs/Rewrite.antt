@@ -7,7 +7,7 @@ use Rattle.automaton.specs.Automaton.{graphOf}
 use Rattle.lent.specs.Lent.{WitnessTables, Meets}
 use Rattle.format.specs.Format.{Sheet, FileIs, Faulty}
 use Rattle.format.specs.Numbers.{numbers}
-use Rattle.sheet.specs.Read.{Accepted}
+use Rattle.reading.specs.Read.{Accepted}
 use Rattle.writer.specs.Writing.{writing}
 use Rattle.report.specs.Report.{refusalLine}
 use Rattle.witness_text.specs.WitnessText.{witnessText}

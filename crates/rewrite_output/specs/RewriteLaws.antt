@@ -20,7 +20,7 @@ use Rattle.format.specs.FormatLaws.{fault-number}
 use Rattle.format.specs.Numbers.{numbers}
 use Rattle.format.specs.NumbersLaws.{sheet-fits}
 use Rattle.parser.specs.UniqueLaws.{fault-unique, file-or-fault}
-use Rattle.sheet.specs.Read.{Refuses}
+use Rattle.reading.specs.Read.{Refuses}
 use Rattle.writer.specs.Writing.{writing}
 use Rattle.file_writer.specs.FileRoundTrip.{writing-most}
 use Rattle.writer.specs.Write.{WriteTables}

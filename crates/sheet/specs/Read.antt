@@ -1,30 +1,16 @@
 -- What reading a sheet file answers, and what the lent tables hold then.
-use Prim.Native.Nat.{ℕ, _*_}
+use Prim.Native.Nat.{ℕ}
 use mathlib.Core.Path.{_≡_}
 use mathlib.Core.List.{List}
 use mathlib.Core.Logic.{_⊎_}
-use lib.ListN.{drop}
 use Rattle.gate.specs.Gate.{refusal, cleared}
-use Rattle.gate.specs.declared.Refusal.{Refusal}
-use Rattle.automaton.specs.declared.Numbers.{Numbers}
-use Rattle.automaton.specs.Automaton.{graphOf, AreNumbers}
-use Rattle.automaton.specs.Meeting.{Free, Everywhere}
-use Rattle.lent.specs.Lent.{WitnessTables, EnoughForSheet, clearedWitness, lentTable, Meets}
-use Rattle.sheet.specs.declared.Read.{Read}
-use Rattle.sheet.specs.declared.Read.the-variants.{Refused, Is}
-use Rattle.format.specs.Format.{Sheet, FileIs, Faulty}
+use Rattle.automaton.specs.Automaton.{AreNumbers}
+use Rattle.lent.specs.Lent.{WitnessTables, EnoughForSheet, clearedWitness, lentTable}
+use Rattle.format.specs.Format.{Sheet}
 use Rattle.format.specs.Numbers.{numbers}
-use Rattle.parser.specs.LettersOf.{NamesIn}
-
--- QUESTIONS 2 TO 10 on a sheet file: s is the file of σ, and no two walks meet
-pub record Accepted (s : List ℕ) (σ : Sheet) : Type 0 where
-  pub file : FileIs s σ
-  pub free : Free (graphOf (numbers σ)) Everywhere
-
--- or the first that is answered no refuses with r. The tables are the witness.
-pub data Refuses (s : List ℕ) (before after : WitnessTables) (r : Refusal) : Type 0 where
-  faulty : (number line : ℕ) → Faulty s number line → r ≡ refusal number line → after ≡ clearedWitness before → Refuses s before after r
-  meeting : (σ : Sheet) → FileIs s σ → Meets (graphOf (numbers σ)) before after r → Refuses s before after r
+use Rattle.reading.specs.declared.Read.{Read}
+use Rattle.reading.specs.declared.Read.the-variants.{Refused, Is}
+use Rattle.reading.specs.Read.{Accepted, Refuses}
 
 -- the lent tables of reading
 pub record SheetTables : Type 0 where
@@ -52,35 +38,3 @@ Reads s before after (Refused r) =
     ((EnoughForSheet (before .successors) (before .witness) → ⊥) × (r ≡ refusal 1 0) × (after ≡ before))
     ⊎ (EnoughForSheet (before .successors) (before .witness) × ReadsLong s before after (Refused r))
 Reads s before after (Is a) = EnoughForSheet (before .successors) (before .witness) × ReadsLong s before after (Is a)
-
--- THE SAME WITH THE NAMES, for the calls that go on with a sheet once it is read: all that is read of it
-pub record ReadTables : Type 0 where
-  -- the lent table of successor sets
-  pub successors : List ℕ
-  -- the composed names
-  pub rows : List ℕ
-  -- the lent witness
-  pub witness : WitnessTables
-
-abbrev pub readTables : List ℕ → List ℕ → WitnessTables → ReadTables
-readTables successors rows witness = record { successors = successors; rows = rows; witness = witness }
-
--- the lent ones cleared, the names as they were
-abbrev pub lentCleared : ReadTables → ReadTables
-lentCleared before = readTables (cleared (before .successors)) (before .rows) (clearedWitness (before .witness))
-
--- an accepted sheet file, its numbers a and what the tables hold then: "On success every cell of these tables without a meaning is zero"
-pub record SheetRead (s : List ℕ) (before after : ReadTables) (a : Numbers) : Type 0 where
-  pub sheet : Sheet
-  pub accepted : Accepted s sheet
-  pub are : AreNumbers (numbers sheet) a
-  pub successors : after .successors ≡ lentTable (numbers sheet .table) (before .successors)
-  pub witness : after .witness ≡ clearedWitness (before .witness)
-  pub names : NamesIn sheet (a .k) (after .rows)
-  pub behind : drop (24 * a .k) (after .rows) ≡ drop (24 * a .k) (cleared (before .rows))
-
--- the answer of questions 2 to 10, in tables that are long enough, with the names
-abbrev pub ReadsNamed : List ℕ → ReadTables → ReadTables → Read → Type 0
-ReadsNamed s before after (Refused r) =
-    Refuses s (before .witness) (after .witness) r × (after .successors ≡ cleared (before .successors)) × (after .rows ≡ cleared (before .rows))
-ReadsNamed s before after (Is a) = SheetRead s before after a

@@ -1,16 +1,9 @@
 // The sheet file, read.
-pub mod reading;
-
 ghost use Rattle.lent.specs.Lent.{witnessTables};
 ghost use Rattle.sheet.specs.Read.{sheetTables, Reads};
-use automaton::Numbers;
 use gate::Refusal;
-
-// The answer of reading: a refusal, or the sheet's numbers, whose successor sets stand in the lent table.
-pub enum Read {
-    Refused(Refusal),
-    Is(Numbers),
-}
+use reading::Read;
+use reading::read_long;
 
 // Questions 1 to 10 on a sheet file. Question 1 touches nothing; with 10 the last three tables hold a shortest word with
 // meeting walks, with zeros behind; what a table has no meaning for is zero.
@@ -33,5 +26,5 @@ pub fn read_sheet(
         });
     }
     let mut rows = [0u8; 192];
-    reading::read_long(sheet, table, &mut rows, word, one, other)
+    read_long(sheet, table, &mut rows, word, one, other)
 }

@@ -6,7 +6,7 @@ use Rattle.gate.specs.declared.Refusal.{Refusal}
 use Rattle.lent.specs.Lent.{WitnessTables}
 use Rattle.format.specs.Format.{Sheet}
 use Rattle.format.specs.Numbers.{numbers}
-use Rattle.sheet.specs.Read.{Accepted, Refuses}
+use Rattle.reading.specs.Read.{Accepted, Refuses}
 use Rattle.numbering.specs.Numbering.{MoreThan}
 use Rattle.filling.specs.TrackerTables.{TrackerTables, Fitted}
 use Rattle.listing_text.specs.Listing.{listing}

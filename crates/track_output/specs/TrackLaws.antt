@@ -15,11 +15,11 @@ use Rattle.format.specs.Format.{Sheet, Faulty, mostSheet}
 use Rattle.format.specs.Numbers.{numbers}
 use Rattle.format.specs.NumbersLaws.{sheet-fits}
 use Rattle.parser.specs.UniqueLaws.{fault-unique, file-or-fault}
-use Rattle.sheet.specs.Read.{Refuses}
+use Rattle.reading.specs.Read.{Refuses}
 use Rattle.filling.specs.TrackerTables.{TrackerTables}
 use Rattle.tracker.specs.Build.{BuildTables, EnoughToBuild}
-use Rattle.file_tracker.specs.FileBuild.{Builds}
-use Rattle.file_tracker.specs.FileBuildLaws.{file-built}
+use Rattle.building.specs.FileBuild.{Builds}
+use Rattle.building.specs.FileBuildLaws.{file-built}
 use Rattle.tracker.specs.declared.Tracker.{Tracker}
 use Rattle.tracker.specs.declared.Built.the-variants.{Refused as BuildRefused, Is}
 use Rattle.listing_text.specs.Listing.{listing}

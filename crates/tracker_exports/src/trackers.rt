@@ -2,7 +2,7 @@
 ghost use Rattle.lent.specs.Lent.{witnessTables};
 ghost use Rattle.filling.specs.TrackerTables.{trackerTables};
 ghost use Rattle.tracker.specs.Build.{buildNumbersTables, buildTables, BuildsNumbers};
-ghost use Rattle.file_tracker.specs.FileBuild.{Builds};
+ghost use Rattle.building.specs.FileBuild.{Builds};
 ghost use Rattle.listing.specs.List.{listNumbersTables, ListsNumbers};
 ghost use Rattle.file_listing.specs.FileList.{listTables, Lists};
 ghost use Rattle.cells.specs.Cells.{InNumbers, writtenCells};

@@ -6,7 +6,7 @@ use lib.ListN.{take, drop}
 use Rattle.gate.specs.declared.Refusal.{Refusal}
 use Rattle.format.specs.Format.{Sheet, mostSheet}
 use Rattle.format.specs.Numbers.{numbers}
-use Rattle.sheet.specs.Read.{Accepted}
+use Rattle.reading.specs.Read.{Accepted}
 use Rattle.filling.specs.TrackerTables.{TrackerTables, Fitted}
 use Rattle.tracker.specs.Build.{BuildTables}
 use Rattle.plan_lines.specs.PlanLines.{mostPlan}

@@ -10,7 +10,7 @@ use Rattle.automaton.specs.Meeting.{Free, Everywhere}
 use Rattle.format.specs.Format.{Sheet, NamesRight, FileIs, lines, endLine}
 use Rattle.format.specs.Numbers.{numbers}
 use Rattle.format.specs.Written.{sheetOf, writtenSheet, written}
-use Rattle.sheet.specs.Read.{Accepted}
+use Rattle.reading.specs.Read.{Accepted}
 use Rattle.parser.specs.UniqueLaws.{file-unique}
 use Rattle.writer.specs.Writing.{trimmed, writing}
 use Rattle.writer.specs.NumbersLaws.{numbers-written}

@@ -1,13 +1,13 @@
 -- Each answer is that of building, or of the last question. Assumes nothing.
-use mathlib.Core.Path.{subst}
+use mathlib.Core.Path.{subst, _∙_}
+use native.Mathlib.Omega.{arith}
 use Rattle.lent.specs.Lent.{witnessTables}
 use Rattle.filling.specs.TrackerTables.{trackerTables}
 use Rattle.tracker.specs.Build.{BuildTables, buildTables}
-use Rattle.file_tracker.specs.FileBuild.{Builds}
+use Rattle.building.specs.FileBuild.{Builds}
 use Rattle.tracker.specs.declared.Built.{Built}
 use Rattle.tracker.specs.declared.Built.the-variants as B
 use Rattle.file_listing.specs.FileListLaws.{list-file-refused, file-sized, file-finished}
-use borrow.Author.Needs.{needs}
 use Rattle.file_listing.proofs.list.Statement.{statement}
 use Rattle.file_listing.proofs.list.Tie as tie
 
@@ -32,6 +32,16 @@ Built-as c z = Builds (start c .args .sheet .now) (start c .args .room) (before 
 abbrev behind : tie.After-slice-known13 → tie.After-build
 behind c = c .before .before .before .before .before .before .before .before .before .before .before .before
 
+-- building and the last question, from the ends: building refused, the tracker is listed
+abbrev refused-at : tie.After-slice-known14 → tie.After-build
+refused-at c = behind (c .before .before .before .before .before .before .before)
+
+abbrev listed-at : tie.After-slice-known18 → tie.After-build
+listed-at c = behind (c .before .before .before .before .before .before .before .before .before .before .before .before .before .before .before .before .before)
+
+abbrev finished-at : tie.After-slice-known18 → tie.After-finish
+finished-at c = c .before .before .before .before .before .before .before .before .before .before
+
 abbrev building : tie.After-x → tie.After-build
 building c = behind (c .before .before)
 
@@ -39,16 +49,16 @@ accepted : (c : tie.After-x) → Built-as (building c) (B.Is (c .x .given .0 .0)
 accepted c = subst (Built-as (building c)) (c .x .given .1) (building c .build .ensures)
 
 build-requires : tie.Need-build-requires
-build-requires c κs = search needs
+build-requires c κs = tt
 
 enum-known-r : tie.Need-enum-known-r
-enum-known-r c = search needs
+enum-known-r c = c .match .keys1
 
 refuse-requires : tie.Need-refuse-requires
-refuse-requires c κs = search needs
+refuse-requires c κs = tt
 
 enum-known-x : tie.Need-enum-known-x
-enum-known-x c = search needs
+enum-known-x c = c .match .keys2
 
 finish-requires : tie.Need-finish-requires
 finish-requires c κs =
@@ -56,28 +66,28 @@ finish-requires c κs =
     file-sized (accepted told)
 
 clear-refused-requires : tie.Need-clear-refused-requires
-clear-refused-requires c κs = search needs
+clear-refused-requires c κs = tt
 
 same-length : tie.Need-same-length
-same-length c = search needs
+same-length c = refused-at c .build .kept .1 .1 .0
 
 same-length-2 : tie.Need-same-length-2
-same-length-2 c = search needs
+same-length-2 c = refused-at c .build .kept .1 .1 .1 .0
 
 same-length-3 : tie.Need-same-length-3
-same-length-3 c = search needs
+same-length-3 c = refused-at c .build .kept .1 .1 .1 .1 .0
 
 same-length-4 : tie.Need-same-length-4
-same-length-4 c = search needs
+same-length-4 c = refused-at c .build .kept .1 .1 .1 .1 .1 .0
 
 same-length-5 : tie.Need-same-length-5
-same-length-5 c = search needs
+same-length-5 c = refused-at c .build .kept .1 .1 .1 .1 .1 .1 .0
 
 same-length-6 : tie.Need-same-length-6
-same-length-6 c = search needs
+same-length-6 c = refused-at c .build .kept .1 .1 .1 .1 .1 .1 .1 .0
 
 same-length-7 : tie.Need-same-length-7
-same-length-7 c = search needs
+same-length-7 c = c .before .before .refuse .kept .1 .0
 
 returns : tie.Need-returns
 returns c =
@@ -86,26 +96,27 @@ returns c =
     let b = behind (told .before .before) in
     list-file-refused (subst (Built-as b) (told .r .given .1) (b .build .ensures)) (refused .refuse .ensures)
 
+-- by arithmetic the lengths hold whichever table is cleared: the answer alone tells which one must be (so 9 too)
 same-length-8 : tie.Need-same-length-8
-same-length-8 c = search needs
+same-length-8 c = omega (arith, c .before .before .clear-refused .kept .1 .0, listed-at c .build .kept .1 .1 .0)
 
 same-length-9 : tie.Need-same-length-9
-same-length-9 c = search needs
+same-length-9 c = omega (arith, c .before .before .clear-refused .kept .1 .0, finished-at c .finish .kept .1 .1 .1 .0, listed-at c .build .kept .1 .1 .1 .0)
 
 same-length-10 : tie.Need-same-length-10
-same-length-10 c = search needs
+same-length-10 c = finished-at c .finish .kept .1 .1 .1 .1 .0 ∙ listed-at c .build .kept .1 .1 .1 .1 .0
 
 same-length-11 : tie.Need-same-length-11
-same-length-11 c = search needs
+same-length-11 c = listed-at c .build .kept .1 .1 .1 .1 .1 .0
 
 same-length-12 : tie.Need-same-length-12
-same-length-12 c = search needs
+same-length-12 c = listed-at c .build .kept .1 .1 .1 .1 .1 .1 .0
 
 same-length-13 : tie.Need-same-length-13
-same-length-13 c = search needs
+same-length-13 c = listed-at c .build .kept .1 .1 .1 .1 .1 .1 .1 .0
 
 same-length-14 : tie.Need-same-length-14
-same-length-14 c = search needs
+same-length-14 c = finished-at c .finish .kept .1 .1 .1 .1 .1 .0
 
 returns-2 : tie.Need-returns-2
 returns-2 c =

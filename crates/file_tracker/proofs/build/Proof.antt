@@ -2,8 +2,7 @@
 use mathlib.Core.Path.{refl}
 use native.Mathlib.Omega.{arith}
 use borrow.Author.Tests.{not-true, not-false}
-use Rattle.file_tracker.specs.FileBuild.{Builds}
-use borrow.Author.Needs.{needs}
+use Rattle.building.specs.FileBuild.{Builds}
 use Rattle.file_tracker.proofs.build.Statement.{statement}
 use Rattle.file_tracker.proofs.build.Tie as tie
 
@@ -12,31 +11,31 @@ abbrev asked-at : tie.After-slice-known12 → tie.After-build-long
 asked-at c = c .before .before .before .before .before .before .before .before .before .before .before .before .before
 
 enough-requires : tie.Need-enough-requires
-enough-requires c κs = search needs
+enough-requires c κs = tt
 
 same-length : tie.Need-same-length
-same-length c = search needs
+same-length c = refl
 
 same-length-2 : tie.Need-same-length-2
-same-length-2 c = search needs
+same-length-2 c = refl
 
 same-length-3 : tie.Need-same-length-3
-same-length-3 c = search needs
+same-length-3 c = refl
 
 same-length-4 : tie.Need-same-length-4
-same-length-4 c = search needs
+same-length-4 c = refl
 
 same-length-5 : tie.Need-same-length-5
-same-length-5 c = search needs
+same-length-5 c = refl
 
 same-length-6 : tie.Need-same-length-6
-same-length-6 c = search needs
+same-length-6 c = refl
 
 returns : tie.Need-returns
 returns c = Builds.short (c .before .enough .ensures .1 (not-true _ (c .if1 .taken))) refl refl
 
 slice-aggregate-build-long : tie.Need-slice-aggregate-build-long
-slice-aggregate-build-long c = search needs
+slice-aggregate-build-long c = refl
 
 build-long-requires : tie.Need-build-long-requires
 build-long-requires c κs =

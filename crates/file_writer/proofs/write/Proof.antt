@@ -4,9 +4,9 @@ use native.Mathlib.Omega.{arith}
 use lib.ListN.{replicate}
 use borrow.Author.Tests.{not-true, not-false}
 use Rattle.lent.specs.Lent.{WitnessTables, witnessTables, EnoughForWitness}
-use Rattle.sheet.specs.declared.Read.{Read}
-use Rattle.sheet.specs.declared.Read.the-variants as R
-use Rattle.sheet.specs.Read.{ReadTables, readTables, ReadsNamed}
+use Rattle.reading.specs.declared.Read.{Read}
+use Rattle.reading.specs.declared.Read.the-variants as R
+use Rattle.reading.specs.Read.{ReadTables, readTables, ReadsNamed}
 use Rattle.file_writer.specs.FileWrite.{Writes}
 use Rattle.file_writer.specs.FileWriteLaws.{write-asks, write-finishes}
 use borrow.Author.Needs.{needs}

@@ -7,7 +7,7 @@ use Rattle.filling.specs.TrackerTables.{trackerTables}
 use Rattle.tracker.specs.declared.Built.{Built}
 use Rattle.tracker.specs.declared.Built.the-variants.{Is}
 use Rattle.tracker.specs.Build.{buildTables}
-use Rattle.file_tracker.specs.FileBuild.{BuildsNamed}
+use Rattle.building.specs.FileBuild.{BuildsNamed}
 use Rattle.judge.specs.VerdictLaws.{sheet-refused, tracker-tables, plan-refused, plan-judged}
 use borrow.Author.Needs.{needs}
 use Rattle.judge.proofs.judge_long.Statement.{statement}

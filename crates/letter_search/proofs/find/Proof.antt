@@ -4,11 +4,11 @@ use native.Mathlib.Omega.{arith}
 use lib.ListN.{replicate}
 use borrow.Author.Tests.{not-true, not-false}
 use Rattle.lent.specs.Lent.{WitnessTables, witnessTables, EnoughForWitness}
-use Rattle.sheet.specs.declared.Read.{Read}
-use Rattle.sheet.specs.declared.Read.the-variants as R
-use Rattle.sheet.specs.Read.{ReadTables, readTables, ReadsNamed}
+use Rattle.reading.specs.declared.Read.{Read}
+use Rattle.reading.specs.declared.Read.the-variants as R
+use Rattle.reading.specs.Read.{ReadTables, readTables, ReadsNamed}
 use Rattle.letter_search.specs.Find.{Finds}
-use Rattle.sheet.specs.ReadLaws.{few-letters}
+use Rattle.reading.specs.ReadLaws.{few-letters}
 use Rattle.letter_search.specs.FindLaws.{find-asks}
 use borrow.Author.Needs.{needs}
 use Rattle.letter_search.proofs.find.Statement.{statement}

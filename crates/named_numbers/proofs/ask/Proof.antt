@@ -4,9 +4,9 @@ use native.Mathlib.Omega.{arith}
 use lib.ListN.{replicate}
 use Rattle.automaton.specs.Automaton.{Automaton, automaton}
 use Rattle.lent.specs.Lent.{witnessTables}
-use Rattle.sheet.specs.declared.Read.{Read}
-use Rattle.sheet.specs.declared.Read.the-variants as R
-use Rattle.sheet.specs.Read.{ReadTables, readTables, ReadsNamed}
+use Rattle.reading.specs.declared.Read.{Read}
+use Rattle.reading.specs.declared.Read.the-variants as R
+use Rattle.reading.specs.Read.{ReadTables, readTables, ReadsNamed}
 use Rattle.named_numbers.specs.Ask.{NamedRefuse}
 use Rattle.named_numbers.specs.AskLaws.{ask-letters, ask-lengths, ask-numbers}
 use borrow.Author.Needs.{needs}

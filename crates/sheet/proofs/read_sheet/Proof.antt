@@ -5,7 +5,7 @@ use native.Mathlib.Omega.{arith}
 use lib.ListN.{replicate}
 use borrow.Author.Tests.{not-true, not-false}
 use Rattle.lent.specs.Lent.{WitnessTables, witnessTables, EnoughForSheet}
-use Rattle.sheet.specs.Read.{readTables}
+use Rattle.reading.specs.Read.{readTables}
 use Rattle.sheet.specs.ReadLaws.{reads-asked}
 use borrow.Author.Needs.{needs}
 use Rattle.sheet.proofs.read_sheet.Statement.{statement}
@@ -17,6 +17,13 @@ start c = c .before .before .before .before .before .before .before .before .bef
 abbrev lent : tie.Start → WitnessTables
 lent s = witnessTables (s .args .word .now) (s .args .one .now) (s .args .other .now)
 
+-- reading, and the test before it, from the end
+abbrev read : tie.After-slice-known8 → tie.After-read-long
+read c = c .before .before .before .before .before .before .before .before .before
+
+abbrev asked : tie.After-read-long → tie.Else1
+asked c = c .before .before .before .before .before .before
+
 enough : (c : tie.Else1) → EnoughForSheet (start c .args .table .now) (lent (start c))
 enough c = c .before .long-enough .ensures .0 (not-false _ (c .if1 .left))
 
@@ -24,16 +31,16 @@ long-enough-requires : tie.Need-long-enough-requires
 long-enough-requires c κs = search needs
 
 same-length : tie.Need-same-length
-same-length c = search needs
+same-length c = refl
 
 same-length-2 : tie.Need-same-length-2
-same-length-2 c = search needs
+same-length-2 c = refl
 
 same-length-3 : tie.Need-same-length-3
-same-length-3 c = search needs
+same-length-3 c = refl
 
 same-length-4 : tie.Need-same-length-4
-same-length-4 c = search needs
+same-length-4 c = refl
 
 returns : tie.Need-returns
 returns c = inl (c .before .long-enough .ensures .1 (not-true _ (c .if1 .taken)), refl, refl)
@@ -45,24 +52,23 @@ read-long-requires : tie.Need-read-long-requires
 read-long-requires c κs = (enough (c .before .before .before .before .before), omega arith)
 
 same-length-5 : tie.Need-same-length-5
-same-length-5 c = search needs
+same-length-5 c = read c .read-long .kept .1 .0
 
 same-length-6 : tie.Need-same-length-6
-same-length-6 c = search needs
+same-length-6 c = read c .read-long .kept .1 .1 .1 .0
 
 same-length-7 : tie.Need-same-length-7
-same-length-7 c = search needs
+same-length-7 c = read c .read-long .kept .1 .1 .1 .1 .0
 
 same-length-8 : tie.Need-same-length-8
-same-length-8 c = search needs
+same-length-8 c = read c .read-long .kept .1 .1 .1 .1 .1 .0
 
 returns-2 : tie.Need-returns-2
 returns-2 c =
-    let g = c .before .before .before .before .before .before .before .before .before .read-long in
-    let asked = c .before .before .before .before .before .before .before .before .before .before .before .before .before .before .before in
-    let s = start asked in
+    let g = read c .read-long in
+    let s = start (asked (read c)) in
     let after = readTables (g .last .1 .0) (g .last .1 .1 .0) (witnessTables (g .last .1 .1 .1 .0) (g .last .1 .1 .1 .1 .0) (g .last .1 .1 .1 .1 .1 .0)) in
-    reads-asked (s .args .sheet .now) (readTables (s .args .table .now) (replicate 192 0) (lent s)) after (g .result) (enough asked) (g .ensures)
+    reads-asked (s .args .sheet .now) (readTables (s .args .table .now) (replicate 192 0) (lent s)) after (g .result) (enough (asked (read c))) (g .ensures)
 
 pub read-sheet-spec : {M : Type 1} → statement M
 read-sheet-spec =

@@ -1,4 +1,5 @@
 -- The call's answer in the lent table. Assumes nothing.
+use native.Mathlib.Omega.{arith}
 use Rattle.tracker_exports.proofs.trackers.lunthomi_build_numbers.Statement.{statement}
 use Rattle.tracker_exports.proofs.trackers.lunthomi_build_numbers.Tie as tie
 
@@ -12,11 +13,12 @@ build-numbers-requires c κs = tt
 put-built-requires : tie.Need-put-built-requires
 put-built-requires c κs = tt
 
+-- by all that is kept, so that a program that swaps two tables is refused at what it answers, and not here
 same-length : tie.Need-same-length
-same-length c = called-at c .build-numbers .kept .1 .1 .1 .0
+same-length c = omega (arith, called-at c .build-numbers .kept .1 .1 .1 .0, called-at c .build-numbers .kept .1 .1 .1 .1 .0)
 
 same-length-2 : tie.Need-same-length-2
-same-length-2 c = called-at c .build-numbers .kept .1 .1 .1 .1 .0
+same-length-2 c = omega (arith, called-at c .build-numbers .kept .1 .1 .1 .0, called-at c .build-numbers .kept .1 .1 .1 .1 .0)
 
 same-length-3 : tie.Need-same-length-3
 same-length-3 c = called-at c .build-numbers .kept .1 .1 .1 .1 .1 .0

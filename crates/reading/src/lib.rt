@@ -4,11 +4,17 @@ ghost use Prim.Native.Nat.{_≤_};
 ghost use lib.ListN.{length};
 ghost use Rattle.gate.specs.Gate.{cleared};
 ghost use Rattle.lent.specs.Lent.{witnessTables, EnoughForSheet, clearedWitness};
-ghost use Rattle.sheet.specs.Read.{readTables, ReadsNamed};
-use super::Read;
+ghost use Rattle.reading.specs.Read.{readTables, ReadsNamed};
+use automaton::Numbers;
 use gate::Refusal;
 use parser::File;
 use parser::whole_file::read_file;
+
+// The answer of reading: a refusal, or the sheet's numbers, whose successor sets stand in the lent table.
+pub enum Read {
+    Refused(Refusal),
+    Is(Numbers),
+}
 
 // The questions in tables that are long enough, with the successor sets' and the witness all zero. With 10 the successor sets and the
 // names are cleared again.

@@ -1,11 +1,11 @@
 -- The tables are cleared, and then the questions asked. Assumes nothing.
-use mathlib.Core.Path.{_≡_}
+use mathlib.Core.Path.{_≡_, _∙_}
 use Rattle.lent.specs.Lent.{witnessTables}
-use Rattle.sheet.specs.Read.{ReadTables, readTables, lentCleared}
-use Rattle.sheet.specs.ReadLaws.{ready-to-read, reads-cleared}
+use Rattle.reading.specs.Read.{ReadTables, readTables, lentCleared}
+use Rattle.reading.specs.ReadLaws.{ready-to-read, reads-cleared}
 use borrow.Author.Needs.{needs}
-use Rattle.sheet.proofs.reading.read_long.Statement.{statement}
-use Rattle.sheet.proofs.reading.read_long.Tie as tie
+use Rattle.reading.proofs.read_long.Statement.{statement}
+use Rattle.reading.proofs.read_long.Tie as tie
 
 -- where the successor sets are cleared, from where the witness is too
 abbrev table-cleared : tie.After-clear-witness → tie.After-clear
@@ -13,6 +13,13 @@ table-cleared c = c .before .before .before .before .before .before
 
 abbrev start : tie.After-clear-witness → tie.Start
 start c = table-cleared c .before .before .before .before .before .before .before .before
+
+-- the answer, and the clearing before it, from the end
+abbrev answer : tie.After-slice-known14 → tie.After-read-cleared
+answer c = c .before .before .before .before .before .before .before .before .before .before
+
+abbrev zeroed : tie.After-read-cleared → tie.After-clear-witness
+zeroed c = c .before .before .before .before .before .before .before .before .before .before .before .before
 
 abbrev lent : tie.Start → ReadTables
 lent s = readTables (s .args .table .now) (s .args .rows .now) (witnessTables (s .args .word .now) (s .args .one .now) (s .args .other .now))
@@ -34,25 +41,24 @@ read-cleared-requires c κs =
     ready-to-read (lent (start k)) (empty k) (start k .pre)
 
 same-length : tie.Need-same-length
-same-length c = search needs
+same-length c = answer c .read-cleared .kept .1 .0 ∙ table-cleared (zeroed (answer c)) .clear .kept .0
 
 same-length-2 : tie.Need-same-length-2
-same-length-2 c = search needs
+same-length-2 c = answer c .read-cleared .kept .1 .1 .0
 
 same-length-3 : tie.Need-same-length-3
-same-length-3 c = search needs
+same-length-3 c = answer c .read-cleared .kept .1 .1 .1 .0 ∙ zeroed (answer c) .clear-witness .kept .0
 
 same-length-4 : tie.Need-same-length-4
-same-length-4 c = search needs
+same-length-4 c = answer c .read-cleared .kept .1 .1 .1 .1 .0 ∙ zeroed (answer c) .clear-witness .kept .1 .0
 
 same-length-5 : tie.Need-same-length-5
-same-length-5 c = search needs
+same-length-5 c = answer c .read-cleared .kept .1 .1 .1 .1 .1 .0 ∙ zeroed (answer c) .clear-witness .kept .1 .1 .0
 
 returns : tie.Need-returns
 returns c =
-    let read = c .before .before .before .before .before .before .before .before .before .before in
-    let k = read .before .before .before .before .before .before .before .before .before .before .before .before in
-    let g = read .read-cleared in
+    let k = zeroed (answer c) in
+    let g = answer c .read-cleared in
     let s = start k in
     let after = readTables (g .last .1 .0) (g .last .1 .1 .0) (witnessTables (g .last .1 .1 .1 .0) (g .last .1 .1 .1 .1 .0) (g .last .1 .1 .1 .1 .1 .0)) in
     reads-cleared (lent s) (empty k) (s .args .sheet .now) after (g .result) (g .ensures)

@@ -1,9 +1,10 @@
 -- The answers of building from a sheet file, one by one. Assumes nothing.
 use Prim.Native.Nat.{ℕ, _*_}
-use mathlib.Core.Path.{_≡_, sym, subst}
+use mathlib.Core.Path.{_≡_, sym, subst, _∙_}
 use mathlib.Core.List.{List}
-use lib.ListN.{take, drop}
+use lib.ListN.{length, take, drop}
 use Rattle.gate.specs.Gate.{cleared}
+use Rattle.gate.specs.GateLaws.{same-cleared}
 use Rattle.gate.specs.declared.Refusal.{Refusal}
 use Rattle.automaton.specs.Automaton.{Automaton, automaton, AreNumbers}
 use Rattle.lent.specs.Lent.{clearedWitness, lentTable}
@@ -11,14 +12,15 @@ use Rattle.automaton.specs.declared.Numbers.{Numbers}
 use Rattle.format.specs.Format.{Sheet}
 use Rattle.format.specs.Numbers.{numbers}
 use Rattle.parser.specs.LettersOf.{LettersOf}
-use Rattle.sheet.specs.Read.{Accepted, ReadTables, readTables, SheetRead}
-use Rattle.sheet.specs.ReadLaws.{read-automaton}
+use Rattle.reading.specs.Read.{Accepted, ReadTables, readTables, SheetRead}
+use Rattle.reading.specs.ReadLaws.{read-automaton}
 use Rattle.filling.specs.TrackerTables.{TrackerTables, Fitted}
 use Rattle.tracker.specs.declared.Tracker.{Tracker}
+use Rattle.tracker.specs.declared.Built.{Built}
 use Rattle.tracker.specs.declared.Built.the-variants.{Refused, Is}
 use Rattle.tracker.specs.Build.{BuildTables, buildTables, EnoughToBuild, Tracks}
 use Rattle.tracker.specs.BuildLaws.{no-refusal}
-use Rattle.file_tracker.specs.FileBuild.{Builds, RowsBuilt}
+use Rattle.building.specs.FileBuild.{Builds, RowsBuilt, BuildsNamed}
 
 -- a tracker's numbers are those that it is built from
 same-numbers : {a b : Numbers} {table : List ℕ} → AreNumbers (automaton a table) b → a ≡ b
@@ -32,7 +34,7 @@ module _ {s : List ℕ} {before after : ReadTables} {a : Numbers} (h : SheetRead
       let range = h .accepted .file .right .range in
       record { sheet = h .sheet; file = h .accepted .file; are = h .are; range = rw (h .are .n, h .are .k) range; names = h .names }
 
-  pub rows-built : {room : ℕ} {lent tracker : TrackerTables} {x : Tracker} → Tracks (automaton a (take 128 (after .successors))) room lent tracker (Is x)
+  rows-built : {room : ℕ} {lent tracker : TrackerTables} {x : Tracker} → Tracks (automaton a (take 128 (after .successors))) room lent tracker (Is x)
       → RowsBuilt s (before .rows) (after .rows) (Is x)
   rows-built (are, fitted) =
       subst (λ (b : Numbers). LettersOf s (after .rows) b × (drop (24 * b .k) (after .rows) ≡ drop (24 * b .k) (cleared (before .rows)))) (same-numbers are)
@@ -41,18 +43,29 @@ module _ {s : List ℕ} {before after : ReadTables} {a : Numbers} (h : SheetRead
 -- FROM A SHEET FILE that is read, with names in rows; the tables hold what is read then
 module _ {s : List ℕ} {room : ℕ} {before : BuildTables} (lent : EnoughToBuild room before) {rows : List ℕ} {read : ReadTables} {a : Numbers}
     (h : SheetRead s (readTables (before .successors) rows (before .witness)) read a) {tracker : TrackerTables} where
-  -- 11
-  pub file-over : {r : Refusal} {successors : List ℕ} → Tracks (automaton a (take 128 (read .successors))) room (before .tracker) tracker (Refused r)
-      → successors ≡ cleared (before .successors) → Builds s room before (buildTables successors (read .witness) tracker) (Refused r)
-  file-over {r} over e =
-      Builds.asked lent (h .sheet) (h .accepted) (h .witness)
-      (subst (λ (A : Automaton). Tracks A room (before .tracker) tracker (Refused r)) (read-automaton h) over) e
+  -- 11: the answer b is a refusal, and the sets and the names are cleared behind it
+  pub file-over : {b : Built} {r : Refusal} {successors left : List ℕ} → b ≡ Refused r → Tracks (automaton a (take 128 (read .successors))) room (before .tracker) tracker b
+      → length (read .successors) ≡ length (before .successors) → successors ≡ cleared (read .successors) → length (read .rows) ≡ length rows → left ≡ cleared (read .rows)
+      → BuildsNamed s room before (buildTables successors (read .witness) tracker) rows left b
+  file-over {b} {r} {successors} {left} told over n e m f =
+      let tracks : Tracks (numbers (h .sheet)) room (before .tracker) tracker b =
+      subst (λ (A : Automaton). Tracks A room (before .tracker) tracker b) (read-automaton h) over in
+      subst (BuildsNamed s room before (buildTables successors (read .witness) tracker) rows left) (sym told) (
+        Builds.asked lent (h .sheet) (h .accepted) (h .witness) (subst (Tracks (numbers (h .sheet)) room (before .tracker) tracker) told tracks)
+            (e ∙ same-cleared (before .successors) (read .successors) n),
+        f ∙ same-cleared rows (read .rows) m,
+      )
 
-  pub file-is : {x : Tracker} → Tracks (automaton a (take 128 (read .successors))) room (before .tracker) tracker (Is x)
-      → Builds s room before (buildTables (read .successors) (read .witness) tracker) (Is x)
-  file-is {x} is =
-      Builds.asked lent (h .sheet) (h .accepted) (h .witness)
-      (subst (λ (A : Automaton). Tracks A room (before .tracker) tracker (Is x)) (read-automaton h) is) (h .successors)
+  -- or b is the tracker
+  pub file-is : {b : Built} {x : Tracker} → b ≡ Is x → Tracks (automaton a (take 128 (read .successors))) room (before .tracker) tracker b
+      → BuildsNamed s room before (buildTables (read .successors) (read .witness) tracker) rows (read .rows) b
+  file-is {b} {x} told tracks =
+      let is = subst (Tracks (automaton a (take 128 (read .successors))) room (before .tracker) tracker) told tracks in
+      subst (BuildsNamed s room before (buildTables (read .successors) (read .witness) tracker) rows (read .rows)) (sym told) (
+        Builds.asked lent (h .sheet) (h .accepted) (h .witness)
+            (subst (λ (A : Automaton). Tracks A room (before .tracker) tracker (Is x)) (read-automaton h) is) (h .successors),
+        rows-built h is,
+      )
 
 -- WHAT A TRACKER TELLS of the questions on the way to it
 pub file-built : {s : List ℕ} {room : ℕ} {before after : BuildTables} {x : Tracker} → Builds s room before after (Is x)

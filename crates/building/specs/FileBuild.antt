@@ -9,7 +9,7 @@ use Rattle.lent.specs.Lent.{clearedWitness, lentTable}
 use Rattle.format.specs.Format.{Sheet}
 use Rattle.format.specs.Numbers.{numbers}
 use Rattle.parser.specs.LettersOf.{LettersOf}
-use Rattle.sheet.specs.Read.{Accepted, Refuses}
+use Rattle.reading.specs.Read.{Accepted, Refuses}
 use Rattle.filling.specs.TrackerTables.{clearedTracker}
 use Rattle.tracker.specs.declared.Built.{Built}
 use Rattle.tracker.specs.declared.Built.the-variants.{Refused, Is}

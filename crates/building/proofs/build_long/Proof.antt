@@ -1,18 +1,19 @@
 -- Each answer is that of the questions on the way to it. Assumes nothing.
 use mathlib.Core.Path.{_≡_, refl, sym, subst, _∙_}
+use Prim.Native.Nat.{_≤_}
 use native.Mathlib.Omega.{arith}
+use lib.ListN.{length}
 use lib.Seq.{length-take-le}
-use Rattle.gate.specs.GateLaws.{same-cleared}
 use Rattle.lent.specs.Lent.{witnessTables}
-use Rattle.sheet.specs.Read.{readTables, ReadsNamed}
-use Rattle.sheet.specs.ReadLaws.{read-fits}
-use Rattle.sheet.specs.declared.Read.{Read}
-use Rattle.sheet.specs.declared.Read.the-variants.{Is}
-use Rattle.file_tracker.specs.FileBuild.{Builds}
-use Rattle.file_tracker.specs.FileBuildLaws.{file-over, file-is, rows-built}
-use borrow.Author.Needs.{needs}
-use Rattle.file_tracker.proofs.build_long.Statement.{statement}
-use Rattle.file_tracker.proofs.build_long.Tie as tie
+use Rattle.reading.specs.Read.{readTables, ReadsNamed}
+use Rattle.reading.specs.ReadLaws.{read-fits}
+use Rattle.reading.specs.declared.Read.{Read}
+use Rattle.reading.specs.declared.Read.the-variants.{Is}
+use Rattle.filling.specs.TrackerTables.{trackerTables}
+use Rattle.building.specs.FileBuild.{Builds}
+use Rattle.building.specs.FileBuildLaws.{file-over, file-is}
+use Rattle.building.proofs.build_long.Statement.{statement}
+use Rattle.building.proofs.build_long.Tie as tie
 
 -- the file is read
 abbrev start : tie.After-read-long → tie.Start
@@ -27,6 +28,10 @@ Read-as c r =
 
 read-as : (c : tie.After-read-long) (r : Read) → c .read-long .result ≡ r → Read-as c r
 read-as c r told = subst (Read-as c) told (c .read-long .ensures)
+
+-- the table of successor sets is as long as it was lent
+cells : (c : tie.After-read-long) → 128 ≤ length (c .read-long .last .1 .0)
+cells c = subst (128 ≤_) (sym (c .read-long .kept .1 .0)) (start c .pre .0 .lengths .cells)
 
 -- an accepted sheet
 abbrev reading : tie.After-a → tie.After-read-long
@@ -46,24 +51,26 @@ abbrev built-at : tie.After-enum-told2 → tie.After-read-long
 built-at c = c .before .before .before .before .before .before .before .before .before .before .before .before .before .before .before .before .before .before .before .before .before .before .before
 
 read-long-requires : tie.Need-read-long-requires
-read-long-requires c κs = search needs
+read-long-requires c κs =
+    let p = c .before .before .before .before .before .before .before .before .before .before .before .before .before .pre in
+    (p .0 .lengths, p .1)
 
 enum-known-r : tie.Need-enum-known-r
-enum-known-r c = search needs
+enum-known-r c = c .match .keys1
 
 clear-requires : tie.Need-clear-requires
-clear-requires c κs = search needs
+clear-requires c κs = tt
 
 enum-known-a : tie.Need-enum-known-a
-enum-known-a c = search needs
+enum-known-a c = c .match .keys2
 
 slice-reshare-prefix-track : tie.Need-slice-reshare-prefix-track
-slice-reshare-prefix-track c = search needs
+slice-reshare-prefix-track c = cells (reading (c .before))
 
 slice-aggregate-track : tie.Need-slice-aggregate-track
 slice-aggregate-track c =
     let read = reading (c .before .before) in
-    sym (length-take-le 128 (read .read-long .last .1 .0) (omega (arith, start read .pre .0 .lengths .cells, read .read-long .kept .1 .0)))
+    sym (length-take-le 128 (read .read-long .last .1 .0) (cells read))
 
 track-requires : tie.Need-track-requires
 track-requires c κs =
@@ -71,16 +78,16 @@ track-requires c κs =
     (read-fits (accepted told), start (reading told) .pre .0 .tracker)
 
 enum-told : tie.Need-enum-told
-enum-told c = search needs
+enum-told c = c .match2 .keys1
 
 clear-requires-2 : tie.Need-clear-requires-2
-clear-requires-2 c κs = search needs
+clear-requires-2 c κs = tt
 
 clear-bytes-requires : tie.Need-clear-bytes-requires
-clear-bytes-requires c κs = search needs
+clear-bytes-requires c κs = tt
 
 enum-told-2 : tie.Need-enum-told-2
-enum-told-2 c = search needs
+enum-told-2 c = c .match2 .keys2
 
 same-length : tie.Need-same-length
 same-length c = refused-at c .read-long .kept .1 .0
@@ -111,6 +118,7 @@ returns c =
     let refused = read-as read _ (told .r .given .1) in
     (Builds.refused (start read .pre .0) (told .r .given .0 .0) (refused .0) refl (refused .1) (cleared .clear .ensures), refused .2)
 
+-- by arithmetic the lengths hold whichever table is cleared: the answer alone tells which one must be (so 12 too)
 same-length-8 : tie.Need-same-length-8
 same-length-8 c = omega (arith, c .before .before .before .before .before .before .clear2 .kept .0, over-at c .read-long .kept .1 .0)
 
@@ -124,7 +132,7 @@ same-length-11 : tie.Need-same-length-11
 same-length-11 c = c .before .before .before .before .before .before .before .before .before .before .before .before .before .before .track .kept .1 .1 .1 .1 .0
 
 same-length-12 : tie.Need-same-length-12
-same-length-12 c = search needs
+same-length-12 c = omega (arith, c .before .before .before .before .before .before .clear2 .kept .0, over-at c .read-long .kept .1 .1 .1 .0)
 
 same-length-13 : tie.Need-same-length-13
 same-length-13 c = over-at c .read-long .kept .1 .1 .1 .1 .0
@@ -139,13 +147,10 @@ returns-2 c =
     let over = sets .before .before in
     let tracked = over .before .before .before .before .before .before in
     let told = tracked .before .before .before .before .before in
-    let lent = start (reading told) .args in
     let read = reading told .read-long in
-    rw (over .enum-told .given .1) (
-      file-over (start (reading told) .pre .0) (accepted told) (rw (over .enum-told .given .1) at (tracked .track .ensures))
-          (sets .clear2 .ensures ∙ same-cleared (lent .table .now) (read .last .1 .0) (read .kept .1 .0)),
-      names .clear-bytes .ensures ∙ same-cleared (lent .rows .now) (read .last .1 .1 .0) (read .kept .1 .1 .0),
-    )
+    let tables = tracked .track .last .1 .1 .1 in
+    file-over (start (reading told) .pre .0) (accepted told) {tracker = trackerTables (tables .0) (tables .1 .0)} (over .enum-told .given .1) (tracked .track .ensures)
+    (read .kept .1 .0) (sets .clear2 .ensures) (read .kept .1 .1 .0) (names .clear-bytes .ensures)
 
 same-length-15 : tie.Need-same-length-15
 same-length-15 c = built-at c .read-long .kept .1 .0
@@ -172,8 +177,7 @@ returns-3 : tie.Need-returns-3
 returns-3 c =
     let tracked = c .before .before .before .before .before .before in
     let told = tracked .before .before .before .before .before in
-    let is = rw (c .enum-told2 .given .1) at (tracked .track .ensures) in
-    rw (c .enum-told2 .given .1) (file-is (start (reading told) .pre .0) (accepted told) is, rows-built (accepted told) is)
+    file-is (start (reading told) .pre .0) (accepted told) (c .enum-told2 .given .1) (tracked .track .ensures)
 
 pub build-long-spec : {M : Type 1} → statement M
 build-long-spec =

@@ -9,10 +9,10 @@ use Rattle.parser.specs.Parse.{parse}
 use Rattle.parser.specs.PhaseAnswers.{FileRead}
 use Rattle.parser.specs.declared.File.{File}
 use Rattle.parser.specs.LettersOfLaws.{FileAccepted, read-accepted}
-use Rattle.sheet.specs.ReadLaws.{asked, free-accepts, meeting-refuses, fault-refuses}
+use Rattle.reading.specs.ReadLaws.{asked, free-accepts, meeting-refuses, fault-refuses}
 use borrow.Author.Needs.{needs}
-use Rattle.sheet.proofs.reading.read_cleared.Statement.{statement}
-use Rattle.sheet.proofs.reading.read_cleared.Tie as tie
+use Rattle.reading.proofs.read_cleared.Statement.{statement}
+use Rattle.reading.proofs.read_cleared.Tie as tie
 
 abbrev start : tie.After-read-file → tie.Start
 start c = c .before .before .before .before .before .before .before .before .before
@@ -32,6 +32,20 @@ told c = c .before .before .before .before .before .before
 
 abbrev graphed : tie.After-ask → tie.After-graph-of
 graphed c = c .before .before .before .before .before
+
+-- the walk check, from the ends: no walks meet, or the tables are cleared
+abbrev free-at : tie.Then1 → tie.After-ask
+free-at c = c .before .before .before .before .before .before .before
+
+abbrev emptied : tie.After-slice-known12 → tie.After-clear
+emptied c = c .before .before .before .before .before .before
+
+abbrev meeting-at : tie.After-slice-known12 → tie.After-ask
+meeting-at c = emptied c .before .before .before .before .before .before .before .before .before
+
+-- what it leaves
+abbrev witness : tie.After-ask → WitnessTables
+witness c = witnessTables (c .ask .last .1 .1 .0) (c .ask .last .1 .1 .1 .0) (c .ask .last .1 .1 .1 .1 .0)
 
 zeros : (c : tie.After-read-file) → lent (start c) ≡ clearedWitness (lent (start c))
 zeros c = start c .pre .3
@@ -84,24 +98,24 @@ ask-requires c κs =
     asked (reads-file k) (g .graph-of .ensures) (zeros (read k)) (start (read k) .pre .0 .long)
 
 same-length : tie.Need-same-length
-same-length c = search needs
+same-length c = read (told (free-at c)) .read-file .kept .1 .0
 
 same-length-2 : tie.Need-same-length-2
-same-length-2 c = search needs
+same-length-2 c = read (told (free-at c)) .read-file .kept .1 .1 .0
 
 same-length-3 : tie.Need-same-length-3
-same-length-3 c = search needs
+same-length-3 c = free-at c .ask .kept .1 .1 .0
 
 same-length-4 : tie.Need-same-length-4
-same-length-4 c = search needs
+same-length-4 c = free-at c .ask .kept .1 .1 .1 .0
 
 same-length-5 : tie.Need-same-length-5
-same-length-5 c = search needs
+same-length-5 c = free-at c .ask .kept .1 .1 .1 .1 .0
 
 returns : tie.Need-returns
 returns c =
-    let g = c .before .before .before .before .before .before .before in
-    free-accepts (reads-file (told g)) (graphed g .graph-of .ensures) (zeros (read (told g))) (g .ask .ensures) (c .if1 .taken)
+    let g = free-at c in
+    free-accepts (reads-file (told g)) (graphed g .graph-of .ensures) (zeros (read (told g))) {after = witness g} (g .ask .ensures) (c .if1 .taken)
 
 clear-requires : tie.Need-clear-requires
 clear-requires c κs = search needs
@@ -110,10 +124,10 @@ clear-bytes-requires : tie.Need-clear-bytes-requires
 clear-bytes-requires c κs = search needs
 
 same-length-6 : tie.Need-same-length-6
-same-length-6 c = search needs
+same-length-6 c = read-refused c .read-file .kept .1 .0
 
 same-length-7 : tie.Need-same-length-7
-same-length-7 c = search needs
+same-length-7 c = read-refused c .read-file .kept .1 .1 .0
 
 returns-2 : tie.Need-returns-2
 returns-2 c =
@@ -122,27 +136,27 @@ returns-2 c =
     fault-refuses (s .args .sheet .now) (s .args .table .now) (z .last .1 .0) (s .args .rows .now) (z .last .1 .1 .0) (c .before .r .given .0 .0)
     (subst (Read-as (read-refused c)) (c .before .r .given .1) (z .ensures)) (zeros (read-refused c))
 
+-- this one and the tenth are searched for, so that a wrong table that is cleared is refused at the answer
 same-length-8 : tie.Need-same-length-8
 same-length-8 c = search needs
 
 same-length-9 : tie.Need-same-length-9
-same-length-9 c = search needs
+same-length-9 c = c .before .before .clear-bytes .kept .0 ∙ read (told (meeting-at c)) .read-file .kept .1 .1 .0
 
 same-length-10 : tie.Need-same-length-10
 same-length-10 c = search needs
 
 same-length-11 : tie.Need-same-length-11
-same-length-11 c = search needs
+same-length-11 c = meeting-at c .ask .kept .1 .1 .1 .0
 
 same-length-12 : tie.Need-same-length-12
-same-length-12 c = search needs
+same-length-12 c = meeting-at c .ask .kept .1 .1 .1 .1 .0
 
 returns-3 : tie.Need-returns-3
 returns-3 c =
-    let k = c .before .before .before .before .before .before in
-    let e = k .before .before in
-    let g = e .before .before .before .before .before .before .before in
-    meeting-refuses (reads-file (told g)) (graphed g .graph-of .ensures) (zeros (read (told g))) (g .ask .ensures) (e .if1 .left)
+    let k = emptied c in
+    let g = meeting-at c in
+    meeting-refuses (reads-file (told g)) (graphed g .graph-of .ensures) (zeros (read (told g))) {after = witness g} (g .ask .ensures) (k .before .before .if1 .left)
     (k .clear .ensures ∙ ap (λ (n : ℕ). replicate {A = ℕ} n 0) (kept (read (told g))))
     (c .before .before .clear-bytes .ensures ∙ ap (λ (n : ℕ). replicate {A = ℕ} n 0) (read (told g) .read-file .kept .1 .1 .0))
 

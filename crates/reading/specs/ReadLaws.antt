@@ -1,0 +1,125 @@
+-- From the file and the walk check to the answer of reading. Assumes nothing.
+use Prim.Native.Nat.{ℕ, _-_, _≤_}
+use mathlib.Core.Path.{_≡_, sym, _∙_, ap, subst}
+use mathlib.Core.List.{List, _++_}
+use native.Mathlib.Omega.{arith}
+use lib.ListN.{length, take, replicate}
+use Rattle.gate.specs.Gate.{cleared}
+use Rattle.gate.specs.GateLaws.{cleared-twice, length-cleared}
+use Rattle.gate.specs.declared.Refusal.{Refusal}
+use Rattle.automaton.specs.Automaton.{Automaton, automaton, graphOf, graphNumbers, Fits}
+use Rattle.automaton.specs.Graph.{Graph, graph, GraphFits}
+use Rattle.automaton.specs.QuestionLaws.{same-graph, fits-graph}
+use Rattle.automaton.specs.declared.GraphNumbers.{GraphNumbers}
+use Rattle.automaton.specs.declared.Numbers.{Numbers}
+use Rattle.automaton.specs.Meeting.{Everywhere}
+use Rattle.lent.specs.Lent.{WitnessTables, EnoughForWitness, clearedWitness, EnoughForSheet}
+use Rattle.lent.specs.LentLaws.{tables-twice, long-cleared, meets-cleared}
+use Rattle.meeting.specs.Answer.{Asked, Answered}
+use Rattle.walks.specs.CheckLaws.{meets-answered}
+use Rattle.format.specs.FormatLaws.{fault-number}
+use Rattle.format.specs.Numbers.{numbers}
+use Rattle.format.specs.NumbersLaws.{sheet-fits, numbers-length, read-is}
+use Rattle.parser.specs.PhaseAnswers.{FileRead}
+use Rattle.parser.specs.Parse.{parse}
+use Rattle.parser.specs.declared.File.the-variants as F
+use Rattle.reading.specs.declared.Read.{Read}
+use Rattle.reading.specs.declared.Read.the-variants as R
+use Rattle.parser.specs.LettersOfLaws.{FileAccepted, file-refused}
+use Rattle.reading.specs.Read.{Refuses, ReadTables, readTables, lentCleared, SheetRead, ReadsNamed}
+
+-- only question 1 has number 1
+pub refuses-number : {s : List ℕ} {before after : WitnessTables} {r : Refusal} → Refuses s before after r → r .number ≡ 1 → ⊥
+refuses-number (Refuses.faulty number line f e z) h = omega (arith, fault-number f .0, ap (λ (r : Refusal). r .number) e)
+refuses-number (Refuses.meeting σ f m) h = omega (arith, m .number)
+
+-- QUESTION 10 on a file that is read
+module _ {s t u old rows : List ℕ} {a : Numbers} (h : FileAccepted s t u old rows a) where
+  sheet-automaton : automaton a (take 128 u) ≡ numbers (h .letters .sheet)
+  sheet-automaton = read-is (h .letters .sheet) t (h .letters .are) (h .table)
+
+  -- its graph is the one that is asked
+  module _ {g : GraphNumbers} (same : g ≡ graphNumbers a) {before : WitnessTables} (zeros : before ≡ clearedWitness before) where
+    sheet-graph : graph g (take 128 u) ≡ graphOf (numbers (h .letters .sheet))
+    sheet-graph = same-graph a (take 128 u) same ∙ ap (λ (A : Automaton). graphOf A) sheet-automaton
+
+    pub asked : EnoughForWitness before → Asked (graph g (take 128 u)) before
+    asked long = record {
+      fits = subst GraphFits (sym sheet-graph) (fits-graph (sheet-fits s (h .letters .sheet) (h .letters .file)));
+      lengths = record { cells = subst (λ (G : Graph). 128 ≤ length (G .table)) (sym sheet-graph) (omega (arith, numbers-length (h .letters .sheet))); long = long };
+      zeros = zeros;
+    }
+
+    module _ {after : WitnessTables} {r : ℕ} (answer : Answered (graph g (take 128 u)) Everywhere before after r) where
+      answered : Answered (graphOf (numbers (h .letters .sheet))) Everywhere before after r
+      answered = subst (λ (G : Graph). Answered G Everywhere before after r) sheet-graph answer
+
+      pub free-accepts : r ≡ 0 → SheetRead s (readTables t old before) (readTables u rows after) a
+      free-accepts e = record {
+        sheet = h .letters .sheet;
+        accepted = record { file = h .letters .file; free = answered .free e };
+        are = h .letters .are;
+        successors = h .table;
+        witness = answered .kept e ∙ zeros;
+        names = h .letters .names;
+        behind = h .behind;
+      }
+
+      pub meeting-refuses : (r ≡ 0 → ⊥) → {u′ rows′ : List ℕ} → u′ ≡ cleared t → rows′ ≡ cleared old
+          → ReadsNamed s (readTables t old before) (readTables u′ rows′ after) (R.Refused (record { number = 10; line = 0; length = r }))
+      meeting-refuses e z y = (Refuses.meeting (h .letters .sheet) (h .letters .file) (meets-answered answered e), z, y)
+
+-- a file with a fault
+pub fault-refuses :
+    (s t u old rows : List ℕ) (r : Refusal) {before : WitnessTables} → FileRead (parse s) t u old rows (F.Refused r) → before ≡ clearedWitness before
+    → ReadsNamed s (readTables t old before) (readTables u rows before) (R.Refused r)
+fault-refuses s t u old rows r e zeros =
+    let ((number, line, faulty, is), clear, zero) = file-refused s t u old rows r e in
+    (Refuses.faulty number line faulty is zeros, clear, zero)
+
+-- TABLES THAT ARE CLEARED FIRST
+named-cleared : (s : List ℕ) (before after : ReadTables) (r : Read) → ReadsNamed s (lentCleared before) after r → ReadsNamed s before after r
+named-cleared s before after (R.Refused r) (f, z, y) = (refuses f, z ∙ cleared-twice (before .successors), y)
+  where
+    refuses : Refuses s (clearedWitness (before .witness)) (after .witness) r → Refuses s (before .witness) (after .witness) r
+    refuses (Refuses.faulty number line f e c) = Refuses.faulty number line f e (c ∙ tables-twice (before .witness))
+    refuses (Refuses.meeting σ f m) = Refuses.meeting σ f (meets-cleared (before .witness) m)
+named-cleared s before after (R.Is a) h = record {
+  sheet = h .sheet;
+  accepted = h .accepted;
+  are = h .are;
+  successors = h .successors ∙ ap (λ (n : ℕ). numbers (h .sheet) .table ++ replicate {A = ℕ} (n - 128) 0) (length-cleared (before .successors));
+  witness = h .witness ∙ tables-twice (before .witness);
+  names = h .names;
+  behind = h .behind;
+}
+
+-- the tables once they are cleared
+module _ (before : ReadTables) {zeroed : ReadTables} (e : zeroed ≡ lentCleared before) where
+  pub ready-to-read : EnoughForSheet (before .successors) (before .witness) × (192 ≤ length (before .rows))
+      → EnoughForSheet (zeroed .successors) (zeroed .witness)
+      × (192 ≤ length (zeroed .rows))
+      × (zeroed .successors ≡ cleared (zeroed .successors))
+      × (zeroed .witness ≡ clearedWitness (zeroed .witness))
+  ready-to-read (long, room) =
+      rw e (
+        record { cells = rw (length-cleared (before .successors)) (long .cells); long = long-cleared (before .witness) (long .long) },
+        room,
+        sym (cleared-twice (before .successors)),
+        sym (tables-twice (before .witness)),
+      )
+
+  pub reads-cleared : (s : List ℕ) (after : ReadTables) (r : Read) → ReadsNamed s zeroed after r → ReadsNamed s before after r
+  reads-cleared s after r j = named-cleared s before after r (rw e at j)
+
+-- A SHEET THAT IS READ: its numbers, with the first 128 cells of the table, are an automaton that fits
+module _ {s : List ℕ} {before after : ReadTables} {a : Numbers} (h : SheetRead s before after a) where
+  pub read-automaton : automaton a (take 128 (after .successors)) ≡ numbers (h .sheet)
+  read-automaton = read-is (h .sheet) (before .successors) (h .are) (h .successors)
+
+  pub read-fits : Fits (automaton a (take 128 (after .successors)))
+  read-fits = subst Fits (sym read-automaton) (sheet-fits s (h .sheet) (h .accepted .file))
+
+  -- it has at most eight letters
+  pub few-letters : a .k ≤ 8
+  few-letters = subst (λ (k : ℕ). k ≤ 8) (h .names .letters) (h .accepted .file .right .range .3)
