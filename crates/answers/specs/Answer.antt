@@ -16,8 +16,8 @@ use Rattle.tracker.specs.declared.Built.{Built}
 use Rattle.tracker.specs.declared.Built.the-variants.{Refused as BuildRefused, Is as BuildIs}
 use Rattle.passes.specs.declared.Answer.{Answer}
 use Rattle.passes.specs.declared.Answer.the-variants.{Yes, No}
-use Rattle.judge.specs.declared.Outcome.{Outcome}
-use Rattle.judge.specs.declared.Outcome.the-variants.{Refused as JudgeRefused, Judged}
+use Rattle.plan_verdict.specs.declared.Outcome.{Outcome}
+use Rattle.plan_verdict.specs.declared.Outcome.the-variants.{Refused as JudgeRefused, Judged}
 
 -- a sheet as numbers, from a call's arguments
 abbrev pub asNumbers : ℕ → ℕ → ℕ → ℕ → List ℕ → Automaton

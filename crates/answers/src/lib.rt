@@ -2,9 +2,9 @@
 ghost use mathlib.Core.Path.{_≡_};
 ghost use Rattle.cells.specs.Cells.{into};
 ghost use Rattle.answers.specs.Answer.{checkedCells, readCells, foundCells, builtCells, answerCell, outcomeCells};
-use judge::Outcome;
 use letter_search::Found;
 use passes::Answer;
+use plan_verdict::Outcome;
 use reading::Read;
 use tracker::Built;
 use walks::Checked;

@@ -3,9 +3,9 @@
 ghost use Prim.Native.Nat.{_<_, _≤_};
 ghost use lib.ListN.{length};
 use gate::Written;
-use judge::Outcome;
 use libc::STDOUT_FILENO;
 use passes::Verdict;
+use plan_verdict::Outcome;
 
 fn say(text: &[u8]) {
     io::write_all(STDOUT_FILENO, text);

@@ -16,10 +16,10 @@ use Rattle.tracker.specs.declared.Built.the-variants as B
 use Rattle.filling.specs.TrackerTables.{TrackerTables, Holds}
 use Rattle.tracker.specs.Build.{BuildTables, EnoughToBuild}
 use Rattle.building.specs.FileBuild.{Builds}
-use Rattle.judge.specs.declared.Outcome.{Outcome}
-use Rattle.judge.specs.declared.Outcome.the-variants as O
+use Rattle.plan_verdict.specs.declared.Outcome.{Outcome}
+use Rattle.plan_verdict.specs.declared.Outcome.the-variants as O
 use Rattle.passes.specs.declared.Verdict.{Verdict}
-use Rattle.judge.specs.Verdict.{Judgement}
+use Rattle.plan_verdict.specs.Verdict.{Judgement}
 
 -- what is expected of a case
 pub data Expected : Type 0 where

@@ -29,11 +29,11 @@ use Rattle.plan.specs.Parse as P
 use Rattle.plan.specs.ParseLaws.{plan-means}
 use Rattle.plan.specs.ParseLaws as L
 use Rattle.plan.specs.CompleteLaws.{fault-read, plan-read}
-use Rattle.judge.specs.declared.Outcome.{Outcome}
-use Rattle.judge.specs.declared.Outcome.the-variants as O
+use Rattle.plan_verdict.specs.declared.Outcome.{Outcome}
+use Rattle.plan_verdict.specs.declared.Outcome.the-variants as O
 use Rattle.passes.specs.declared.Verdict.{Verdict}
 use Rattle.passes.specs.Passes.{Judges}
-use Rattle.judge.specs.Verdict.{SizesFit}
+use Rattle.plan_verdict.specs.Verdict.{SizesFit}
 use Rattle.passes.specs.UniqueLaws.{one-verdict}
 use Rattle.known.specs.Case.{Expected, judged, meeting, Case, Tracked, VerdictIs, BuiltIs, Forced}
 use Rattle.known.specs.Case as E

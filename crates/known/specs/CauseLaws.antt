@@ -23,11 +23,11 @@ use Rattle.building.specs.FileBuild.{Builds}
 use Rattle.passes.specs.Letter.{letterAt}
 use Rattle.plan.specs.Plan.{PlanIs}
 use Rattle.plan.specs.Plan as Plan
-use Rattle.judge.specs.declared.Outcome.{Outcome}
-use Rattle.judge.specs.declared.Outcome.the-variants as O
+use Rattle.plan_verdict.specs.declared.Outcome.{Outcome}
+use Rattle.plan_verdict.specs.declared.Outcome.the-variants as O
 use Rattle.passes.specs.declared.Verdict.{Verdict}
 use Rattle.passes.specs.Passes.{Judges}
-use Rattle.judge.specs.Verdict.{SizesFit, Refusing, Judgement}
+use Rattle.plan_verdict.specs.Verdict.{SizesFit, Refusing, Judgement}
 use Rattle.known.specs.Case.{met}
 
 -- the sheet file s and the room lead to the outcome o: refused by question 2 to 11, or its tuples are numbered, and what Then says holds of them

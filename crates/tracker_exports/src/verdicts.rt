@@ -2,7 +2,7 @@
 ghost use Rattle.lent.specs.Lent.{witnessTables};
 ghost use Rattle.filling.specs.TrackerTables.{trackerTables};
 ghost use Rattle.tracker.specs.Build.{buildTables};
-ghost use Rattle.judge.specs.Verdict.{Judgement};
+ghost use Rattle.plan_verdict.specs.Verdict.{Judgement};
 ghost use Rattle.cells.specs.Cells.{InNumbers};
 ghost use Rattle.answers.specs.Answer.{outcomeCells};
 

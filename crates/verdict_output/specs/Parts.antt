@@ -3,8 +3,8 @@ use Prim.Native.Nat.{ℕ}
 use mathlib.Core.List.{List}
 use Rattle.passes.specs.Passes.{isYes}
 use Rattle.passes.specs.declared.Verdict.{Verdict}
-use Rattle.judge.specs.declared.Outcome.{Outcome}
-use Rattle.judge.specs.declared.Outcome.the-variants.{Refused, Judged}
+use Rattle.plan_verdict.specs.declared.Outcome.{Outcome}
+use Rattle.plan_verdict.specs.declared.Outcome.the-variants.{Refused, Judged}
 use Rattle.report.specs.Report.{lineOf, verdictLine}
 
 -- the line of a verdict

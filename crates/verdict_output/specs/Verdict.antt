@@ -11,7 +11,7 @@ use Rattle.filling.specs.TrackerTables.{TrackerTables, Fitted}
 use Rattle.tracker.specs.Build.{BuildTables}
 use Rattle.plan_lines.specs.PlanLines.{mostPlan}
 use Rattle.passes.specs.Passes.{isYes}
-use Rattle.judge.specs.Verdict.{SizesFit, Refusing, Verdicts}
+use Rattle.plan_verdict.specs.Verdict.{SizesFit, Refusing, Verdicts}
 use Rattle.passes.specs.declared.Verdict.{Verdict}
 use Rattle.report.specs.Report.{refusalLine, verdictLine}
 use Rattle.sheet_end.specs.Split.{SheetEnds}

@@ -13,9 +13,9 @@ use Rattle.text.specs.BytesLaws.{stretch-end}
 use Rattle.filling.specs.TrackerTables.{trackerTables}
 use Rattle.tracker.specs.Build.{BuildTables, buildTables, EnoughToBuild}
 use Rattle.passes.specs.Passes.{isYes}
-use Rattle.judge.specs.Verdict.{SizesFit, Refusing, Judgement}
-use Rattle.judge.specs.declared.Outcome.{Outcome}
-use Rattle.judge.specs.declared.Outcome.the-variants.{Refused, Judged}
+use Rattle.plan_verdict.specs.Verdict.{SizesFit, Refusing, Judgement}
+use Rattle.plan_verdict.specs.declared.Outcome.{Outcome}
+use Rattle.plan_verdict.specs.declared.Outcome.the-variants.{Refused, Judged}
 use Rattle.report.specs.Report.{refusalLine, lineOf}
 use Rattle.report.specs.ReportLaws.{refusal-length, verdict-length}
 use Rattle.sheet_end.specs.Split.{SheetEnds}

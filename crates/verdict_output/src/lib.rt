@@ -1,6 +1,6 @@
 // The whole of program `verdict`: from the bytes of standard input to those of standard output.
-use judge::Outcome;
 use passes::Verdict;
+use plan_verdict::Outcome;
 ghost use mathlib.Core.Path.{_≡_};
 ghost use Prim.Native.Nat.{_+_};
 ghost use Rattle.report.specs.Output.{Prints};

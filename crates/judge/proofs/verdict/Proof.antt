@@ -1,6 +1,7 @@
 -- Questions 1 and 2 are answered first, and the others behind them. Assumes nothing.
 use mathlib.Core.Path.{refl}
-use Rattle.judge.specs.Verdict.{Refusing, Judgement}
+use Rattle.plan_verdict.specs.Verdict.{Refusing, Judgement}
+use Rattle.plan_verdict.specs.ShortLaws.{short-judged}
 use borrow.Author.Needs.{needs}
 use borrow.Author.Tests.{not-true, not-false}
 use Rattle.judge.proofs.verdict.Statement.{statement}
@@ -32,7 +33,7 @@ same-length-6 : tie.Need-same-length-6
 same-length-6 c = search needs
 
 returns : tie.Need-returns
-returns c = Judgement.short (c .before .enough .ensures .1 (not-true _ (c .if1 .taken))) refl refl
+returns c = short-judged (c .before .enough .ensures .1 (not-true _ (c .if1 .taken)))
 
 sizes-fit-requires : tie.Need-sizes-fit-requires
 sizes-fit-requires c κs = search needs

@@ -8,10 +8,10 @@ use Rattle.format.specs.Format.{Sheet}
 use Rattle.parser.specs.LettersOf.{NamesIn}
 use Rattle.plan.specs.Read.{ReadsPlan}
 use Rattle.plan.specs.declared.Planned.{Planned}
-use Rattle.judge.specs.PlanLaws.{letters-fit, judged-plan}
+use Rattle.plan_verdict.specs.PlanLaws.{letters-fit, judged-plan}
 use borrow.Author.Needs.{needs}
-use Rattle.judge.proofs.judge_plan.Statement.{statement}
-use Rattle.judge.proofs.judge_plan.Tie as tie
+use Rattle.plan_verdict.proofs.judge_plan.Statement.{statement}
+use Rattle.plan_verdict.proofs.judge_plan.Tie as tie
 
 abbrev start : tie.After-read-plan → tie.Start
 start c = c .before .before .before .before .before .before .before

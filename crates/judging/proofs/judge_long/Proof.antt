@@ -1,5 +1,5 @@
 -- Each exit is a case of the contract, by the laws of its parts. Assumes nothing.
-use mathlib.Core.Path.{_≡_, subst, _∙_}
+use mathlib.Core.Path.{_≡_, sym, subst}
 use native.Mathlib.Omega.{arith}
 use lib.ListN.{replicate}
 use Rattle.lent.specs.Lent.{witnessTables}
@@ -8,10 +8,12 @@ use Rattle.tracker.specs.declared.Built.{Built}
 use Rattle.tracker.specs.declared.Built.the-variants.{Is}
 use Rattle.tracker.specs.Build.{buildTables}
 use Rattle.building.specs.FileBuild.{BuildsNamed}
-use Rattle.judge.specs.VerdictLaws.{sheet-refused, tracker-tables, plan-refused, plan-judged}
+use Rattle.plan_verdict.specs.declared.Outcome.{Outcome}
+use Rattle.plan_verdict.specs.Parts.{PlanJudged}
+use Rattle.judging.specs.VerdictLaws.{sheet-refused, tracker-tables, plan-answered}
 use borrow.Author.Needs.{needs}
-use Rattle.judge.proofs.judge_long.Statement.{statement}
-use Rattle.judge.proofs.judge_long.Tie as tie
+use Rattle.judging.proofs.judge_long.Statement.{statement}
+use Rattle.judging.proofs.judge_long.Tie as tie
 
 -- the start, from behind building
 abbrev start : tie.After-build-long → tie.Start
@@ -38,19 +40,12 @@ built-from c = c .before .before .before .before .before .before .before .before
 tracker : (c : tie.After-x) → Built-as (built-from c) (Is (c .x .given .0 .0))
 tracker c = built-as (built-from c) _ (c .x .given .1)
 
--- and the plan
-abbrev tracker-of : tie.After-judge-plan → tie.After-x
-tracker-of c = c .before .before .before .before .before
-
--- building, from the ends: the sheet is refused, the plan is refused, the plan is judged
+-- building, from the ends: the sheet is refused, the plan is judged or refused
 abbrev sheet-at : tie.After-known-told → tie.After-build-long
 sheet-at c = c .before .before .before .before .before .before .before .before .before .before .before .before .before .before .before .before
 
 abbrev plan-at : tie.After-slice-known15 → tie.After-build-long
-plan-at c = c .before .before .before .before .before .before .before .before .before .before .before .before .before .before .before .before .before .before .before .before .before .before .before .before .before .before .before .before .before .before .before .before .before .before .before
-
-abbrev judged-at : tie.After-known-told4 → tie.After-build-long
-judged-at c = c .before .before .before .before .before .before .before .before .before .before .before .before .before .before .before .before .before .before .before .before .before .before .before .before
+plan-at c = c .before .before .before .before .before .before .before .before .before .before .before .before .before .before .before .before .before .before .before .before .before .before .before .before .before .before .before .before .before .before .before
 
 slice-aggregate-build-long : tie.Need-slice-aggregate-build-long
 slice-aggregate-build-long c = search needs
@@ -77,17 +72,8 @@ judge-plan-requires c κs =
       (omega (arith, built-from told .build-long .kept .1 .1 .1 .0), letters .range .3, (letters .sheet, letters .names)),
     )
 
-enum-known-r-2 : tie.Need-enum-known-r-2
-enum-known-r-2 c = search needs
-
-clear-requires : tie.Need-clear-requires
-clear-requires c κs = search needs
-
-clear-requires-2 : tie.Need-clear-requires-2
-clear-requires-2 c κs = search needs
-
-enum-known-v : tie.Need-enum-known-v
-enum-known-v c = search needs
+clear-refused-requires : tie.Need-clear-refused-requires
+clear-refused-requires c κs = search needs
 
 same-length : tie.Need-same-length
 same-length c = sheet-at c .build-long .kept .1 .1 .0
@@ -115,16 +101,16 @@ returns c =
     sheet-refused (pre .0) (pre .1) (built-as built _ (told .r .given .1) .0)
 
 same-length-7 : tie.Need-same-length-7
-same-length-7 c = omega (arith, c .before .before .before .before .before .before .before .before .before .clear .kept .0, plan-at c .build-long .kept .1 .1 .0)
+same-length-7 c = search needs
 
 same-length-8 : tie.Need-same-length-8
-same-length-8 c = c .before .before .before .before .clear2 .kept .0 ∙ plan-at c .build-long .kept .1 .1 .1 .1 .0
+same-length-8 c = search needs
 
 same-length-9 : tie.Need-same-length-9
-same-length-9 c = c .before .before .before .before .clear2 .kept .1 .0 ∙ plan-at c .build-long .kept .1 .1 .1 .1 .1 .0
+same-length-9 c = search needs
 
 same-length-10 : tie.Need-same-length-10
-same-length-10 c = search needs
+same-length-10 c = plan-at c .build-long .kept .1 .1 .1 .1 .1 .1 .0
 
 same-length-11 : tie.Need-same-length-11
 same-length-11 c = plan-at c .build-long .kept .1 .1 .1 .1 .1 .1 .1 .0
@@ -134,45 +120,18 @@ same-length-12 c = plan-at c .build-long .kept .1 .1 .1 .1 .1 .1 .1 .1 .0
 
 returns-2 : tie.Need-returns-2
 returns-2 c =
-    let second = c .before .before .before .before in
-    let first = second .before .before .before .before .before in
-    let refused = first .before .before .before in
-    let judged = refused .before .before .before in
-    let told = tracker-of judged in
-    let pre = start (built-from told) .pre in
-    let built = tracker told .0 in
+    let left = c .before .before .before .before .before .before in
+    let judged = left .before .before .before .before .before in
+    let told = judged .before .before .before .before .before in
+    let built = built-from told in
+    let pre = start built .pre in
     let letters = tracker told .1 .0 in
-    let plan = (rw (refused .r2 .given .1) at (judged .judge-plan .ensures)) .0 (letters .sheet) (letters .names) in
-    plan-refused (pre .0) (pre .1) built letters (built-from told .build-long .kept .1 .1 .0) plan (first .clear .ensures) (second .clear2 .ensures)
-
-same-length-13 : tie.Need-same-length-13
-same-length-13 c = judged-at c .build-long .kept .1 .1 .0
-
-same-length-14 : tie.Need-same-length-14
-same-length-14 c = judged-at c .build-long .kept .1 .1 .1 .1 .0
-
-same-length-15 : tie.Need-same-length-15
-same-length-15 c = judged-at c .build-long .kept .1 .1 .1 .1 .1 .0
-
-same-length-16 : tie.Need-same-length-16
-same-length-16 c = judged-at c .build-long .kept .1 .1 .1 .1 .1 .1 .0
-
-same-length-17 : tie.Need-same-length-17
-same-length-17 c = judged-at c .build-long .kept .1 .1 .1 .1 .1 .1 .1 .0
-
-same-length-18 : tie.Need-same-length-18
-same-length-18 c = judged-at c .build-long .kept .1 .1 .1 .1 .1 .1 .1 .1 .0
-
-returns-3 : tie.Need-returns-3
-returns-3 c =
-    let answer = c .before in
-    let judged = answer .before .before .before in
-    let told = tracker-of judged in
-    let pre = start (built-from told) .pre in
-    let built = tracker told .0 in
-    let letters = tracker told .1 .0 in
-    let plan = (rw (answer .v .given .1) at (judged .judge-plan .ensures)) .0 (letters .sheet) (letters .names) in
-    plan-judged (pre .0) (pre .1) built letters plan
+    let tables = built .build-long .last .1 .1 .1 .1 in
+    let plan = judged .judge-plan .ensures .0 (letters .sheet) (letters .names) in
+    let (same, tables-left) = left .clear-refused .ensures in
+    plan-answered (pre .0) (pre .1) (tracker told .0) letters (left .clear-refused .result) (built .build-long .kept .1 .1 .0)
+    (subst (λ (o : Outcome). PlanJudged (letters .sheet) (start built .args .plan .now) (tables .0) (tables .1 .0) (told .x .given .0 .0 .tuples) o) (sym same) plan)
+    tables-left
 
 pub judge-long-spec : {M : Type 1} → statement M
 judge-long-spec =
@@ -184,10 +143,7 @@ judge-long-spec =
     enum-known-x
     slice-aggregate-judge-plan
     judge-plan-requires
-    enum-known-r-2
-    clear-requires
-    clear-requires-2
-    enum-known-v
+    clear-refused-requires
     same-length
     same-length-2
     same-length-3
@@ -201,11 +157,4 @@ judge-long-spec =
     same-length-10
     same-length-11
     same-length-12
-    returns-2
-    same-length-13
-    same-length-14
-    same-length-15
-    same-length-16
-    same-length-17
-    same-length-18
-    returns-3)
+    returns-2)

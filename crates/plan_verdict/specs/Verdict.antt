@@ -15,8 +15,8 @@ use Rattle.plan_lines.specs.PlanLines.{mostPlan}
 use Rattle.numbering.specs.Numbering.{MoreThan}
 use Rattle.filling.specs.TrackerTables.{TrackerTables, Fitted, clearedTracker}
 use Rattle.tracker.specs.Build.{BuildTables, EnoughToBuild}
-use Rattle.judge.specs.declared.Outcome.{Outcome}
-use Rattle.judge.specs.declared.Outcome.the-variants.{Refused, Judged}
+use Rattle.plan_verdict.specs.declared.Outcome.{Outcome}
+use Rattle.plan_verdict.specs.declared.Outcome.the-variants.{Refused, Judged}
 use Rattle.passes.specs.declared.Verdict.{Verdict}
 use Rattle.passes.specs.Passes.{Judges, Sound}
 

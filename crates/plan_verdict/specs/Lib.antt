@@ -1,4 +1,4 @@
 pub mod Verdict
 pub mod Parts
 pub mod PlanLaws
-pub mod VerdictLaws
+pub mod ShortLaws

@@ -1,6 +1,6 @@
 -- The verdict's contract from what its parts ensure. Assumes nothing.
 use Prim.Native.Nat.{ℕ, _+_, _<_}
-use mathlib.Core.Path.{refl, _≡_, subst, _∙_}
+use mathlib.Core.Path.{refl, _≡_, sym, subst, _∙_}
 use mathlib.Core.List.{List}
 use lib.ListN.{length, length-append, List·getD-append}
 use lib.Seq.{getD-append-add}
@@ -27,11 +27,12 @@ use Rattle.building.specs.FileBuildLaws.{file-built}
 use Rattle.filling.specs.FittedLaws.{fitted-cleared}
 use Rattle.tracker.specs.declared.Tracker.{Tracker}
 use Rattle.tracker.specs.declared.Built.the-variants as B
-use Rattle.judge.specs.declared.Outcome.the-variants.{Refused, Judged}
+use Rattle.plan_verdict.specs.declared.Outcome.{Outcome}
+use Rattle.plan_verdict.specs.declared.Outcome.the-variants.{Refused, Judged}
 use Rattle.passes.specs.declared.Verdict.{Verdict}
-use Rattle.judge.specs.Verdict.{SizesFit, Verdicts, Refusing, Judgement}
+use Rattle.plan_verdict.specs.Verdict.{SizesFit, Verdicts, Refusing, Judgement}
 use Rattle.passes.specs.TableRun.{TablesFit, TableJudges}
-use Rattle.judge.specs.Parts.{PlanJudged}
+use Rattle.plan_verdict.specs.Parts.{PlanJudged, PlanLeft}
 use Rattle.passes.specs.FollowLaws.{tables-fit, judges}
 use Rattle.passes.specs.SoundLaws.{sound}
 
@@ -88,7 +89,7 @@ module _ {s p : List ℕ} {room : ℕ} {before after : BuildTables} (lent : Enou
     tracker-tables = tables-fit fits room (y .tuples) (before .tracker) (after .tracker) (accepted .2) (lent .tracker)
 
     -- 12 to 14
-    pub plan-refused : {successors : List ℕ} {tracker : TrackerTables} {r : Refusal} → length (after .successors) ≡ length (before .successors)
+    plan-refused : {successors : List ℕ} {tracker : TrackerTables} {r : Refusal} → length (after .successors) ≡ length (before .successors)
         → PlanJudged σ p (after .tracker .tuples) (after .tracker .nexts) (y .tuples) (Refused r) → successors ≡ cleared (after .successors)
         → tracker ≡ clearedTracker (after .tracker) → Judgement s p room before (buildTables successors (after .witness) tracker) (Refused r)
     plan-refused {r = r} same (number, line, faulty, is) e zero =
@@ -97,8 +98,16 @@ module _ {s p : List ℕ} {room : ℕ} {before after : BuildTables} (lent : Enou
         (zero ∙ fitted-cleared (numbers σ) fits room (y .tuples) (before .tracker) (after .tracker) (accepted .2) (lent .tracker))
 
     -- the answer
-    pub plan-judged : {z : Verdict} → PlanJudged σ p (after .tracker .tuples) (after .tracker .nexts) (y .tuples) (Judged z) → Judgement s p room before after (Judged z)
+    plan-judged : {z : Verdict} → PlanJudged σ p (after .tracker .tuples) (after .tracker .nexts) (y .tuples) (Judged z) → Judgement s p room before after (Judged z)
     plan-judged {z} (lead, cycle, plan, table) =
         let (a, o, fitted) = accepted in
         Judgement.judged lent sizes σ a (y .tuples) fitted lead cycle z
         (verdicts s σ a room (before .tracker) (after .tracker) (y .tuples) fitted p lead cycle z plan table) refl o witness
+
+    -- either, with what is left of the tables
+    pub plan-answered : {sets : List ℕ} {tracker : TrackerTables} (o : Outcome) → length (after .successors) ≡ length (before .successors)
+        → PlanJudged σ p (after .tracker .tuples) (after .tracker .nexts) (y .tuples) o → PlanLeft (after .successors) sets (after .tracker) tracker o
+        → Judgement s p room before (buildTables sets (after .witness) tracker) o
+    plan-answered (Refused r) same plan (empty, zero) = plan-refused same plan empty zero
+    plan-answered (Judged z) same plan (sets-kept, tracker-kept) =
+        subst (λ (t : BuildTables). Judgement s p room before t (Judged z)) (λ i. buildTables (sym sets-kept i) (after .witness) (sym tracker-kept i)) (plan-judged plan)
