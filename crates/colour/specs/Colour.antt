@@ -16,6 +16,11 @@ marked i = 2 * i + 2
 abbrev pub emptied : ℕ → ℕ
 emptied i = 2 * i + 1
 
+-- the colour of a marked or emptied place i: is it emptied
+unfoldable pub changed : ℕ → Bool → ℕ
+changed i true = emptied i
+changed i false = marked i
+
 -- "1 if set 0 is empty"
 abbrev pub dead : ℕ
 dead = 1

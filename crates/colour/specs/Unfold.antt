@@ -3,5 +3,5 @@ use Rattle.sets.specs.Unfold.{sets·unfold}
 use Rattle.colour.specs.Colour
 
 unfoldable pub colour·unfold : Unit {0}
-unfolding sets·unfold Colour.colourAt Colour.deadOr
+unfolding sets·unfold Colour.changed Colour.colourAt Colour.deadOr
 colour·unfold = tt

@@ -2,7 +2,7 @@
 ghost use mathlib.Core.Path.{_≡_};
 ghost use Prim.Native.Nat.{_≤_, min};
 ghost use Rattle.sets.specs.Sets.{isEmpty};
-ghost use Rattle.colour.specs.Colour.{neutral, marked, emptied, isEmptied, colourAt, deadOr};
+ghost use Rattle.colour.specs.Colour.{neutral, marked, emptied, changed, isEmptied, colourAt, deadOr};
 
 // The colour of a step.
 pub struct Colour(pub u16);
@@ -35,6 +35,14 @@ impl Colour {
         Colour(2 * (i as u16) + 1)
     }
 
+    // Place i is marked or emptied: 2i+2, less one for an emptied one.
+    pub fn changed(i: usize, emptied: bool) -> Colour
+        requires { ⌜ i ≤ 16 ⌝ }
+        ensures { λ r. ⌜ r .0 ≡ changed i emptied ⌝ }
+    {
+        Colour(2 * (i as u16) + 2 - emptied as u16)
+    }
+
     pub fn least(self, other: Colour) -> Colour
         ensures { λ r. ⌜ r .0 ≡ min (self .0) (other .0) ⌝ }
     {
@@ -49,18 +57,21 @@ pub fn dead_or(first: u16, colour: Colour) -> Colour
     if first == 0 { Colour::DEAD } else { colour }
 }
 
-// The colour of place i with set x after its turn: marked, or one of the first p places and empty now, or neither.
+// Is place i, with set x now, emptied? The first p places were non-empty before the step.
+fn is_emptied(p: usize, i: usize, x: u16) -> bool
+    ensures { λ r. ⌜ r ≡ isEmptied p i x ⌝ }
+{
+    x == 0 && i < p
+}
+
+// The colour of place i with set x after its turn: marked, emptied, or neither. A mark goes first.
 pub fn colour_at(n: usize, i: usize, p: usize, x: u16, mark: bool) -> Colour
     requires { ⌜ (n ≤ 16) × (i ≤ 16) ⌝ }
     ensures { λ r. ⌜ r .0 ≡ colourAt n i mark (isEmptied p i x) ⌝ }
 {
-    if mark {
-        return Colour::marked(i);
-    }
-    if x == 0 {
-        if i < p {
-            return Colour::emptied(i);
-        }
+    let emptied = is_emptied(p, i, x);
+    if mark || emptied {
+        return Colour::changed(i, !mark);
     }
     Colour::neutral(n)
 }

@@ -65,7 +65,8 @@ fn unions(w: &[u16], count: usize, later: &mut [u16])
     }
 }
 
-// The marking pass over the places 0 to p, closing up as it goes, and the least colour of a place.
+// The marking pass over the places 0 to p, closing up as it goes, and the least colour of a place. Mark and colour go by the place before closing
+// up: by i, and by x, its set.
 fn sweep(n: usize, p: usize, later: &[u16], w: &mut [u16]) -> Colour
     requires { ⌜ (n ≤ 16) × (p ≤ 16) × (length (now w) ≡ 17) × (length (now later) ≡ 17) × Unions (p + 1) (now w) (now later) ⌝ }
     ensures { λ r. ⌜ Swept n p (p + 1) (now (w .entry)) (now (w .exit)) (r .0) ⌝ }
@@ -76,14 +77,14 @@ fn sweep(n: usize, p: usize, later: &[u16], w: &mut [u16]) -> Colour
     let mut i: usize = 0;
     while i <= p {
         let x = sets::minus(w[i], out);
-        let mark = is_marked(x, later[i]);
-        colour = colour.least(colour::colour_at(n, i, p, x, mark));
-        out = out_of(mark, out, x);
         w[i] = 0;
         if x != 0 {
             w[j] = x;
             j += 1;
         }
+        let mark = is_marked(x, later[i]);
+        colour = colour.least(colour::colour_at(n, i, p, x, mark));
+        out = out_of(mark, out, x);
         i += 1;
     }
     colour

@@ -1,37 +1,33 @@
--- By the tests of mark, set and place. Assumes nothing.
-use borrow.Author.Tests.{eq-eqb, ne-eqb, lt-ltb, le-ltb}
+-- By the mark, and where there is none by whether the place is emptied. Assumes nothing.
+use mathlib.Core.Path.{sym}
 use mathlib.Core.Logic.{⊎-elim}
-use Rattle.colour.specs.Colour.{colourAt}
+use Rattle.colour.specs.Colour.{changed, colourAt}
 use borrow.Author.Needs.{needs}
 use Rattle.colour.proofs.colour_at.Statement.{statement}
 use Rattle.colour.proofs.colour_at.Tie as tie
 
-marked-requires : tie.Need-marked-requires
-marked-requires c κs = search needs
+is-emptied-requires : tie.Need-is-emptied-requires
+is-emptied-requires c κs = search needs
+
+changed-requires : tie.Need-changed-requires
+changed-requires c κs = search needs
 
 returns : tie.Need-returns
-unfolding colourAt
-returns c = simp (c .before .if1 .taken) (c .marked .ensures)
-
-emptied-requires : tie.Need-emptied-requires
-emptied-requires c κs = search needs
-
-returns-2 : tie.Need-returns-2
-unfolding colourAt
-returns-2 c = simp (c .before .before .before .if1 .left, eq-eqb _ _ (c .before .before .if2 .taken), lt-ltb _ _ (c .before .if3 .taken)) (c .emptied .ensures)
+unfolding changed colourAt
+returns c =
+    ⊎-elim
+    (λ w. simp (w .taken, c .changed .ensures))
+    (λ w. simp (w .0 .left, sym (c .before .before .is-emptied .ensures), w .1 .taken, c .changed .ensures))
+    (c .before .if1 .came)
 
 neutral-requires : tie.Need-neutral-requires
 neutral-requires c κs = search needs
 
-returns-3 : tie.Need-returns-3
+returns-2 : tie.Need-returns-2
 unfolding colourAt
-returns-3 c =
-    ⊎-elim
-    (λ w. simp (c .before .before .if1 .left, eq-eqb _ _ (w .0 .taken), le-ltb _ _ (w .1 .left)) (c .neutral .ensures))
-    (λ w. simp (c .before .before .if1 .left, ne-eqb _ _ (w .left)) (c .neutral .ensures))
-    (c .before .if2 .came)
+returns-2 c =
+    let e = c .before .before .before .is-emptied .ensures in
+    simp (c .before .before .if1 .left, sym e, c .before .if2 .left) (c .neutral .ensures)
 
 pub colour-at-spec : {M : Type 1} → statement M
-colour-at-spec =
-    tie.close
-    (tie.spec marked-requires returns emptied-requires returns-2 neutral-requires returns-3)
+colour-at-spec = tie.close (tie.spec is-emptied-requires changed-requires returns neutral-requires returns-2)

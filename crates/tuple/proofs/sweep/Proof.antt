@@ -34,6 +34,21 @@ slice-read-minus c = search needs
 minus-requires : tie.Need-minus-requires Inv-loop μ-loop
 minus-requires c κs = search needs
 
+mul-w : tie.Need-mul-w Inv-loop μ-loop
+mul-w c = search needs
+
+slice-write-w : tie.Need-slice-write-w Inv-loop μ-loop
+slice-write-w c = search needs
+
+mul-w-2 : tie.Need-mul-w-2 Inv-loop μ-loop
+mul-w-2 c = search needs
+
+slice-write-w-2 : tie.Need-slice-write-w-2 Inv-loop μ-loop
+slice-write-w-2 c = simp length-set (omega arith)
+
+add-j : tie.Need-add-j Inv-loop μ-loop
+add-j c = search needs
+
 mul-is-marked : tie.Need-mul-is-marked Inv-loop μ-loop
 mul-is-marked c = search needs
 
@@ -52,21 +67,6 @@ least-requires c κs = search needs
 out-of-requires : tie.Need-out-of-requires Inv-loop μ-loop
 out-of-requires c κs = search needs
 
-mul-w : tie.Need-mul-w Inv-loop μ-loop
-mul-w c = search needs
-
-slice-write-w : tie.Need-slice-write-w Inv-loop μ-loop
-slice-write-w c = search needs
-
-mul-w-2 : tie.Need-mul-w-2 Inv-loop μ-loop
-mul-w-2 c = search needs
-
-slice-write-w-2 : tie.Need-slice-write-w-2 Inv-loop μ-loop
-slice-write-w-2 c = simp length-set (omega arith)
-
-add-j : tie.Need-add-j Inv-loop μ-loop
-add-j c = search needs
-
 add-i : tie.Need-add-i Inv-loop μ-loop
 add-i c = search needs
 
@@ -75,21 +75,23 @@ loop-less c = search needs
 
 loop-again : tie.Need-loop-again Inv-loop μ-loop
 loop-again c =
-    let inside = c .before .before .before .before .before .before .before .before in
+    let tested = c .before .before .before in
+    let closed = tested .before .before in
+    let left = closed .before .minus in
+    let inside = closed .before .before .before in
     let start = inside .before .before .before .before .before in
     let g = start .args in
     let l = inside .before .loop in
     let here : l .i < g .p + 1 = omega (arith, inside .loop-test .taken) in
-    let left = c .before .before .before .before .before .before .minus in
-    let tested = c .before .before .before .before .is-marked in
-    let place = c .before .before .before .colour-at in
-    let least = c .before .before .least in
-    let out = c .before .out-of in
+    let mark = tested .is-marked in
+    let place = c .before .before .colour-at in
+    let least = c .before .least in
+    let out = c .out-of in
     let long : g .p + 1 ≤ length (now (g .w)) = omega (arith, start .pre .1, start .pre .2) in
-    let turned : Sweeping (g .n) (g .p) (g .p + 1) (now (g .w)) (c .if1 .w) (least .result .0) (out .result) (c .if1 .j) (l .i + 1) =
+    let turned : Sweeping (g .n) (g .p) (g .p + 1) (now (g .w)) (closed .if1 .w) (least .result .0) (out .result) (closed .if1 .j) (l .i + 1) =
     sweep-turn (g .n) (g .p) (g .p + 1) (now (g .w)) long (l .inv .3) (left .result) (least .result .0) (out .result) _ (place .result .0)
-    (tested .result) here (left .ensures) (start .pre .4 (l .i) here) (tested .ensures) (place .ensures) (least .ensures) (out .ensures)
-    (⊎-elim (λ t. inl (t .0 .taken, t .1, t .2)) (λ t. inr (t .0 .left, t .1, t .2)) (c .if1 .came)) in
+    (mark .result) here (left .ensures) (start .pre .4 (l .i) here) (mark .ensures) (place .ensures) (least .ensures) (out .ensures)
+    (⊎-elim (λ t. inl (t .0 .taken, t .1, t .2)) (λ t. inr (t .0 .left, t .1, t .2)) (closed .if1 .came)) in
     (omega arith, omega (arith, turned .passed), sweep-length (g .n) (g .p) (g .p + 1) (now (g .w)) long turned (omega arith) ∙ start .pre .2, turned)
 
 same-length : tie.Need-same-length Inv-loop μ-loop
@@ -112,17 +114,17 @@ sweep-spec =
     mul-minus
     slice-read-minus
     minus-requires
+    mul-w
+    slice-write-w
+    mul-w-2
+    slice-write-w-2
+    add-j
     mul-is-marked
     shared-slice-read-is-marked
     is-marked-requires
     colour-at-requires
     least-requires
     out-of-requires
-    mul-w
-    slice-write-w
-    mul-w-2
-    slice-write-w-2
-    add-j
     add-i
     loop-less
     loop-again
