@@ -11,18 +11,18 @@ use Rattle.format.specs.Format.{State, Sheet, headLine, nameLines, stateLines, 
 use Rattle.format.specs.Numbers.{flagSet, tableOf}
 use Rattle.format.specs.FormatLaws.{head-length, transitions-few, lines-parted}
 use Rattle.parser.specs.declared.Sizes.{Sizes}
-use Rattle.graph_lines.specs.declared.Sets.{Sets}
-use Rattle.graph_lines.specs.declared.StateLine.the-variants as S
-use Rattle.graph_lines.specs.StateLines.{stateLineAt, statesAt}
+use Rattle.state_lines.specs.declared.Sets.{Sets}
+use Rattle.state_lines.specs.declared.StateLine.the-variants as S
+use Rattle.state_lines.specs.StateLines.{stateLineAt, statesAt}
 use Rattle.name_lines.specs.NameLines.{Named, namesAt}
-use Rattle.graph_lines.specs.TransitionLines.{transitionsAt}
+use Rattle.transition_lines.specs.TransitionLines.{transitionsAt}
 use Rattle.parser.specs.Parse.{Contents, contents, afterHead, afterNames, afterStates, parse}
 use Rattle.frame.specs.Phase.{Phase, refused, passed, andThen}
 use Rattle.text.specs.BytesLaws.{stretch-rest}
 use Rattle.parser.specs.HeadLaws.{head-right, head-range, head-form}
 use Rattle.name_lines.specs.NameLaws.{NamesAlong, names-along, names-fault}
-use Rattle.graph_lines.specs.StateLaws.{state-none, states-along}
-use Rattle.graph_lines.specs.TransitionLaws.{transitions-along, transitions-end, transitions-fault}
+use Rattle.state_lines.specs.StateLaws.{state-none, states-along}
+use Rattle.transition_lines.specs.TransitionLaws.{transitions-along, transitions-end, transitions-fault}
 
 module _ (s : List ℕ) (σ : Sheet) (rest : List ℕ) (above : Above s σ rest) where
   sizes : Sizes

@@ -13,8 +13,8 @@ use Rattle.parser.specs.Parse.{Contents, contents, headOf, afterHead, pa
 use Rattle.frame.specs.Phase.{Phase, refused, passed, andThen}
 use Rattle.format.specs.Format.{mostSheet}
 use borrow.Author.Tests.{lt-ltb, le-ltb}
-use Rattle.graph_lines.specs.StateLines.{statesAnswer}
-use Rattle.graph_lines.specs.TransitionLines.{FillsTable}
+use Rattle.state_lines.specs.StateLines.{statesAnswer}
+use Rattle.transition_lines.specs.TransitionLines.{FillsTable}
 use Rattle.parser.specs.PhaseAnswers.{NumbersRead, FileRead}
 use Rattle.name_rows.specs.Rows.{HoldNames}
 use Rattle.automaton.specs.Graph.{InRange}
@@ -22,9 +22,9 @@ use Rattle.frame.specs.declared.Position.{Position}
 use Rattle.parser.specs.declared.File.{File}
 use Rattle.name_lines.specs.declared.Names.the-variants as N
 use Rattle.parser.specs.declared.Sizes.{Sizes}
-use Rattle.graph_lines.specs.declared.Sets.{Sets}
+use Rattle.state_lines.specs.declared.Sets.{Sets}
 use Rattle.parser.specs.declared.File.the-variants as F
-use Rattle.graph_lines.specs.declared.States.the-variants as Q
+use Rattle.state_lines.specs.declared.States.the-variants as Q
 use Rattle.frame.specs.declared.End.the-variants as E
 
 -- A TABLE OF ZEROS: the 128 sets, and the rest

@@ -11,10 +11,10 @@ use Rattle.format.specs.Format.{sheetWord, mostSheet}
 use Rattle.frame.specs.Phase.{Phase, refused, passed, andThen, firstPhase}
 use Rattle.frame.specs.declared.Bounds.{Bounds}
 use Rattle.parser.specs.declared.Sizes.{Sizes}
-use Rattle.graph_lines.specs.declared.Sets.{Sets}
+use Rattle.state_lines.specs.declared.Sets.{Sets}
 use Rattle.name_lines.specs.NameLines.{Named, namesAt}
-use Rattle.graph_lines.specs.StateLines.{statesAt}
-use Rattle.graph_lines.specs.TransitionLines.{transitionsAt}
+use Rattle.state_lines.specs.StateLines.{statesAt}
+use Rattle.transition_lines.specs.TransitionLines.{transitionsAt}
 
 -- THE FIRST LINE
 

@@ -15,16 +15,16 @@ use Rattle.format.specs.Format.{State, Transition, Sheet, headLine, stateLine, 
 use Rattle.format.specs.Numbers.{numbers}
 use Rattle.format.specs.FormatLaws.{lines-parted}
 use Rattle.parser.specs.declared.Sizes.{Sizes}
-use Rattle.graph_lines.specs.declared.Sets.{Sets}
+use Rattle.state_lines.specs.declared.Sets.{Sets}
 use Rattle.parser.specs.Parse.{headOf, Contents, contents, afterHead, afterNames, afterStates, parse}
 use Rattle.name_lines.specs.NameLines.{Named, namesAt}
-use Rattle.graph_lines.specs.StateLines.{statesAt}
-use Rattle.graph_lines.specs.TransitionLines.{transitionsAt}
+use Rattle.state_lines.specs.StateLines.{statesAt}
+use Rattle.transition_lines.specs.TransitionLines.{transitionsAt}
 use Rattle.frame.specs.Phase.{Phase, refused, passed, andThen}
 use Rattle.parser.specs.HeadLaws.{HeadOutcome, head-outcome}
 use Rattle.name_lines.specs.NameLaws.{NamesOutcome, NamesRefused, NamesPassed, names-outcome}
-use Rattle.graph_lines.specs.StateLaws.{StatesOutcome, StatesRefused, StatesPassed, states-outcome}
-use Rattle.graph_lines.specs.TransitionLaws.{TransitionsOutcome, TransitionsRefused, TransitionsPassed, transitions-outcome}
+use Rattle.state_lines.specs.StateLaws.{StatesOutcome, StatesRefused, StatesPassed, states-outcome}
+use Rattle.transition_lines.specs.TransitionLaws.{TransitionsOutcome, TransitionsRefused, TransitionsPassed, transitions-outcome}
 
 -- the upper part of a sheet
 abbrev upper : ℕ → ℕ → List (List ℕ) → List State → List Transition → Sheet

@@ -13,8 +13,8 @@ use Rattle.parser.specs.Parse.{sizes, headOf, Contents, parse}
 use Rattle.frame.specs.Phase.{Phase, refused, passed}
 use Rattle.parser.specs.HeadLaws.{head-right}
 use Rattle.name_lines.specs.NameUniqueLaws.{names-same}
-use Rattle.graph_lines.specs.StateUniqueLaws.{states-same}
-use Rattle.graph_lines.specs.TransitionUniqueLaws.{transitions-same}
+use Rattle.state_lines.specs.StateUniqueLaws.{states-same}
+use Rattle.transition_lines.specs.TransitionUniqueLaws.{transitions-same}
 use Rattle.parser.specs.ParseLaws.{AreContents, Means, parse-means, parse-accepts}
 use Rattle.parser.specs.CompleteLaws.{faulty-parse, file-read}
 

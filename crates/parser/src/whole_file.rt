@@ -18,11 +18,11 @@ use frame::First;
 use frame::Position;
 use frame::first_line;
 use gate::Refusal;
-use graph_lines::States;
-use graph_lines::state_lines::read_states;
-use graph_lines::transition_lines::read_transitions;
 use name_lines::Names;
 use name_lines::read_names;
+use state_lines::States;
+use state_lines::read_states;
+use transition_lines::read_transitions;
 
 // The state lines and what follows, behind the name lines. A refusal leaves the table all zero.
 fn read_numbers(s: &[u8], z: Sizes, place: Position, table: &mut [u16]) -> File

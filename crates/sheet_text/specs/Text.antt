@@ -5,7 +5,7 @@ use lib.ListN.{length}
 use Rattle.automaton.specs.Automaton.{Automaton}
 use Rattle.format.specs.Format.{lines, endLine}
 use Rattle.format.specs.Written.{sheetOf}
-use Rattle.sheet_text.specs.RowNames.{rowNames}
+use Rattle.sheet_sections.specs.RowNames.{rowNames}
 
 -- the text of an automaton with names that are composed
 unfoldable pub textOf : Automaton → List (List ℕ) → List ℕ

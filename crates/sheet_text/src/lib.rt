@@ -5,22 +5,19 @@ ghost use lib.ListN.{length};
 ghost use lib.Seq.{sets};
 ghost use Rattle.automaton.specs.Automaton.{automaton};
 ghost use Rattle.sheet_text.specs.Text.{rowsText, Writable};
-
-mod name_lines;
-mod state_lines;
-mod transition_lines;
-
 use automaton::Numbers;
+use sheet_sections::name_lines::names_length;
+use sheet_sections::name_lines::put_names;
+use sheet_sections::state_lines::put_states;
+use sheet_sections::transition_lines::count_transitions;
+use sheet_sections::transition_lines::put_transitions;
 
 // How many bytes the text of a sheet has.
 pub fn text_length(a: Numbers, table: &[u16], rows: &[u8]) -> usize
     requires { ⌜ Writable (automaton a (now table)) × (192 ≤ length (now rows)) ⌝ }
     ensures { λ r. ⌜ r ≡ length (rowsText (automaton a (now (table .entry))) (now (rows .entry))) ⌝ }
 {
-    16
-        + name_lines::names_length(rows, a.k)
-        + 11 * a.n
-        + 11 * transition_lines::count_transitions(table)
+    16 + names_length(rows, a.k) + 11 * a.n + 11 * count_transitions(table)
 }
 
 // The text of a sheet.
@@ -29,8 +26,8 @@ pub fn put_text(a: Numbers, table: &[u16], rows: &[u8], out: &mut [u8])
     ensures { λ _. ⌜ now (out .exit) ≡ sets (now (out .entry)) 0 (rowsText (automaton a (now (table .entry))) (now (rows .entry))) ⌝ }
 {
     sheet_lines::put_head(out, 0, a.n, a.k);
-    let states = name_lines::put_names(out, 12, rows, a.k);
-    let transitions = state_lines::put_states(out, states, a.n, a.initial, a.recurring);
-    let end = transition_lines::put_transitions(out, transitions, table);
+    let states = put_names(out, 12, rows, a.k);
+    let transitions = put_states(out, states, a.n, a.initial, a.recurring);
+    let end = put_transitions(out, transitions, table);
     text::put_bytes(out, end, b"END\n");
 }

@@ -15,7 +15,7 @@ use Rattle.automaton.specs.QuestionLaws.{fits-graph}
 use Rattle.format.specs.Format.{DistinctFrom, NamesRight, StatesRight, TransitionRight, TransitionsRight, Right, transitionIndex, FileIs, nameLines}
 use Rattle.format.specs.Written.{statesOf, mostTransitions, placed, whereMember, transitionsOf, sheetOf, writtenSheet, written}
 use Rattle.format.specs.FormatLaws.{name-length}
-use Rattle.sheet_text.specs.LengthLaws.{statesOf-length, transitionsOf-most, states-length, transitions-length}
+use Rattle.sheet_sections.specs.LengthLaws.{statesOf-length, transitionsOf-most, states-length, transitions-length}
 use Rattle.sheet_text.specs.TextLaws.{written-length}
 
 -- The names

@@ -14,7 +14,7 @@ use Rattle.format.specs.Format.{State, Transition}
 use Rattle.format.specs.Numbers.{flagSet, inserted, tableOf, numbers}
 use Rattle.format.specs.Written.{stateOf, statesOf, mostTransitions, placed, whereMember, transitionsOf, sheetOf, writtenSheet}
 use Rattle.format.specs.NumbersLaws.{unflagged, flags-set, inserted-length, inserted-new, inserted-other, table-length}
-use Rattle.sheet_text.specs.LengthLaws.{statesOf-length}
+use Rattle.sheet_sections.specs.LengthLaws.{statesOf-length}
 use Rattle.writer.specs.Writing.{trimmed}
 
 -- The states' flags

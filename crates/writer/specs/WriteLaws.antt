@@ -16,8 +16,8 @@ use Rattle.parser.specs.LettersOf.{NamesIn}
 use Rattle.named_numbers.specs.Ask.{Asks}
 use Rattle.sheet_text.specs.Text.{textOf, rowsText, Writable}
 use Rattle.sheet_text.specs.TextLaws.{text-written}
-use Rattle.sheet_text.specs.RowNames.{rowNames}
-use Rattle.sheet_text.specs.RowNamesLaws.{rows-hold}
+use Rattle.sheet_sections.specs.RowNames.{rowNames}
+use Rattle.sheet_sections.specs.RowNamesLaws.{rows-hold}
 use Rattle.writer.specs.Write.{WriteTables, WritesNumbers}
 
 -- the text with the names in rows is that with the names of their sheet

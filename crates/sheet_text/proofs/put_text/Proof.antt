@@ -6,7 +6,7 @@ use native.Mathlib.Omega.{arith}
 use lib.ListN.{length}
 use Rattle.automaton.specs.Automaton.{Automaton, automaton}
 use Rattle.format.specs.Format.{nameLines}
-use Rattle.sheet_text.specs.RowNames.{rowNames}
+use Rattle.sheet_sections.specs.RowNames.{rowNames}
 use Rattle.sheet_text.specs.TextLaws.{statesText, transitionsText, text-length, text-stored}
 use borrow.Author.Needs.{needs}
 use Rattle.sheet_text.proofs.put_text.Statement.{statement}

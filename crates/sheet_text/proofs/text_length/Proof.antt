@@ -3,8 +3,8 @@ use native.Mathlib.Omega.{arith}
 use denote.Ref.{now}
 use Rattle.automaton.specs.Automaton.{automaton}
 use Rattle.format.specs.Written.{statesOf, mostTransitions, transitionsOf}
-use Rattle.sheet_text.specs.RowNames.{rowNames}
-use Rattle.sheet_text.specs.LengthLaws.{statesOf-length, transitionsOf-most, states-length, transitions-length}
+use Rattle.sheet_sections.specs.RowNames.{rowNames}
+use Rattle.sheet_sections.specs.LengthLaws.{statesOf-length, transitionsOf-most, states-length, transitions-length}
 use Rattle.sheet_text.specs.TextLaws.{text-length}
 use borrow.Author.Needs.{needs}
 use Rattle.sheet_text.proofs.text_length.Statement.{statement}

@@ -11,14 +11,14 @@ use Rattle.automaton.specs.Graph.{InRange}
 use Rattle.format.specs.Format.{sheetWord}
 use Rattle.parser.specs.Parse.{sizes, sheetBounds, headOf, afterNames, parse}
 use Rattle.name_lines.specs.NameLines.{namesAt, NamesRead}
-use Rattle.graph_lines.specs.StateLines.{statesAt}
-use Rattle.graph_lines.specs.TransitionLines.{transitionsAt}
+use Rattle.state_lines.specs.StateLines.{statesAt}
+use Rattle.transition_lines.specs.TransitionLines.{transitionsAt}
 use Rattle.frame.specs.Phase.{Phase, passed}
 use Rattle.frame.specs.Answers.{FirstFits}
 use Rattle.parser.specs.PhaseAnswers.{NumbersRead, FileRead}
 use Rattle.frame.specs.FirstLaws.{first-passed, first-refused}
 use Rattle.name_lines.specs.declared.Names.{Names}
-use Rattle.graph_lines.specs.declared.Sets.{Sets}
+use Rattle.state_lines.specs.declared.Sets.{Sets}
 use Rattle.parser.specs.declared.File.{File}
 use Rattle.parser.specs.declared.File.the-variants as F
 use Rattle.parser.specs.FileLaws.{too-large, not-large, refused-by-names, NamesHanded, names-pass, RowsLeft, with-rows}

@@ -1,9 +1,0 @@
-pub mod StateLines
-pub mod TransitionLines
-pub mod StateLaws
-pub mod StateUniqueLaws
-pub mod StateStepLaws
-pub mod TransitionLaws
-pub mod TransitionUniqueLaws
-pub mod TransitionStepLaws
-pub mod Unfold

@@ -1,0 +1,52 @@
+-- The state lines of a sheet file, read from the top: question 7.
+-- That this is what Format describes is a theorem. A byte past the end is 0, and 0 stands in no line.
+use Prim.Native.Nat.{ℕ, zero, suc, _+_, _*_, _^_, _≤_}
+use mathlib.Core.List.{List}
+use mathlib.Core.Bool.{_&&_}
+use Rattle.gate.specs.Gate.{refusal}
+use Rattle.lists.specs.Choice.{choose}
+use Rattle.columns.specs.Number.{isNumbered, isBetween}
+use Rattle.columns.specs.Pair.{pairAt, withPair}
+use Rattle.frame.specs.Phase.{Phase, refused, passed}
+use Rattle.state_lines.specs.declared.Sets.{Sets}
+use Rattle.state_lines.specs.declared.StateLine.{StateLine}
+use Rattle.state_lines.specs.declared.StateLine.the-variants as S
+use Rattle.state_lines.specs.declared.States.{States}
+use Rattle.state_lines.specs.declared.States.the-variants as Q
+
+-- two flags, each 0 or 1
+abbrev pub flagsOf : ℕ → ℕ → StateLine
+flagsOf i r = choose (isBetween 0 1 i && isBetween 0 1 r) (S.Is i r) S.Bad
+
+-- the line of state q: its two flags
+unfoldable pub stateLineAt : List ℕ → ℕ → ℕ → StateLine
+stateLineAt s at q = choose (isNumbered s at 83 q) (withPair (pairAt s (at + 4)) flagsOf S.Bad) S.Bad
+
+-- what to do with flags that were read, and what where there are none
+abbrev pub withFlags : {A : Type 0} → StateLine → (ℕ → ℕ → A) → A → A
+withFlags (S.Is i r) go bad = go i r
+withFlags S.Bad go bad = bad
+
+-- `todo` state lines from state q on, with the initial and the must-recur set of the states before it
+-- "Is each state line of its form? No: 7."
+unfoldable pub statesAt : List ℕ → ℕ → ℕ → ℕ → ℕ → ℕ → ℕ → Phase Sets
+statesAt s line at q initial recurring zero = passed (record { initial = initial; recurring = recurring; at = at; line = line })
+statesAt s line at q initial recurring (suc todo) =
+    withFlags (stateLineAt s at q)
+    (λ i r. statesAt s (line + 1) (at + 11) (q + 1) (initial + i * 2 ^ q) (recurring + r * 2 ^ q) todo)
+    (refused 7 line)
+
+-- the flags of a state line that is read are 0 or 1
+abbrev pub FlagsFit : StateLine → Type 0
+FlagsFit (S.Is i r) = (i ≤ 1) × (r ≤ 1)
+FlagsFit S.Bad = Unit
+
+-- the answer of the state lines
+abbrev pub statesAnswer : Phase Sets → States
+statesAnswer (refused number line) = Q.Refused (refusal number line)
+statesAnswer (passed q) = Q.Are q
+
+-- where the line after the state lines stands
+abbrev pub SetsFit : States → Type 0
+SetsFit (Q.Refused r) = Unit
+SetsFit (Q.Are q) = (q .line ≤ 26) × (q .at ≤ 500)
