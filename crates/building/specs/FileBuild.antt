@@ -1,14 +1,13 @@
 -- What building a tracker from a sheet file answers, and what the lent tables hold then.
-use Prim.Native.Nat.{ℕ, _*_}
+use Prim.Native.Nat.{ℕ}
 use mathlib.Core.Path.{_≡_}
 use mathlib.Core.List.{List}
-use lib.ListN.{drop}
 use Rattle.gate.specs.Gate.{refusal, cleared}
 use Rattle.gate.specs.declared.Refusal.{Refusal}
 use Rattle.lent.specs.Lent.{clearedWitness, lentTable}
 use Rattle.format.specs.Format.{Sheet}
 use Rattle.format.specs.Numbers.{numbers}
-use Rattle.parser.specs.LettersOf.{LettersOf}
+use Rattle.parser.specs.LettersOf.{LettersAlone}
 use Rattle.reading.specs.Read.{Accepted, Refuses}
 use Rattle.filling.specs.TrackerTables.{clearedTracker}
 use Rattle.tracker.specs.declared.Built.{Built}
@@ -32,10 +31,10 @@ pub data Builds (s : List ℕ) (room : ℕ) (before after : BuildTables) (b : Bu
       → Tracks (numbers σ) room (before .tracker) (after .tracker) b → TableIs (numbers σ .table) (before .successors) (after .successors) b
       → Builds s room before after b
 
--- the rows of the names behind building: all zero with a refusal, else the sheet's composed names, and behind them zeros
+-- the rows of the letters behind building: all zero with a refusal, else the sheet's letters, and everywhere else zeros
 abbrev pub RowsBuilt : List ℕ → List ℕ → List ℕ → Built → Type 0
 RowsBuilt s old rows (Refused r) = rows ≡ cleared old
-RowsBuilt s old rows (Is x) = LettersOf s rows (x .numbers) × (drop (24 * x .numbers .k) rows ≡ drop (24 * x .numbers .k) (cleared old))
+RowsBuilt s old rows (Is x) = LettersAlone s old rows (x .numbers)
 
 -- THE SAME WITH THE NAMES, for the calls that go on with a tracker once it is built
 abbrev pub BuildsNamed : List ℕ → ℕ → BuildTables → BuildTables → List ℕ → List ℕ → Built → Type 0

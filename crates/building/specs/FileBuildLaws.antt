@@ -1,8 +1,8 @@
 -- The answers of building from a sheet file, one by one. Assumes nothing.
-use Prim.Native.Nat.{ℕ, _*_}
+use Prim.Native.Nat.{ℕ}
 use mathlib.Core.Path.{_≡_, sym, subst, _∙_}
 use mathlib.Core.List.{List}
-use lib.ListN.{length, take, drop}
+use lib.ListN.{length, take}
 use Rattle.gate.specs.Gate.{cleared}
 use Rattle.gate.specs.GateLaws.{same-cleared}
 use Rattle.gate.specs.declared.Refusal.{Refusal}
@@ -11,7 +11,7 @@ use Rattle.lent.specs.Lent.{clearedWitness, lentTable}
 use Rattle.automaton.specs.declared.Numbers.{Numbers}
 use Rattle.format.specs.Format.{Sheet}
 use Rattle.format.specs.Numbers.{numbers}
-use Rattle.parser.specs.LettersOf.{LettersOf}
+use Rattle.parser.specs.LettersOf.{LettersOf, LettersAlone}
 use Rattle.reading.specs.Read.{Accepted, ReadTables, readTables, SheetRead}
 use Rattle.reading.specs.ReadLaws.{read-automaton}
 use Rattle.filling.specs.TrackerTables.{TrackerTables, Fitted}
@@ -36,8 +36,9 @@ module _ {s : List ℕ} {before after : ReadTables} {a : Numbers} (h : SheetRead
 
   rows-built : {room : ℕ} {lent tracker : TrackerTables} {x : Tracker} → Tracks (automaton a (take 128 (after .successors))) room lent tracker (Is x)
       → RowsBuilt s (before .rows) (after .rows) (Is x)
+  unfolding read-letters
   rows-built (are, fitted) =
-      subst (λ (b : Numbers). LettersOf s (after .rows) b × (drop (24 * b .k) (after .rows) ≡ drop (24 * b .k) (cleared (before .rows)))) (same-numbers are)
+      subst (LettersAlone s (before .rows) (after .rows)) (same-numbers are)
       (read-letters, h .behind)
 
 -- FROM A SHEET FILE that is read, with names in rows; the tables hold what is read then

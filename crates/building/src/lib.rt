@@ -21,7 +21,7 @@ pub fn build_long(
     one: &mut [u16],
     other: &mut [u16],
 ) -> Built
-    requires { ⌜ EnoughToBuild room (buildTables (now table) (witnessTables (now word) (now one) (now other)) (trackerTables (now tuples) (now nexts))) × (192 ≤ length (now rows)) ⌝ }
+    requires { ⌜ EnoughToBuild room (buildTables (now table) (witnessTables (now word) (now one) (now other)) (trackerTables (now tuples) (now nexts))) × (224 ≤ length (now rows)) ⌝ }
     ensures { λ r. ⌜ BuildsNamed (now (sheet .entry)) room
         (buildTables (now (table .entry)) (witnessTables (now (word .entry)) (now (one .entry)) (now (other .entry))) (trackerTables (now (tuples .entry)) (now (nexts .entry))))
         (buildTables (now (table .exit)) (witnessTables (now (word .exit)) (now (one .exit)) (now (other .exit))) (trackerTables (now (tuples .exit)) (now (nexts .exit))))

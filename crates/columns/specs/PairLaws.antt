@@ -50,28 +50,45 @@ module _ (s : List ℕ) (at a b : ℕ) where
       let eb : e2 .0 ≡ b = cc in
       (e1 .1 ∙ ap N.Is ea, (e2 .1 ∙ ap N.Is eb, rw p6 (eqb-true _ _ (e3 .0))))
 
--- A LINE of the byte of its kind and three numbers, read as a number and two
-module _ (s : List ℕ) (at kind a b c : ℕ) where
-  abbrev line : List ℕ
-  line = numbersLine (kind ∷ []) (a ∷ b ∷ c ∷ [])
+-- A LINE of the byte of its kind and numbers
+module _ (s : List ℕ) (at kind : ℕ) where
+  abbrev line : List ℕ → List ℕ
+  line vs = numbersLine (kind ∷ []) vs
 
+  kind-of : (vs rest : List ℕ) → Narrow vs → drop at s ≡ line vs ++ rest → (getD s at 0 ≡ kind) × FieldsAt s (at + 1) vs
+  unfolding startsAt
+  kind-of vs rest h e =
+      let w = numbers-of s at (kind ∷ []) vs rest h e in
+      (eqb-true _ _ (and-eq-true-iff (eqb (getD s at 0) kind) true .0 (w .starts) .0), w .numbers)
+
+  kind-is : (vs : List ℕ) → noZero (kind ∷ []) ≡ true → getD s at 0 ≡ kind → FieldsAt s (at + 1) vs → drop at s ≡ line vs ++ drop (at + length (line vs)) s
+  unfolding startsAt
+  kind-is vs z first w = numbers-is s at (kind ∷ []) vs z (record { starts = simp (eq-eqb _ _ first); numbers = w }) .1
+
+  -- two, read at once
+  pub two-of : (a b : ℕ) (rest : List ℕ) → Narrow (a ∷ b ∷ []) → drop at s ≡ line (a ∷ b ∷ []) ++ rest → (getD s at 0 ≡ kind) × (pairAt s (at + 1) ≡ Are a b)
+  two-of a b rest h e =
+      let (first, both) = kind-of (a ∷ b ∷ []) rest h e in
+      (first, pair-of s (at + 1) a b both)
+
+  pub two-is : (a b : ℕ) → noZero (kind ∷ []) ≡ true → getD s at 0 ≡ kind → pairAt s (at + 1) ≡ Are a b → drop at s ≡ line (a ∷ b ∷ []) ++ drop (at + 8) s
+  unfolding column
+  two-is a b z first both = kind-is (a ∷ b ∷ []) z first (pair-is s (at + 1) a b both)
+
+  -- three, read as a number and two
   p4 : at + 1 + 3 ≡ at + 4
   p4 = omega arith
 
-  pub three-of : (rest : List ℕ) → Narrow (a ∷ b ∷ c ∷ []) → drop at s ≡ line ++ rest
+  pub three-of : (a b c : ℕ) (rest : List ℕ) → Narrow (a ∷ b ∷ c ∷ []) → drop at s ≡ line (a ∷ b ∷ c ∷ []) ++ rest
       → (getD s at 0 ≡ kind) × (numberAt s (at + 1) ≡ N.Is a) × (pairAt s (at + 4) ≡ Are b c)
-  unfolding startsAt
-  three-of rest h e =
-      let w = numbers-of s at (kind ∷ []) (a ∷ b ∷ c ∷ []) rest h e in
-      let first = and-eq-true-iff (eqb (getD s at 0) kind) true .0 (w .starts) .0 in
-      let (one, two) = w .numbers in
-      (eqb-true _ _ first, one, pair-of s (at + 4) b c (rw p4 at two))
+  three-of a b c rest h e =
+      let (first, (one, two)) = kind-of (a ∷ b ∷ c ∷ []) rest h e in
+      (first, one, pair-of s (at + 4) b c (rw p4 at two))
 
-  pub three-is : noZero (kind ∷ []) ≡ true → getD s at 0 ≡ kind → numberAt s (at + 1) ≡ N.Is a → pairAt s (at + 4) ≡ Are b c → drop at s ≡ line ++ drop (at + 11) s
-  unfolding startsAt column
-  three-is z first one two =
-      let w : NumbersAt s at (kind ∷ []) (a ∷ b ∷ c ∷ []) = record { starts = simp (eq-eqb _ _ first); numbers = (one, rw p4 (pair-is s (at + 4) b c two)) } in
-      numbers-is s at (kind ∷ []) (a ∷ b ∷ c ∷ []) z w .1
+  pub three-is : (a b c : ℕ) → noZero (kind ∷ []) ≡ true → getD s at 0 ≡ kind → numberAt s (at + 1) ≡ N.Is a → pairAt s (at + 4) ≡ Are b c
+      → drop at s ≡ line (a ∷ b ∷ c ∷ []) ++ drop (at + 11) s
+  unfolding column
+  three-is a b c z first one two = kind-is (a ∷ b ∷ c ∷ []) z first (one, rw p4 (pair-is s (at + 4) b c two))
 
 -- A FIRST LINE: a word and two numbers
 module _ (s word : List ℕ) where

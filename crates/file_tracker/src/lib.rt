@@ -29,7 +29,7 @@ pub fn build(
             length: 0,
         });
     }
-    let mut rows = [0u8; 192];
+    let mut rows = [0u8; 224];
     build_long(
         sheet,
         room,

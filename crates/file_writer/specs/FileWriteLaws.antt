@@ -11,7 +11,7 @@ use Rattle.automaton.specs.Automaton.{Automaton, automaton}
 use Rattle.lent.specs.Lent.{WitnessTables, EnoughForWitness}
 use Rattle.format.specs.Numbers.{numbers}
 use Rattle.format.specs.NumbersLaws.{sheet-fits, numbers-length, automaton-is}
-use Rattle.parser.specs.LettersOf.{NamesIn}
+use Rattle.parser.specs.LettersOf.{LettersIn}
 use Rattle.reading.specs.Read.{ReadTables, readTables, SheetRead}
 use Rattle.writer.specs.Write.{writeTables}
 use Rattle.writer.specs.WriteLaws.{named-text, writable}
@@ -28,6 +28,7 @@ module _ {s rows : List ℕ} {witness : WitnessTables} {after : ReadTables} {a :
   pub write-finishes : {output output′ : List ℕ} {r : Written} → EnoughForWitness witness → Put (rowsText (automaton a (after .successors)) (after .rows)) output output′ r
       → Writes s (writeTables witness output) (writeTables (after .witness) output′) r
   write-finishes {output} {output′} {r} long put =
-      let names : NamesIn (h .sheet) (numbers (h .sheet) .k) (after .rows) = subst (λ (k : ℕ). NamesIn (h .sheet) k (after .rows)) (h .are .k) (h .names) in
-      let text = ap (λ (A : Automaton). rowsText A (after .rows)) is ∙ named-text (numbers (h .sheet)) names in
+      let names : LettersIn (h .sheet) (numbers (h .sheet) .k) (after .rows) = subst (λ (k : ℕ). LettersIn (h .sheet) k (after .rows)) (h .are .k) (h .names) in
+      let few = sheet-fits s (h .sheet) (h .accepted .file) .range .3 in
+      let text = ap (λ (A : Automaton). rowsText A (after .rows)) is ∙ named-text (numbers (h .sheet)) few names in
       Writes.asked long (h .sheet) (h .accepted) (h .witness) (subst (λ (text : List ℕ). Put text output output′ r) text put)

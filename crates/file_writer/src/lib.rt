@@ -27,7 +27,7 @@ pub fn write(
             length: 0,
         });
     }
-    let mut rows = [0u8; 192];
+    let mut rows = [0u8; 224];
     match read_long(sheet, &mut table, &mut rows, word, one, other) {
         Read::Refused(r) => {
             gate::clear_bytes(out);

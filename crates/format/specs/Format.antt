@@ -1,4 +1,4 @@
--- Document 01, "The files" and "The gate questions": what a sheet file is, and which line of a file that is none is at fault.
+-- Document 01, "The files" and "The gate questions", and document 02, R-1: what a sheet file is, and which line of a file that is none is at fault.
 use Prim.Native.Nat.{ℕ, suc, _+_, _*_, _≤_, _<_}
 use mathlib.Core.Path.{_≡_}
 use mathlib.Core.Logic.{_⊎_}
@@ -22,11 +22,17 @@ pub record Transition : Type 0 where
   pub letter : ℕ
   pub to : ℕ
 
--- a sheet as its lines tell it: the names as they are spelled, the states and the transitions in the order of their lines
+-- "letter (3), superseding letter (3)": a withdrawn letter, and the letter that supersedes it
+pub record Withdrawal : Type 0 where
+  pub letter : ℕ
+  pub by : ℕ
+
+-- a sheet as its lines tell it: the names as they are spelled, the withdrawals, the states and the transitions in the order of their lines
 pub record Sheet : Type 0 where
   pub n : ℕ
   pub k : ℕ
   pub names : List (List ℕ)
+  pub withdrawals : List Withdrawal
   pub states : List State
   pub transitions : List Transition
 
@@ -43,6 +49,10 @@ headLine n k = numbersLine sheetWord (n ∷ k ∷ [])
 unfoldable pub nameLine : ℕ → List ℕ → List ℕ
 nameLine l name = 78 ∷ (column 3 l ++ (space ∷ (name ++ (lf ∷ []))))
 
+-- "`W`, letter (3), superseding letter (3)"
+unfoldable pub withdrawalLine : Withdrawal → List ℕ
+withdrawalLine w = numbersLine (87 ∷ []) (w .letter ∷ w .by ∷ [])
+
 -- "`S`, state number in order (3), initial 0 or 1 (3), must-recur 0 or 1 (3)"
 unfoldable pub stateLine : ℕ → State → List ℕ
 stateLine q z = numbersLine (83 ∷ []) (q ∷ z .initial ∷ z .recurring ∷ [])
@@ -56,6 +66,11 @@ unfoldable pub nameLines : ℕ → List (List ℕ) → List ℕ
 nameLines l [] = []
 nameLines l (x ∷ xs) = nameLine l x ++ nameLines (suc l) xs
 
+-- those of withdrawals
+unfoldable pub withdrawalLines : List Withdrawal → List ℕ
+withdrawalLines [] = []
+withdrawalLines (w ∷ ws) = withdrawalLine w ++ withdrawalLines ws
+
 -- those of states, from state q on
 unfoldable pub stateLines : ℕ → List State → List ℕ
 stateLines q [] = []
@@ -66,9 +81,11 @@ unfoldable pub transitionLines : List Transition → List ℕ
 transitionLines [] = []
 transitionLines (t ∷ ts) = transitionLine t ++ transitionLines ts
 
--- the lines of a sheet, or of its upper part, without END
+-- the lines of a sheet, or of its upper part, without END: "After the name lines a sheet may have lines `W`"
 unfoldable pub lines : Sheet → List ℕ
-lines σ = headLine (σ .n) (σ .k) ++ (nameLines 0 (σ .names) ++ (stateLines 0 (σ .states) ++ transitionLines (σ .transitions)))
+lines σ =
+    headLine (σ .n) (σ .k)
+    ++ (nameLines 0 (σ .names) ++ (withdrawalLines (σ .withdrawals) ++ (stateLines 0 (σ .states) ++ transitionLines (σ .transitions))))
 
 -- THE QUESTIONS, on the lines that are there
 
@@ -81,6 +98,35 @@ DistinctFrom (y ∷ ys) x = (compose y ≡ compose x → ⊥) × DistinctFrom ys
 abbrev pub NamesRight : List (List ℕ) → List (List ℕ) → Type 0
 NamesRight earlier [] = Unit
 NamesRight earlier (x ∷ xs) = IsName x × DistinctFrom earlier x × NamesRight (earlier ++ (x ∷ [])) xs
+
+-- letters of the sheet, "the second number always the larger", and not below the least letter that is still free
+pub record WithdrawalRight (k least : ℕ) (w : Withdrawal) : Type 0 where
+  pub order : least ≤ w .letter
+  pub larger : w .letter < w .by
+  pub letter : w .by < k
+
+-- "strictly ascending by letter"
+abbrev pub WithdrawalsRight : ℕ → ℕ → List Withdrawal → Type 0
+WithdrawalsRight k least [] = Unit
+WithdrawalsRight k least (w ∷ ws) = WithdrawalRight k least w × WithdrawalsRight k (w .letter + 1) ws
+
+-- the least letter that is free behind some withdrawals
+abbrev pub letterAfter : ℕ → List Withdrawal → ℕ
+letterAfter least [] = least
+letterAfter least (w ∷ ws) = letterAfter (w .letter + 1) ws
+
+-- m is the superseding letter of letter l
+abbrev pub Supersedes : List Withdrawal → ℕ → ℕ → Type 0
+Supersedes [] l m = ⊥
+Supersedes (w ∷ ws) l m = ((w .letter ≡ l) × (w .by ≡ m)) ⊎ Supersedes ws l m
+
+-- a withdrawn letter
+abbrev pub Withdrawn : List Withdrawal → ℕ → Type 0
+Withdrawn ws l = (m : ℕ) × Supersedes ws l m
+
+-- and one that is not
+abbrev pub InForce : List Withdrawal → ℕ → Type 0
+InForce ws l = Withdrawn ws l → ⊥
 
 -- "initial 0 or 1 (3), must-recur 0 or 1 (3)"
 abbrev pub FlagsRight : State → Type 0
@@ -119,12 +165,19 @@ abbrev pub leastAfter : ℕ → List Transition → ℕ
 leastAfter least [] = least
 leastAfter least (t ∷ ts) = leastAfter (transitionIndex t + 1) ts
 
--- questions 4 to 8 are answered yes by every line of a sheet, or of its upper part
+-- "Transition lines may not use a withdrawn letter."
+abbrev pub AllInForce : List Withdrawal → List Transition → Type 0
+AllInForce ws [] = Unit
+AllInForce ws (t ∷ ts) = InForce ws (t .letter) × AllInForce ws ts
+
+-- questions 4, 5, 6, 15, 7, 8 and 16 are answered yes by every line of a sheet, or of its upper part
 pub record Right (σ : Sheet) : Type 0 where
   pub range : InRange (σ .n) (σ .k)
   pub names : NamesRight [] (σ .names)
+  pub withdrawals : WithdrawalsRight (σ .k) 0 (σ .withdrawals)
   pub states : StatesRight (σ .states)
   pub transitions : TransitionsRight (σ .n) (σ .k) 0 (σ .transitions)
+  pub in-force : AllInForce (σ .withdrawals) (σ .transitions)
 
 -- "Is the sheet at most 24,576 bytes ..? No: 2."
 abbrev pub mostSheet : ℕ
@@ -145,9 +198,15 @@ pub record Above (s : List ℕ) (σ : Sheet) (rest : List ℕ) : Type 0 where
   pub right : Right σ
   pub text : s ≡ lines σ ++ rest
 
--- the kind of line that is due behind the upper part σ: a name, a state, or a transition or END
+-- the kind of line that is due behind the upper part σ: a name, a withdrawal where there is one, a state, or a transition or END
 pub record NameDue (σ : Sheet) : Type 0 where
   pub names : length (σ .names) < σ .k
+  pub withdrawals : σ .withdrawals ≡ []
+  pub states : σ .states ≡ []
+  pub transitions : σ .transitions ≡ []
+
+pub record WithdrawalDue (σ : Sheet) : Type 0 where
+  pub names : length (σ .names) ≡ σ .k
   pub states : σ .states ≡ []
   pub transitions : σ .transitions ≡ []
 
@@ -162,7 +221,7 @@ pub record EndDue (σ : Sheet) : Type 0 where
 
 -- the number of the line behind them, from 1
 abbrev pub lineDue : Sheet → ℕ
-lineDue σ = 2 + (length (σ .names) + (length (σ .states) + length (σ .transitions)))
+lineDue σ = 2 + (length (σ .names) + (length (σ .withdrawals) + (length (σ .states) + length (σ .transitions))))
 
 -- "A missing line counts as a faulty line of the kind due there, and a line without LF is faulty": neither opens with the line's text.
 
@@ -175,14 +234,17 @@ pub data NameFault (earlier : List (List ℕ)) (rest : List ℕ) : ℕ → Type 
 
 -- those where a transition or END is due, on line `line`
 -- "After the states and up to `END`, a line beginning with T answers to question 8, any other to 9."
-pub data EndFault (n k least : ℕ) (rest : List ℕ) (line : ℕ) : ℕ → ℕ → Type 0 where
+pub data EndFault (ws : List Withdrawal) (n k least : ℕ) (rest : List ℕ) (line : ℕ) : ℕ → ℕ → Type 0 where
   -- "Each transition line of its form, in range and in order? No: 8."
   wrong-transition : getD rest 0 0 ≡ 84 → ((t : Transition) (after : List ℕ) → TransitionRight n k least t → rest ≡ transitionLine t ++ after → ⊥)
-      → EndFault n k least rest line 8 line
+      → EndFault ws n k least rest line 8 line
+  -- "a transition on a withdrawn letter with 16 straight after 8"
+  withdrawn-letter : (t : Transition) (after : List ℕ) → TransitionRight n k least t → rest ≡ transitionLine t ++ after → Withdrawn ws (t .letter)
+      → EndFault ws n k least rest line 16 line
   -- "Is `END` last? No: 9."
-  no-end : (getD rest 0 0 ≡ 84 → ⊥) → ((after : List ℕ) → rest ≡ endLine ++ after → ⊥) → EndFault n k least rest line 9 line
+  no-end : (getD rest 0 0 ≡ 84 → ⊥) → ((after : List ℕ) → rest ≡ endLine ++ after → ⊥) → EndFault ws n k least rest line 9 line
   -- "What follows `END` is a fault of the line after it: 9 in a sheet".
-  not-last : (after : List ℕ) → rest ≡ endLine ++ after → (after ≡ [] → ⊥) → EndFault n k least rest line 9 (suc line)
+  not-last : (after : List ℕ) → rest ≡ endLine ++ after → (after ≡ [] → ⊥) → EndFault ws n k least rest line 9 (suc line)
 
 -- THE FAULT of a file: its number and its line
 pub data Faulty (s : List ℕ) : ℕ → ℕ → Type 0 where
@@ -194,9 +256,13 @@ pub data Faulty (s : List ℕ) : ℕ → ℕ → Type 0 where
   range : length s ≤ mostSheet → (n k : ℕ) (rest : List ℕ) → n < 1000 → k < 1000 → s ≡ headLine n k ++ rest → (InRange n k → ⊥) → Faulty s 4 1
   -- 5 and 6
   name : {number : ℕ} (σ : Sheet) (rest : List ℕ) → Above s σ rest → NameDue σ → NameFault (σ .names) rest number → Faulty s number (lineDue σ)
-  -- "Is each state line of its form? No: 7."
-  state : (σ : Sheet) (rest : List ℕ) → Above s σ rest → StateDue σ
+  -- "A line there that begins with W and is faulty is refused with 15"
+  withdrawal : (σ : Sheet) (rest : List ℕ) → Above s σ rest → WithdrawalDue σ → getD rest 0 0 ≡ 87
+      → ((w : Withdrawal) (after : List ℕ) → WithdrawalRight (σ .k) (letterAfter 0 (σ .withdrawals)) w → rest ≡ withdrawalLine w ++ after → ⊥)
+      → Faulty s 15 (lineDue σ)
+  -- "Is each state line of its form? No: 7."; where no state is read yet, a line that begins with W is one of the withdrawals and answers to 15
+  state : (σ : Sheet) (rest : List ℕ) → Above s σ rest → StateDue σ → (σ .states ≡ [] → getD rest 0 0 ≡ 87 → ⊥)
       → ((z : State) (after : List ℕ) → FlagsRight z → rest ≡ stateLine (length (σ .states)) z ++ after → ⊥) → Faulty s 7 (lineDue σ)
-  -- 8 and 9
+  -- 8, 16 and 9
   end : {number line : ℕ} (σ : Sheet) (rest : List ℕ) → Above s σ rest → EndDue σ
-      → EndFault (σ .n) (σ .k) (leastAfter 0 (σ .transitions)) rest (lineDue σ) number line → Faulty s number line
+      → EndFault (σ .withdrawals) (σ .n) (σ .k) (leastAfter 0 (σ .transitions)) rest (lineDue σ) number line → Faulty s number line

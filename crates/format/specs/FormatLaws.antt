@@ -1,7 +1,7 @@
 -- The lines of a sheet: how long they are, what stands behind them, the order of transitions, and the numbers of faults. Assumes nothing.
 use Prim.Native.Nat.{ℕ, suc, _+_, _≤_, _<_}
 use mathlib.Core.Path.{_≡_, _∙_}
-use mathlib.Core.Logic.{inl, inr, _↔_}
+use mathlib.Core.Logic.{_⊎_, inl, inr, _↔_}
 use mathlib.Core.List.{List, [], _∷_, _++_, append-assoc}
 use lib.ListN.{length, drop, length-append}
 use native.Mathlib.Omega.{arith}
@@ -10,7 +10,7 @@ use Rattle.text.specs.Bytes.{lf, space}
 use Rattle.text.specs.BytesLaws.{stretch-rest}
 use Rattle.columns.specs.Column.{column}
 use Rattle.columns.specs.LineLaws.{numbersLine-length}
-use Rattle.format.specs.Format.{State, Transition, Sheet, sheetWord, headLine, nameLine, stateLine, transitionLine, nameLines, stateLines, transitionLines, lines, transitionIndex, Before, Faulty, wrong-name, name-twice, wrong-transition, no-end, not-last}
+use Rattle.format.specs.Format.{State, Transition, Withdrawal, Sheet, sheetWord, headLine, nameLine, withdrawalLine, stateLine, transitionLine, nameLines, withdrawalLines, stateLines, transitionLines, lines, transitionIndex, Before, Faulty, wrong-name, name-twice, wrong-transition, withdrawn-letter, no-end, not-last}
 
 pub head-length : (n k : ℕ) → length (headLine n k) ≡ 12
 unfolding headLine
@@ -19,6 +19,10 @@ head-length n k = numbersLine-length sheetWord (n ∷ k ∷ [])
 pub name-length : (l : ℕ) (x : List ℕ) → length (nameLine l x) ≡ 6 + length x
 unfolding nameLine column
 name-length l x = simp length-append (omega arith)
+
+pub withdrawal-length : (w : Withdrawal) → length (withdrawalLine w) ≡ 8
+unfolding withdrawalLine
+withdrawal-length w = numbersLine-length (87 ∷ []) (w .letter ∷ w .by ∷ [])
 
 pub state-length : (q : ℕ) (z : State) → length (stateLine q z) ≡ 11
 unfolding stateLine
@@ -29,6 +33,11 @@ unfolding transitionLine
 transition-length t = numbersLine-length (84 ∷ []) (t .from ∷ t .letter ∷ t .to ∷ [])
 
 -- behind a line, the others begin where it ends
+module _ (at : ℕ) (w : Withdrawal) (ws : List Withdrawal) where
+  pub withdrawal-behind : at + 8 + length (withdrawalLines ws) ≡ at + length (withdrawalLines (w ∷ ws))
+  unfolding withdrawalLines
+  withdrawal-behind = omega (arith, length-append (withdrawalLine w) (withdrawalLines ws), withdrawal-length w)
+
 module _ (at q : ℕ) (z : State) (zs : List State) where
   pub state-behind : at + 11 + length (stateLines (suc q) zs) ≡ at + length (stateLines q (z ∷ zs))
   unfolding stateLines
@@ -48,7 +57,9 @@ transitions-few (t ∷ ts) = omega (arith, transition-behind 0 t ts, transitions
 -- the lines kind by kind, and what stands behind them
 pub lines-parted :
     (σ : Sheet) (rest : List ℕ) →
-    lines σ ++ rest ≡ headLine (σ .n) (σ .k) ++ (nameLines 0 (σ .names) ++ (stateLines 0 (σ .states) ++ (transitionLines (σ .transitions) ++ rest)))
+    lines σ ++ rest ≡
+    headLine (σ .n) (σ .k)
+    ++ (nameLines 0 (σ .names) ++ (withdrawalLines (σ .withdrawals) ++ (stateLines 0 (σ .states) ++ (transitionLines (σ .transitions) ++ rest))))
 unfolding lines
 lines-parted σ rest = simp append-assoc
 
@@ -82,14 +93,16 @@ module _ (t u : Transition) (l : t .letter < 8) (m : u .letter < 8) (a : t .to <
       back (inr (f, inl g)) = omega arith
       back (inr (f, inr (g, d))) = omega arith
 
--- THE NUMBERS of a file's faults: questions 2 to 9
-pub fault-number : {s : List ℕ} {number line : ℕ} → Faulty s number line → (2 ≤ number) × (number ≤ 9)
-fault-number (Faulty.size a) = (omega arith, omega arith)
-fault-number (Faulty.head a b) = (omega arith, omega arith)
-fault-number (Faulty.range a n k rest b c d e) = (omega arith, omega arith)
-fault-number (Faulty.name σ rest a b (wrong-name c)) = (omega arith, omega arith)
-fault-number (Faulty.name σ rest a b (name-twice x after c d e)) = (omega arith, omega arith)
-fault-number (Faulty.state σ rest a b c) = (omega arith, omega arith)
-fault-number (Faulty.end σ rest a b (wrong-transition c d)) = (omega arith, omega arith)
-fault-number (Faulty.end σ rest a b (no-end c d)) = (omega arith, omega arith)
-fault-number (Faulty.end σ rest a b (not-last after c d)) = (omega arith, omega arith)
+-- THE NUMBERS of a file's faults: questions 2 to 9, 15 and 16
+pub fault-number : {s : List ℕ} {number line : ℕ} → Faulty s number line → (2 ≤ number) × (number ≤ 16) × ((number ≤ 9) ⊎ (15 ≤ number))
+fault-number (Faulty.size a) = (omega arith, omega arith, inl (omega arith))
+fault-number (Faulty.head a b) = (omega arith, omega arith, inl (omega arith))
+fault-number (Faulty.range a n k rest b c d e) = (omega arith, omega arith, inl (omega arith))
+fault-number (Faulty.name σ rest a b (wrong-name c)) = (omega arith, omega arith, inl (omega arith))
+fault-number (Faulty.name σ rest a b (name-twice x after c d e)) = (omega arith, omega arith, inl (omega arith))
+fault-number (Faulty.withdrawal σ rest a b c d) = (omega arith, omega arith, inr (omega arith))
+fault-number (Faulty.state σ rest a b c d) = (omega arith, omega arith, inl (omega arith))
+fault-number (Faulty.end σ rest a b (wrong-transition c d)) = (omega arith, omega arith, inl (omega arith))
+fault-number (Faulty.end σ rest a b (withdrawn-letter t after c d e)) = (omega arith, omega arith, inr (omega arith))
+fault-number (Faulty.end σ rest a b (no-end c d)) = (omega arith, omega arith, inl (omega arith))
+fault-number (Faulty.end σ rest a b (not-last after c d)) = (omega arith, omega arith, inl (omega arith))

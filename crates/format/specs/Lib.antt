@@ -1,9 +1,12 @@
 pub mod Format
 pub mod Numbers
+pub mod Withdrawals
 pub mod Written
 pub mod StandsFor
 pub mod FormatLaws
 pub mod DistinctLaws
 pub mod NumbersLaws
+pub mod WithdrawalLaws
+pub mod FinallyLaws
 pub mod StandsForLaws
 pub mod Unfold

@@ -16,8 +16,9 @@ use Rattle.automaton.specs.declared.Numbers.{Numbers}
 use Rattle.automaton.specs.Automaton.{automaton, graphOf, AreNumbers, Fits}
 use Rattle.automaton.specs.Graph.{Edge, InRange}
 use Rattle.lent.specs.Lent.{lentTable}
-use Rattle.format.specs.Format.{State, Transition, Sheet, FlagsRight, StatesRight, TransitionRight, TransitionsRight, cell, transitionIndex, Right, FileIs}
+use Rattle.format.specs.Format.{State, Transition, Withdrawal, Sheet, FlagsRight, StatesRight, TransitionRight, TransitionsRight, InForce, AllInForce, cell, transitionIndex, Right, FileIs}
 use Rattle.format.specs.Numbers.{flagSet, inserted, tableOf, numbers}
+use Rattle.format.specs.Withdrawals.{EdgesInForce}
 
 -- Flags
 
@@ -257,10 +258,20 @@ module _ (σ : Sheet) (right : Right σ) where
 pub sheet-fits : (s : List ℕ) (σ : Sheet) → FileIs s σ → Fits (numbers σ)
 sheet-fits s σ h = right-fits σ (h .right) (h .all-states)
 
+-- each transition of a list is on a letter in force
+one-in-force : (ws : List Withdrawal) (ts : List Transition) → AllInForce ws ts → (t : Transition) → OneOf ts t → InForce ws (t .letter)
+one-in-force ws [] f t o = absurd (let l = o .1 in omega arith)
+one-in-force ws (u ∷ us) f t (zero, l, e) = subst (λ (v : Transition). InForce ws (v .letter)) e (f .0)
+one-in-force ws (u ∷ us) f t (suc i, l, e) = one-in-force ws us (f .1) t (i, omega arith, e)
+
 -- WHAT THE NUMBERS OF A SHEET MEAN: its transitions, its initial states and its must-recur states
 module _ (s : List ℕ) (σ : Sheet) (file : FileIs s σ) where
   pub transition-is : (l q r : ℕ) → Edge (graphOf (numbers σ)) l q r ↔ OneOf (σ .transitions) (transition q l r)
   transition-is = right-edge σ (file .right)
+
+  -- "Transition lines may not use a withdrawn letter."
+  pub sheet-in-force : EdgesInForce (graphOf (numbers σ)) (σ .withdrawals)
+  sheet-in-force l q r e = one-in-force (σ .withdrawals) (σ .transitions) (file .right .in-force) (transition q l r) (transition-is l q r .0 e)
 
   pub initial-is : (q : ℕ) → Member (numbers σ .initial) q ↔ ((q < σ .n) × (getD (σ .states) q unflagged .initial ≡ 1))
   unfolding numbers

@@ -5,7 +5,7 @@ use lib.ListN.{getD}
 use Rattle.names.specs.Name.{compose}
 use Rattle.sets.specs.Sets.{bit}
 use Rattle.automaton.specs.Automaton.{Automaton}
-use Rattle.format.specs.Format.{State, Transition, Sheet, lines, endLine}
+use Rattle.format.specs.Format.{State, Transition, Withdrawal, Sheet, lines, endLine}
 
 -- the flags of state q in two sets
 abbrev pub stateOf : ℕ → ℕ → ℕ → State
@@ -34,20 +34,21 @@ unfoldable pub transitionsOf : List ℕ → ℕ → ℕ → List Transition
 transitionsOf table i zero = []
 transitionsOf table i (suc left) = whereMember (bit (getD table (i / 16) 0) (i % 16)) (placed i) (transitionsOf table (suc i) left)
 
--- the sheet of an automaton's numbers, with names
-unfoldable pub sheetOf : Automaton → List (List ℕ) → Sheet
-sheetOf A names = record {
+-- the sheet of an automaton's numbers, with names and withdrawals
+unfoldable pub sheetOf : Automaton → List (List ℕ) → List Withdrawal → Sheet
+sheetOf A names ws = record {
   n = A .n;
   k = A .k;
   names = names;
+  withdrawals = ws;
   states = statesOf (A .initial) (A .recurring) 0 (A .n);
   transitions = transitionsOf (A .table) 0 mostTransitions;
 }
 
--- the sheet that is written: its names are those that are given, composed
-unfoldable pub writtenSheet : Automaton → List (List ℕ) → Sheet
-writtenSheet A names = sheetOf A (map compose names)
+-- the sheet that is written: its names are those that are given, composed; "The writer keeps the `W` lines of the file that gives the names"
+unfoldable pub writtenSheet : Automaton → List (List ℕ) → List Withdrawal → Sheet
+writtenSheet A names ws = sheetOf A (map compose names) ws
 
 -- the text that is written
-unfoldable pub written : Automaton → List (List ℕ) → List ℕ
-written A names = lines (writtenSheet A names) ++ endLine
+unfoldable pub written : Automaton → List (List ℕ) → List Withdrawal → List ℕ
+written A names ws = lines (writtenSheet A names ws) ++ endLine

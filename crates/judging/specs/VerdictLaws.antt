@@ -10,7 +10,7 @@ use Rattle.gate.specs.GateLaws.{same-cleared}
 use Rattle.gate.specs.declared.Refusal.{Refusal}
 use Rattle.automaton.specs.Automaton.{Fits}
 use Rattle.lent.specs.Lent.{clearedWitness, lentTable}
-use Rattle.format.specs.Format.{Sheet}
+use Rattle.format.specs.Format.{Sheet, Right}
 use Rattle.format.specs.Numbers.{numbers}
 use Rattle.format.specs.NumbersLaws.{sheet-fits}
 use Rattle.parser.specs.LettersOf.{LettersOf}
@@ -37,11 +37,11 @@ use Rattle.passes.specs.FollowLaws.{tables-fit, judges}
 use Rattle.passes.specs.SoundLaws.{sound}
 
 -- THE LETTERS of a plan are the sheet's
-letters-below : (σ : Sheet) (p lead cycle : List ℕ) → PlanIs σ p lead cycle → (t : ℕ) → letterAt lead cycle t < σ .k
-letters-below σ p lead cycle plan =
+letters-below : (σ : Sheet) → Right σ → (p lead cycle : List ℕ) → PlanIs σ p lead cycle → (t : ℕ) → letterAt lead cycle t < σ .k
+letters-below σ right p lead cycle plan =
     letter-below lead cycle (σ .k) (plan .range .cycle-some)
-    (λ i l. subst (λ (x : ℕ). x < σ .k) (List·getD-append lead cycle 0 i l) (known-below σ (plan .known) i (rw (length-append lead cycle) (omega arith))))
-    (λ i l. subst (λ (x : ℕ). x < σ .k) (getD-append-add lead cycle i 0) (known-below σ (plan .known) (length lead + i) (rw (length-append lead cycle) (omega arith))))
+    (λ i l. subst (λ (x : ℕ). x < σ .k) (List·getD-append lead cycle 0 i l) (known-below σ (right .withdrawals) (plan .known) i (rw (length-append lead cycle) (omega arith))))
+    (λ i l. subst (λ (x : ℕ). x < σ .k) (getD-append-add lead cycle i 0) (known-below σ (right .withdrawals) (plan .known) (length lead + i) (rw (length-append lead cycle) (omega arith))))
 
 -- THE VERDICT on an accepted sheet's tracker
 verdicts : (s : List ℕ) (σ : Sheet) → Accepted s σ → (room : ℕ) (before after : TrackerTables) (count : ℕ) → Fitted (numbers σ) room before after count
@@ -50,7 +50,7 @@ verdicts : (s : List ℕ) (σ : Sheet) → Accepted s σ → (room : ℕ) (befor
 unfolding numbers
 verdicts s σ accepted room before after count fitted p lead cycle z plan table =
     let fits = sheet-fits s σ (accepted .file) in
-    let letters = letters-below σ p lead cycle plan in
+    let letters = letters-below σ (accepted .file .right) p lead cycle plan in
     let judged = judges fits room count before after fitted (letterAt lead cycle) letters (length lead) (length cycle) z table in
     record {
       plan = plan;

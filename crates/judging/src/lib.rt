@@ -26,7 +26,7 @@ pub fn judge_long(
         (buildTables (now (table .entry)) (witnessTables (now (word .entry)) (now (one .entry)) (now (other .entry))) (trackerTables (now (tuples .entry)) (now (nexts .entry))))
         (buildTables (now (table .exit)) (witnessTables (now (word .exit)) (now (one .exit)) (now (other .exit))) (trackerTables (now (tuples .exit)) (now (nexts .exit)))) r ⌝ }
 {
-    let mut rows = [0u8; 216];
+    let mut rows = [0u8; 224];
     match build_long(
         sheet,
         room,

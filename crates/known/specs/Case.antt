@@ -61,10 +61,14 @@ VerdictIs s before after o (judged z colours) = (o ≡ O.Judged z) × Tracked s 
 VerdictIs s before after o (refused number line) = o ≡ O.Refused (refusal number line)
 VerdictIs s before after o (meeting word one other) = (o ≡ O.Refused (met (length word))) × Shortest s word one other
 
--- and so is that of building, which asks no question behind 11
+-- the questions on a plan
+abbrev pub OfPlan : ℕ → Type 0
+OfPlan number = (12 ≤ number) × (number ≤ 14)
+
+-- and so is that of building, which asks none of these
 abbrev pub BuiltIs : List ℕ → TrackerTables → TrackerTables → Built → Expected → Type 0
 BuiltIs s before after o (judged z colours) = ((x : Tracker) × (o ≡ B.Is x) × (x .tuples ≡ length colours)) × Tracked s before after colours
-BuiltIs s before after o (refused number line) = number ≤ 11 → o ≡ B.Refused (refusal number line)
+BuiltIs s before after o (refused number line) = (OfPlan number → ⊥) → o ≡ B.Refused (refusal number line)
 BuiltIs s before after o (meeting word one other) = (o ≡ B.Refused (met (length word))) × Shortest s word one other
 
 -- THE DEFINITIONS ALONE give what is expected: it is every outcome that they allow, in tables that are long enough

@@ -35,7 +35,7 @@ use Rattle.passes.specs.declared.Verdict.{Verdict}
 use Rattle.passes.specs.Passes.{Judges}
 use Rattle.plan_verdict.specs.Verdict.{SizesFit}
 use Rattle.passes.specs.UniqueLaws.{one-verdict}
-use Rattle.known.specs.Case.{Expected, judged, meeting, Case, Tracked, VerdictIs, BuiltIs, Forced}
+use Rattle.known.specs.Case.{Expected, judged, meeting, Case, Tracked, VerdictIs, OfPlan, BuiltIs, Forced}
 use Rattle.known.specs.Case as E
 use Rattle.known.specs.VerdictTest.{isVerdict}
 use Rattle.known.specs.VerdictTestLaws.{verdict-is}
@@ -73,16 +73,16 @@ module _ (s p : List ℕ) (before after : TrackerTables) (σ : Sheet) (file : Fi
 
   -- QUESTIONS 12 TO 14 answered no
   fault-asked : (o : Outcome) (number line : ℕ) → Plan.PlanFaulty σ p number line → o ≡ O.Refused (refusal number line)
-      → (e : Expected) → rightPlan A (planOf (x .names) p) e ≡ true → VerdictIs s before after o e
+      → (e : Expected) → rightPlan A (planOf (x .names) (x .superseding) p) e ≡ true → VerdictIs s before after o e
   unfolding rightPlan
   fault-asked o number line h is e t =
-      let q : planOf (x .names) p ≡ refused number line = rw (are .names) (fault-read σ (file .all-names) (file .right .names) p number line h) in
+      let q : planOf (x .names) (x .superseding) p ≡ refused number line = rw (are .names, are .superseding) (fault-read σ (file .all-names) (file .right .range .3) (file .right .withdrawals) (file .right .names) p number line h) in
       subst (VerdictIs s before after o) (refused-is number line e (rw q at t)) is
 
   -- and yes
   module _ (lead cycle : List ℕ) (plan : Plan.PlanIs σ p lead cycle) (z : Verdict) (j : Judges (numbers σ) (letterAt lead cycle) (length lead) (length cycle) z) where
-    plan-passed : planOf (x .names) p ≡ passed (P.planContents (P.lengths (length lead) (length cycle)) (lead ++ cycle))
-    plan-passed = rw (are .names) (plan-read σ (file .all-names) (file .right .names) p lead cycle plan)
+    plan-passed : planOf (x .names) (x .superseding) p ≡ passed (P.planContents (P.lengths (length lead) (length cycle)) (lead ++ cycle))
+    plan-passed = rw (are .names, are .superseding) (plan-read σ (file .all-names) (file .right .range .3) (file .right .withdrawals) (file .right .names) p lead cycle plan)
 
     same-verdict : (y : Verdict) → isVerdict A (letterAt (take (length lead) (lead ++ cycle)) (drop (length lead) (lead ++ cycle))) (length lead) (length cycle) y ≡ true
         → z ≡ y
@@ -92,42 +92,42 @@ module _ (s p : List ℕ) (before after : TrackerTables) (σ : Sheet) (file : Fi
         (verdict-is A (letterAt lead cycle) (length lead) (length cycle) y (rw (take-append-seam lead cycle, drop-append-seam lead cycle) at t))
 
     verdict-asked : (o : Outcome) → Holds (numbers σ) ts before after → o ≡ O.Judged z
-        → (e : Expected) → rightColours ts e ≡ true → rightPlan A (planOf (x .names) p) e ≡ true → VerdictIs s before after o e
+        → (e : Expected) → rightColours ts e ≡ true → rightPlan A (planOf (x .names) (x .superseding) p) e ≡ true → VerdictIs s before after o e
     unfolding rightPlan
     verdict-asked o h is (judged y colours) c t = (is ∙ ap O.Judged (same-verdict y (rw plan-passed at t)), tracked s before after σ file ts h y colours c)
     verdict-asked o h is (E.refused number line) c t = absurd (false≢true (rw plan-passed at t))
     verdict-asked o h is (meeting word one other) c t = absurd (no-witness ts word one other c)
 
-  plan-asked : (o : Outcome) → PlanCause p before after o σ ts → (e : Expected) → rightColours ts e ≡ true → rightPlan A (planOf (x .names) p) e ≡ true → VerdictIs s before after o e
+  plan-asked : (o : Outcome) → PlanCause p before after o σ ts → (e : Expected) → rightColours ts e ≡ true → rightPlan A (planOf (x .names) (x .superseding) p) e ≡ true → VerdictIs s before after o e
   plan-asked o (PlanCause.plan-fault number line h is) e c t = fault-asked o number line h is e t
   plan-asked o (PlanCause.verdict h lead cycle plan z j is) e c t = verdict-asked lead cycle plan z j o h is e c t
 
   -- BUILDING asks none of them
-  plan-number : (number line : ℕ) → Plan.PlanFaulty σ p number line → 12 ≤ number
-  plan-number number line (Plan.PlanFaulty.head h) = omega arith
-  plan-number number line (Plan.PlanFaulty.range lead cycle rest a b e h) = omega arith
-  plan-number number line (Plan.PlanFaulty.name lead cycle names rest a b (PlanLines.wrong-name h)) = omega arith
-  plan-number number line (Plan.PlanFaulty.name lead cycle names rest a b (PlanLines.unknown-name y after c e h)) = omega arith
-  plan-number number line (Plan.PlanFaulty.end lead cycle names rest a b h) = omega arith
-  plan-number number line (Plan.PlanFaulty.behind lead cycle names after a b h) = omega arith
+  plan-number : (number line : ℕ) → Plan.PlanFaulty σ p number line → OfPlan number
+  plan-number number line (Plan.PlanFaulty.head h) = (omega arith, omega arith)
+  plan-number number line (Plan.PlanFaulty.range lead cycle rest a b e h) = (omega arith, omega arith)
+  plan-number number line (Plan.PlanFaulty.name lead cycle names rest a b (PlanLines.wrong-name h)) = (omega arith, omega arith)
+  plan-number number line (Plan.PlanFaulty.name lead cycle names rest a b (PlanLines.unknown-name y after c e h)) = (omega arith, omega arith)
+  plan-number number line (Plan.PlanFaulty.end lead cycle names rest a b h) = (omega arith, omega arith)
+  plan-number number line (Plan.PlanFaulty.behind lead cycle names after a b h) = (omega arith, omega arith)
 
-  not-by-plan : length p ≤ mostPlan → (number line : ℕ) → rightPlan A (planOf (x .names) p) (E.refused number line) ≡ true → number ≤ 11 → ⊥
+  not-by-plan : length p ≤ mostPlan → (number line : ℕ) → rightPlan A (planOf (x .names) (x .superseding) p) (E.refused number line) ≡ true → (OfPlan number → ⊥) → ⊥
   unfolding rightPlan isRefused
-  not-by-plan size number line t few =
-      by (planOf (x .names) p) (rw (are .names) (plan-means σ (file .all-names) p size)) t
+  not-by-plan size number line t other =
+      by (planOf (x .names) (x .superseding) p) (rw (are .names, are .superseding) (plan-means σ (file .all-names) (file .right .range .3) (file .right .withdrawals) p size)) t
     where
       by : (q : Phase P.PlanContents) → L.PlanMeans σ p q → rightPlan A q (E.refused number line) ≡ true → ⊥
       by (refused n l) h t =
           let (a, b) = and-eq-true-iff (eqb n number) (eqb l line) .0 t in
-          omega (arith, plan-number n l h, eqb-true n number a)
+          other (subst OfPlan (eqb-true n number a) (plan-number n l h))
       by (passed y) h t = false≢true t
 
-  tracker-asked : length p ≤ mostPlan → (o : Built) → IsBuilt before after o σ ts → (e : Expected) → rightColours ts e ≡ true → rightPlan A (planOf (x .names) p) e ≡ true
+  tracker-asked : length p ≤ mostPlan → (o : Built) → IsBuilt before after o σ ts → (e : Expected) → rightColours ts e ≡ true → rightPlan A (planOf (x .names) (x .superseding) p) e ≡ true
       → BuiltIs s before after o e
   tracker-asked size o h (judged z colours) c t =
       let k = h .counted ∙ (sym (length-map ts (λ u. u .colour)) ∙ ap length (colours-are ts z colours c)) in
       ((h .tracker, h .is, k), tracked s before after σ file ts (h .holds) z colours c)
-  tracker-asked size o h (E.refused number line) c t = λ few. absurd (not-by-plan size number line t few)
+  tracker-asked size o h (E.refused number line) c t = λ other. absurd (not-by-plan size number line t other)
   tracker-asked size o h (meeting word one other) c t = absurd (no-witness ts word one other c)
 
 -- THE LAW
@@ -153,7 +153,7 @@ right-forced c e =
           (let old = before .tracker in
           let new = after .tracker in
           sheet-asked (c .sheet) (c .plan) (c .room) Built B.Refused (IsBuilt old new o) o (BuiltIs (c .sheet) old new o)
-          (λ number line e t is. subst (BuiltIs (c .sheet) old new o) (refused-is number line e t) (λ few. is))
+          (λ number line e t is. subst (BuiltIs (c .sheet) old new o) (refused-is number line e t) (λ other. is))
           (λ word one other is k. (is, k))
           (λ σ file x are ts. tracker-asked (c .sheet) (c .plan) old new σ file x are ts (size .plan) o)
           (c .expected) j (build-cause (c .sheet) (c .room) before after lent o h));

@@ -47,20 +47,20 @@ rightColours ts (E.refused number line) = true
 rightColours ts (meeting word one other) = false
 
 -- question 11 on the tuples that are found
-unfoldable pub rightRoom : Automaton → List Tuple → List (List ℕ) → List ℕ → ℕ → Expected → Bool
-rightRoom A ts names p room e =
-    choose (ltb room (length ts)) (isRefused 11 0 e) (rightColours ts e && rightPlan A (planOf names p) e)
+unfoldable pub rightRoom : Automaton → List Tuple → List (List ℕ) → List ℕ → List ℕ → ℕ → Expected → Bool
+rightRoom A ts names cells p room e =
+    choose (ltb room (length ts)) (isRefused 11 0 e) (rightColours ts e && rightPlan A (planOf names cells p) e)
 
 -- question 10
-unfoldable pub rightWalks : Automaton → List (List ℕ) → List ℕ → ℕ → Expected → Bool
-rightWalks A names p room (meeting word one other) = isShortest (graphOf A) word one other
-rightWalks A names p room (judged z colours) = isFree (graphOf A) && rightRoom A (tuplesIn A room) names p room (judged z colours)
-rightWalks A names p room (E.refused number line) = isFree (graphOf A) && rightRoom A (tuplesIn A room) names p room (E.refused number line)
+unfoldable pub rightWalks : Automaton → List (List ℕ) → List ℕ → List ℕ → ℕ → Expected → Bool
+rightWalks A names cells p room (meeting word one other) = isShortest (graphOf A) word one other
+rightWalks A names cells p room (judged z colours) = isFree (graphOf A) && rightRoom A (tuplesIn A room) names cells p room (judged z colours)
+rightWalks A names cells p room (E.refused number line) = isFree (graphOf A) && rightRoom A (tuplesIn A room) names cells p room (E.refused number line)
 
--- questions 3 to 9
+-- questions 3 to 9, 15 and 16
 unfoldable pub rightFile : Phase S.Contents → List ℕ → ℕ → Expected → Bool
 rightFile (refused number line) p room e = isRefused number line e
-rightFile (passed x) p room e = rightWalks (x .numbers) (x .names) p room e
+rightFile (passed x) p room e = rightWalks (x .numbers) (x .names) (x .superseding) p room e
 
 -- question 2, and the others
 unfoldable pub right : Case → Bool

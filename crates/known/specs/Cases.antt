@@ -1,4 +1,4 @@
--- Document 01, "Known cases", those with *: one table.
+-- Document 01, "Known cases", those with *, and cases of document 02's requests: one table.
 use Prim.Native.Nat.{ℕ}
 use Prim.Native.String.{String}
 use Prim.Native.String as T
@@ -23,6 +23,10 @@ verdict answer least passes = record { answer = answer; least = least; passes = 
 -- Sheet B, "from some job on only a"
 abbrev sheetB : List ℕ
 sheetB = bytes "SHEET  2  2\nN  0 a\nN  1 b\nS  0  1  0\nS  1  1  1\nT  0  0  0\nT  0  1  0\nT  0  1  1\nT  1  0  1\nEND\n"
+
+-- Sheet B with a withdrawn letter more: `x`, an old name of `a`, by way of `y`
+abbrev sheetW : List ℕ
+sheetW = bytes "SHEET  2  4\nN  0 x\nN  1 y\nN  2 b\nN  3 a\nW  0  1\nW  1  3\nS  0  1  0\nS  1  1  1\nT  0  2  0\nT  0  2  1\nT  0  3  0\nT  1  3  1\nEND\n"
 
 -- "Stück", with the composed letter and with the combining diaeresis
 abbrev composed : List ℕ
@@ -58,4 +62,9 @@ cases =
     ∷ case (bytes "SHEET  1  2\nN  0 " ++ (composed ++ (bytes "\nN  1 " ++ (decomposed ++ bytes "\nS  0  1  0\nEND\n")))) onlyA 1 (refused 6 3)
     -- "e with CC 88: 5."
     ∷ case (bytes "SHEET  1  1\nN  0 e" ++ (204 ∷ 136 ∷ bytes "\nS  0  1  0\nEND\n")) onlyA 1 (refused 5 2)
+    -- R-1, "the letter that finally stands for it": the first case by old names
+    ∷ case sheetW "PLAN  1  1\nb\nx\nEND\n" 5 (judged (verdict Yes 4 2) (5 ∷ 1 ∷ 5 ∷ 3 ∷ 4 ∷ []))
+    -- "the second number always the larger"; "a transition on a withdrawn letter with 16"
+    ∷ case (bytes "SHEET  1  2\nN  0 a\nN  1 b\nW  1  0\nS  0  1  0\nEND\n") onlyA 1 (refused 15 4)
+    ∷ case (bytes "SHEET  1  2\nN  0 a\nN  1 b\nW  0  1\nS  0  1  0\nT  0  0  0\nEND\n") onlyA 1 (refused 16 6)
     ∷ []

@@ -32,7 +32,7 @@ use Rattle.known.specs.Case.{met}
 
 -- the sheet file s and the room lead to the outcome o: refused by question 2 to 11, or its tuples are numbered, and what Then says holds of them
 pub data Cause (s : List ℕ) (room : ℕ) (Outcomes : Type 0) (refuse : Refusal → Outcomes) (Then : Sheet → List Tuple → Type 0) (o : Outcomes) : Type 0 where
-  -- 2 to 9
+  -- 2 to 9, 15 and 16
   sheet-fault : (number line : ℕ) → Faulty s number line → o ≡ refuse (refusal number line) → Cause s room Outcomes refuse Then o
   -- 10
   meeting-walks : (σ : Sheet) → FileIs s σ → (t : ℕ) (word one other : List ℕ) → Witness (graphOf (numbers σ)) Everywhere t word one other

@@ -1,4 +1,4 @@
--- Questions 2 to 11 have one answer each, and the test of a case finds it. Assumes nothing.
+-- Questions 2 to 11, 15 and 16 have one answer each, and the test of a case finds it. Assumes nothing.
 use Prim.Native.Nat.{ℕ, _*_, _≤_, _<_}
 use mathlib.Core.Path.{_≡_, refl, sym, ap, subst, _∙_}
 use mathlib.Core.Bool.{Bool, true, false, _&&_, and-eq-true-iff}
@@ -43,7 +43,7 @@ module _ (s p : List ℕ) (room : ℕ) (Outcomes : Type 0) (refuse : Refusal →
     (says-refused : (number line : ℕ) (e : Expected) → isRefused number line e ≡ true → o ≡ refuse (refusal number line) → Says e)
     (says-meeting : (word one other : List ℕ) → o ≡ refuse (met (length word)) → Shortest s word one other → Says (meeting word one other))
     (says-numbered : (σ : Sheet) → FileIs s σ → (x : Contents) → AreContents σ x → (ts : List Tuple) → Then σ ts
-    → (e : Expected) → rightColours ts e ≡ true → rightPlan (x .numbers) (planOf (x .names) p) e ≡ true → Says e) where
+    → (e : Expected) → rightColours ts e ≡ true → rightPlan (x .numbers) (planOf (x .names) (x .superseding) p) e ≡ true → Says e) where
   abbrev Causes : Type 0
   Causes = Cause s room Outcomes refuse Then o
 
@@ -124,7 +124,7 @@ module _ (s p : List ℕ) (room : ℕ) (Outcomes : Type 0) (refuse : Refusal →
         all-found : (σ : Sheet) → FileIs s σ → Numbering A (tuplesIn A room)
         all-found σ file = found-all A (8 * room) (fits σ file .range .3) (omega arith)
 
-        room-fits : (e : Expected) → rightColours (tuplesIn A room) e ≡ true → rightPlan A (planOf (x .names) p) e ≡ true → Causes → Says e
+        room-fits : (e : Expected) → rightColours (tuplesIn A room) e ≡ true → rightPlan A (planOf (x .names) (x .superseding) p) e ≡ true → Causes → Says e
         room-fits e c t (Cause.sheet-fault number line h is) = absurd (no-fault number line h)
         room-fits e c t (Cause.meeting-walks σ file m a b d h is) = absurd (no-walks σ file m a b d h)
         room-fits e c t (Cause.no-room σ accepted h is) =
@@ -135,18 +135,18 @@ module _ (s p : List ℕ) (room : ℕ) (Outcomes : Type 0) (refuse : Refusal →
             numbering-unique A ts (tuplesIn A room) (renumbered σ (accepted .file) ts n) (all-found σ (accepted .file)) in
             says-numbered σ (accepted .file) x (read-as σ (accepted .file)) ts h e (rw q c) t
 
-      room-asked : (e : Expected) → rightRoom A (tuplesIn A room) (x .names) p room e ≡ true → Causes → Says e
+      room-asked : (e : Expected) → rightRoom A (tuplesIn A room) (x .names) (x .superseding) p room e ≡ true → Causes → Says e
       unfolding rightRoom
       room-asked e t h = by (ltb room (length (tuplesIn A room))) refl t
         where
           by : (b : Bool) → ltb room (length (tuplesIn A room)) ≡ b
-              → choose b (isRefused 11 0 e) (rightColours (tuplesIn A room) e && rightPlan A (planOf (x .names) p) e) ≡ true → Says e
+              → choose b (isRefused 11 0 e) (rightColours (tuplesIn A room) e && rightPlan A (planOf (x .names) (x .superseding) p) e) ≡ true → Says e
           by true q t = says-refused 11 0 e t (room-refuses (ltb-true room (length (tuplesIn A room)) q) h)
           by false q t =
-              let (c, d) = and-eq-true-iff (rightColours (tuplesIn A room) e) (rightPlan A (planOf (x .names) p) e) .0 t in
+              let (c, d) = and-eq-true-iff (rightColours (tuplesIn A room) e) (rightPlan A (planOf (x .names) (x .superseding) p) e) .0 t in
               room-fits (ltb-false room (length (tuplesIn A room)) q) e c d h
 
-    walks-asked : (e : Expected) → rightWalks A (x .names) p room e ≡ true → Causes → Says e
+    walks-asked : (e : Expected) → rightWalks A (x .names) (x .superseding) p room e ≡ true → Causes → Says e
     unfolding rightWalks
     walks-asked (meeting word one other) t h = walks-meet word one other t h
     walks-asked (judged z colours) t h = let (a, b) = and-eq-true-iff (isFree (graphOf A)) _ .0 t in room-asked a (judged z colours) b h

@@ -1,18 +1,18 @@
-// Question 14 on a sheet whose composed names stand in rows.
-ghost use Prim.Native.Nat.{_+_, _*_, _≤_};
+// Question 14 on a sheet whose letters stand in rows.
+ghost use Prim.Native.Nat.{_≤_};
 ghost use lib.ListN.{length};
 ghost use Rattle.name_rows.specs.Rows.{OnlyRow};
 ghost use Rattle.format.specs.Format.{Sheet};
-ghost use Rattle.parser.specs.LettersOf.{NamesIn};
+ghost use Rattle.parser.specs.LettersOf.{LettersIn};
 ghost use Rattle.letter_search.specs.Find.{LetterOf};
 use super::Found;
 use gate::Refusal;
 use name_rows::letter_of;
 
-// The letter whose name is the same after composing. Only row k is written.
+// The letter that finally stands for the one whose name is the same after composing. Only row k is written.
 pub fn letter_named(name: &[u8], rows: &mut [u8], k: usize) -> Found
-    requires { ⌜ (k ≤ 8) × (24 * k + 24 ≤ length (now rows)) ⌝ }
-    ensures { λ r. ⌜ ((σ : Sheet) → NamesIn σ k (now (rows .entry)) → LetterOf σ (now (name .entry)) r)
+    requires { ⌜ (k ≤ 8) × (224 ≤ length (now rows)) ⌝ }
+    ensures { λ r. ⌜ ((σ : Sheet) → LettersIn σ k (now (rows .entry)) → LetterOf σ (now (name .entry)) r)
         × OnlyRow k (now (rows .entry)) (now (rows .exit)) ⌝ }
 {
     let unknown = Refusal {
@@ -25,7 +25,7 @@ pub fn letter_named(name: &[u8], rows: &mut [u8], k: usize) -> Found
     }
     let l = letter_of(rows, k, name, 0, name.len());
     if l < k {
-        Found::Letter(l)
+        Found::Letter(superseding::final_letter(rows, l))
     } else {
         Found::Refused(unknown)
     }

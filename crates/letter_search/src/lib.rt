@@ -12,8 +12,8 @@ pub enum Found {
     Letter(usize),
 }
 
-// The letter of a name: questions 1 to 10 on a sheet file, then 14. The witness is lent; it is all zero but with 1, which touches
-// nothing, and with 10.
+// The letter that finally stands for a name: questions 1 to 10 on a sheet file, then 14. The witness is lent; it is all zero but with
+// 1, which touches nothing, and with 10.
 pub fn find(
     sheet: &[u8],
     name: &[u8],
@@ -32,7 +32,7 @@ pub fn find(
             length: 0,
         });
     }
-    let mut rows = [0u8; 216];
+    let mut rows = [0u8; 224];
     match reading::read_long(sheet, &mut table, &mut rows, word, one, other) {
         Read::Refused(r) => Found::Refused(r),
         Read::Is(a) => finding::letter_named(name, &mut rows, a.k),

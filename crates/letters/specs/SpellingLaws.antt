@@ -9,7 +9,7 @@ use Rattle.text.specs.BytesLaws.{stretch-is, stretch-rest}
 use Rattle.names.specs.Scan.{nameEndAt}
 use Rattle.names.specs.ScanLaws.{name-ends}
 use Rattle.names.specs.declared.Ending.the-variants as E
-use Rattle.format.specs.Format.{Sheet, FileIs, NamesRight, headLine, nameLine, nameLines, stateLines, transitionLines, endLine}
+use Rattle.format.specs.Format.{Sheet, FileIs, NamesRight, headLine, nameLine, nameLines, withdrawalLines, stateLines, transitionLines, endLine}
 use Rattle.format.specs.FormatLaws.{head-length, lines-parted, name-behind, name-rest}
 use Rattle.letters.specs.Spelling.{lineBelow, spelledAt, spelling}
 
@@ -31,7 +31,7 @@ names-spelled (x ∷ xs) earlier s rest at l right e (suc i) b =
 pub spelling-is : (s : List ℕ) (σ : Sheet) → FileIs s σ → (l : ℕ) → l < σ .k → spelling s l ≡ getD (σ .names) l []
 unfolding spelling
 spelling-is s σ file l b =
-    let rest = stateLines 0 (σ .states) ++ (transitionLines (σ .transitions) ++ endLine) in
+    let rest = withdrawalLines (σ .withdrawals) ++ (stateLines 0 (σ .states) ++ (transitionLines (σ .transitions) ++ endLine)) in
     let all = file .all-names in
     let h : drop 12 s ≡ nameLines 0 (σ .names) ++ rest = rw head-length at (stretch-rest s 0 (headLine (σ .n) (σ .k)) (nameLines 0 (σ .names) ++ rest) (file .text ∙ lines-parted σ endLine)) in
     names-spelled (σ .names) [] s rest 12 0 (file .right .names) h l (omega arith)

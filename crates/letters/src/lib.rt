@@ -9,7 +9,7 @@ use parser::File;
 pub fn name(sheet: &[u8], letter: usize) -> &[u8]
     ensures { λ r. ⌜ NameIs (now (sheet .entry)) letter (now r) ⌝ }
 {
-    let mut rows = [0u8; 192];
+    let mut rows = [0u8; 224];
     match spelling::read_rows(sheet, &mut rows) {
         File::Refused(_) => &sheet[..0],
         File::Is(a) => {
@@ -26,7 +26,7 @@ pub fn name(sheet: &[u8], letter: usize) -> &[u8]
 pub fn name_number(sheet: &[u8], letter: usize) -> Refusal
     ensures { λ r. ⌜ NumberIs (now (sheet .entry)) letter r ⌝ }
 {
-    let mut rows = [0u8; 192];
+    let mut rows = [0u8; 224];
     match spelling::read_rows(sheet, &mut rows) {
         File::Refused(r) => r,
         File::Is(a) => {

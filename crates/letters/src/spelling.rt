@@ -10,7 +10,7 @@ use parser::whole_file::read_file;
 
 // The questions 2 to 9 on a sheet file, and its composed names in rows, with zeros behind. A refusal leaves the rows all zero.
 pub fn read_rows(s: &[u8], rows: &mut [u8]) -> File
-    requires { ⌜ 192 ≤ length (now rows) ⌝ }
+    requires { ⌜ 224 ≤ length (now rows) ⌝ }
     ensures { λ r. ⌜ RowsRead (now (s .entry)) (now (rows .entry)) (now (rows .exit)) r ⌝ }
 {
     let mut table = [0u16; 128];

@@ -1,2 +1,4 @@
+pub mod InForce
 pub mod Ask
+pub mod InForceLaws
 pub mod AskLaws

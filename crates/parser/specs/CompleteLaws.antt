@@ -1,14 +1,16 @@
 -- The other way round: the lines of a sheet's upper part are read through, and behind them its fault is met, or its end. Assumes nothing.
 use Prim.Native.Nat.{ℕ, suc, _+_, _-_, _≤_, _<_}
-use mathlib.Core.Path.{_≡_, refl, ap, _∙_}
-use mathlib.Core.List.{List, [], _++_, map}
-use lib.ListN.{length, drop, replicate, length-append, length-drop}
+use mathlib.Core.Path.{_≡_, refl, sym, ap, _∙_}
+use mathlib.Core.List.{List, [], _∷_, _++_, map}
+use lib.ListN.{length, getD, drop, replicate, length-append, length-drop}
 use borrow.Author.Tests.{lt-ltb, le-ltb}
 use native.Mathlib.Omega.{arith}
 use native.Mathlib.Nat.{zero-add}
 use Rattle.names.specs.Name.{compose}
-use Rattle.format.specs.Format.{State, Sheet, headLine, nameLines, stateLines, transitionLines, endLine, FlagsRight, stateLine, leastAfter, mostSheet, FileIs, Above, NameDue, StateDue, lineDue, NameFault, EndFault, Faulty}
+use Rattle.format.specs.Format.{State, Withdrawal, Sheet, headLine, nameLines, withdrawalLine, withdrawalLines, WithdrawalRight, letterAfter, stateLines, transitionLines, endLine, FlagsRight, stateLine, leastAfter, mostSheet, FileIs, Above, NameDue, WithdrawalDue, StateDue, lineDue, NameFault, EndFault, Faulty}
 use Rattle.format.specs.Numbers.{flagSet, tableOf}
+use Rattle.format.specs.Withdrawals.{withdrawnIn, supersedingOf, TellWithdrawn}
+use Rattle.format.specs.WithdrawalLaws.{superseding-tell}
 use Rattle.format.specs.FormatLaws.{head-length, transitions-few, lines-parted}
 use Rattle.parser.specs.declared.Sizes.{Sizes}
 use Rattle.state_lines.specs.declared.Sets.{Sets}
@@ -16,13 +18,22 @@ use Rattle.state_lines.specs.declared.StateLine.the-variants as S
 use Rattle.state_lines.specs.StateLines.{stateLineAt, statesAt}
 use Rattle.name_lines.specs.NameLines.{Named, namesAt}
 use Rattle.transition_lines.specs.TransitionLines.{transitionsAt}
-use Rattle.parser.specs.Parse.{Contents, contents, afterHead, afterNames, afterStates, parse}
+use Rattle.withdrawal_lines.specs.WithdrawalLines.{Superseded, superseded, withdrawalsAt}
+use Rattle.withdrawal_lines.specs.WithdrawalLaws.{withdrawals-along, withdrawals-end, withdrawals-fault, withdrawals-few}
+use Rattle.parser.specs.Parse.{Contents, contents, afterHead, afterNames, afterWithdrawals, afterStates, parse}
 use Rattle.frame.specs.Phase.{Phase, refused, passed, andThen}
 use Rattle.text.specs.BytesLaws.{stretch-rest}
+use Rattle.text.specs.WordLaws.{first-byte}
 use Rattle.parser.specs.HeadLaws.{head-right, head-range, head-form}
 use Rattle.name_lines.specs.NameLaws.{NamesAlong, names-along, names-fault}
 use Rattle.state_lines.specs.StateLaws.{state-none, states-along}
 use Rattle.transition_lines.specs.TransitionLaws.{transitions-along, transitions-end, transitions-fault}
+
+-- a state line does not begin with W
+pub state-opens : (zs : List State) (q : ℕ) → 1 ≤ length zs → (rest : List ℕ) → getD (stateLines q zs ++ rest) 0 0 ≡ 87 → ⊥
+unfolding stateLines stateLine
+state-opens [] q some rest e = omega arith
+state-opens (z ∷ zs) q some rest e = omega arith
 
 module _ (s : List ℕ) (σ : Sheet) (rest : List ℕ) (above : Above s σ rest) where
   sizes : Sizes
@@ -32,14 +43,17 @@ module _ (s : List ℕ) (σ : Sheet) (rest : List ℕ) (above : Above s σ rest)
   behind-states : List ℕ
   behind-states = transitionLines (σ .transitions) ++ rest
 
+  behind-withdrawals : List ℕ
+  behind-withdrawals = stateLines 0 (σ .states) ++ behind-states
+
   behind-names : List ℕ
-  behind-names = stateLines 0 (σ .states) ++ behind-states
+  behind-names = withdrawalLines (σ .withdrawals) ++ behind-withdrawals
 
   behind-head : List ℕ
   behind-head = nameLines 0 (σ .names) ++ behind-names
 
   text : s ≡ headLine (σ .n) (σ .k) ++ behind-head
-  unfolding behind-head behind-names behind-states
+  unfolding behind-head behind-names behind-withdrawals behind-states
   text = above .text ∙ lines-parted σ rest
 
   from-names : drop 12 s ≡ behind-head
@@ -58,16 +72,17 @@ module _ (s : List ℕ) (σ : Sheet) (rest : List ℕ) (above : Above s σ rest)
 
   -- a fault where a name is due
   name-found : NameDue σ → {number : ℕ} → NameFault (σ .names) rest number → parse s ≡ refused number (lineDue σ)
-  unfolding sizes behind-names behind-states stateLines transitionLines
+  unfolding sizes behind-names behind-withdrawals behind-states withdrawalLines stateLines transitionLines
   name-found due {number} fault =
       let m : ℕ = σ .k - suc (length (σ .names)) in
       let few : length (σ .names) < σ .k = due .names in
       let most-k : σ .k ≤ 8 = above .right .range .3 in
       let a = names-here (suc m) (omega arith) in
-      let t : drop (a .behind) s ≡ rest = a .text ∙ rw (due .states, due .transitions) in
+      let t : drop (a .behind) s ≡ rest = a .text ∙ rw (due .withdrawals, due .states, due .transitions) in
       let k : σ .k ≡ length (σ .names) + suc m = omega arith in
       let phase : namesAt s 2 12 [] (σ .k) ≡ refused number (2 + length (σ .names)) =
       ap (namesAt s 2 12 []) k ∙ (a .goes ∙ names-fault s (2 + length (σ .names)) (a .behind) (σ .names) m (omega arith) (rw t fault)) in
+      let x : length (σ .withdrawals) ≡ 0 = ap length (due .withdrawals) in
       let z : length (σ .states) ≡ 0 = ap length (due .states) in
       let y : length (σ .transitions) ≡ 0 = ap length (due .transitions) in
       let l : 2 + length (σ .names) ≡ lineDue σ = omega arith in
@@ -87,104 +102,184 @@ module _ (s : List ℕ) (σ : Sheet) (rest : List ℕ) (above : Above s σ rest)
         let phase : namesAt s 2 12 [] (σ .k) ≡ passed named = ap (namesAt s 2 12 []) k ∙ along .goes in
         parse-head ∙ ap (λ (p : Phase Named). andThen p (afterNames s sizes)) phase
 
-    -- behind the states
-    abbrev states-here : ℕ → Phase Sets
-    states-here todo =
-        statesAt s (2 + length (σ .names) + length (σ .states)) (along .behind + length (stateLines 0 (σ .states))) (0 + length (σ .states))
-        (0 + flagSet (λ z. z .initial) 0 (σ .states)) (0 + flagSet (λ z. z .recurring) 0 (σ .states)) todo
-
-    from-states : drop (along .behind + length (stateLines 0 (σ .states))) s ≡ behind-states
+    -- behind the withdrawals
+    few : length (σ .withdrawals) ≤ length s
     unfolding behind-names
-    from-states = stretch-rest s (along .behind) (stateLines 0 (σ .states)) behind-states (along .text)
+    few =
+        let e : length (drop (along .behind) s) ≡ length (withdrawalLines (σ .withdrawals)) + length behind-withdrawals =
+        ap length (along .text) ∙ length-append (withdrawalLines (σ .withdrawals)) behind-withdrawals in
+        omega (arith, length-drop (along .behind) s, withdrawals-few (σ .withdrawals))
 
-    states-goes : (todo : ℕ) → length (σ .states) ≤ σ .n → statesAt s (named .line) (named .at) 0 0 0 (length (σ .states) + todo) ≡ states-here todo
+    from-withdrawals : drop (along .behind + length (withdrawalLines (σ .withdrawals))) s ≡ behind-withdrawals
+    unfolding behind-names
+    from-withdrawals = stretch-rest s (along .behind) (withdrawalLines (σ .withdrawals)) behind-withdrawals (along .text)
+
+    -- what the phase has still to do there
+    abbrev withdrawals-here : ℕ → Phase Superseded
+    withdrawals-here fuel =
+        withdrawalsAt s (σ .k) (2 + length (σ .names) + length (σ .withdrawals)) (along .behind + length (withdrawalLines (σ .withdrawals)))
+        (letterAfter 0 (σ .withdrawals)) (withdrawnIn (replicate 8 0) (σ .withdrawals)) fuel
+
+    withdrawals-goes : withdrawalsAt s (σ .k) (named .line) (named .at) 0 (replicate 8 0) (length s + 1) ≡ withdrawals-here (suc (length s - length (σ .withdrawals)))
     unfolding named behind-names
-    states-goes todo h =
-        let r : σ .n ≤ 16 = above .right .range .1 in
-        states-along s behind-states (σ .states) todo (2 + length (σ .names)) (along .behind) 0 0 0 (omega arith) (above .right .states) (along .text)
+    withdrawals-goes =
+        let h = few in
+        let f : length s + 1 ≡ length (σ .withdrawals) + suc (length s - length (σ .withdrawals)) = omega arith in
+        ap (withdrawalsAt s (σ .k) (named .line) (named .at) 0 (replicate 8 0)) f
+        ∙ withdrawals-along s behind-withdrawals (σ .k) (omega (arith, above .right .range .3)) (σ .withdrawals) (suc (length s - length (σ .withdrawals)))
+        (2 + length (σ .names)) (along .behind) 0 (replicate 8 0) (above .right .withdrawals) (along .text)
 
-    -- a fault where a state is due
-    state-found : StateDue σ → ((z : State) (after : List ℕ) → FlagsRight z → rest ≡ stateLine (length (σ .states)) z ++ after → ⊥) → parse s ≡ refused 7 (lineDue σ)
-    unfolding sizes behind-states transitionLines statesAt
-    state-found due none =
-        let m : ℕ = σ .n - suc (length (σ .states)) in
-        let few : length (σ .states) < σ .n = due .states in
-        let n : σ .n ≡ length (σ .states) + suc m = omega arith in
-        let t : drop (along .behind + length (stateLines 0 (σ .states))) s ≡ rest = from-states ∙ rw (due .transitions) in
-        let bad : stateLineAt s (along .behind + length (stateLines 0 (σ .states))) (0 + length (σ .states)) ≡ S.Bad =
-        state-none s (along .behind + length (stateLines 0 (σ .states))) (0 + length (σ .states)) (rw (t, zero-add) none) in
-        let phase : statesAt s (named .line) (named .at) 0 0 0 (σ .n) ≡ refused 7 (2 + length (σ .names) + length (σ .states)) =
-        ap (statesAt s (named .line) (named .at) 0 0 0) n ∙ (states-goes (suc m) (omega arith) ∙ simp bad) in
+    -- a fault where a withdrawal is due
+    withdrawal-found : WithdrawalDue σ → getD rest 0 0 ≡ 87
+        → ((w : Withdrawal) (after : List ℕ) → WithdrawalRight (σ .k) (letterAfter 0 (σ .withdrawals)) w → rest ≡ withdrawalLine w ++ after → ⊥) → parse s ≡ refused 15 (lineDue σ)
+    unfolding sizes behind-withdrawals behind-states stateLines transitionLines
+    withdrawal-found due opens none =
+        let at : ℕ = along .behind + length (withdrawalLines (σ .withdrawals)) in
+        let t : drop at s ≡ rest = from-withdrawals ∙ rw (due .states, due .transitions) in
+        let fault = withdrawals-fault s (σ .k) (length s - length (σ .withdrawals)) (2 + length (σ .names) + length (σ .withdrawals)) at
+        (letterAfter 0 (σ .withdrawals)) (withdrawnIn (replicate 8 0) (σ .withdrawals)) (rw t opens) (rw t none) in
+        let z : length (σ .states) ≡ 0 = ap length (due .states) in
         let y : length (σ .transitions) ≡ 0 = ap length (due .transitions) in
-        let l : 2 + length (σ .names) + length (σ .states) ≡ lineDue σ = omega arith in
-        parse-names ∙ (ap (λ (p : Phase Sets). andThen p (afterStates s sizes named)) phase ∙ ap (refused 7) l)
+        let l : 2 + length (σ .names) + length (σ .withdrawals) ≡ lineDue σ = omega arith in
+        parse-names ∙ (ap (λ (p : Phase Superseded). andThen p (afterWithdrawals s sizes named)) (withdrawals-goes ∙ fault) ∙ ap (refused 15) l)
 
-    module _ (every : length (σ .states) ≡ σ .n) where
-      sets : Sets
-      sets = record {
-        initial = 0 + flagSet (λ z. z .initial) 0 (σ .states);
-        recurring = 0 + flagSet (λ z. z .recurring) 0 (σ .states);
-        at = along .behind + length (stateLines 0 (σ .states));
-        line = 2 + length (σ .names) + length (σ .states);
-      }
+    withdrawn : Superseded
+    withdrawn = superseded (supersedingOf (σ .withdrawals)) (along .behind + length (withdrawalLines (σ .withdrawals))) (2 + length (σ .names) + length (σ .withdrawals))
 
-      parse-states : parse s ≡ afterStates s sizes named sets
-      unfolding sizes sets statesAt
-      parse-states =
-          let n : σ .n ≡ length (σ .states) + 0 = omega arith in
-          let phase : statesAt s (named .line) (named .at) 0 0 0 (σ .n) ≡ passed sets = ap (statesAt s (named .line) (named .at) 0 0 0) n ∙ states-goes 0 (omega arith) in
-          parse-names ∙ ap (λ (p : Phase Sets). andThen p (afterStates s sizes named)) phase
+    tell : TellWithdrawn (σ .withdrawals) (withdrawn .cells)
+    unfolding withdrawn
+    tell = superseding-tell (σ .k) (above .right .range .3) (σ .withdrawals) (above .right .withdrawals)
 
-      -- behind the transitions
-      end : ℕ
-      end = sets .at + length (transitionLines (σ .transitions))
+    -- where the withdrawals end
+    module _ (other : getD behind-withdrawals 0 0 ≡ 87 → ⊥) where
+      parse-withdrawals : parse s ≡ afterWithdrawals s sizes named withdrawn
+      unfolding sizes withdrawn supersedingOf
+      parse-withdrawals =
+          let at : ℕ = along .behind + length (withdrawalLines (σ .withdrawals)) in
+          let none : getD s at 0 ≡ 87 → ⊥ = λ e. other (ap (λ (x : List ℕ). getD x 0 0) (sym from-withdrawals) ∙ (first-byte s at ∙ e)) in
+          let end = withdrawals-end s (σ .k) (suc (length s - length (σ .withdrawals))) (2 + length (σ .names) + length (σ .withdrawals)) at
+          (letterAfter 0 (σ .withdrawals)) (withdrawnIn (replicate 8 0) (σ .withdrawals)) none in
+          parse-names ∙ ap (λ (p : Phase Superseded). andThen p (afterWithdrawals s sizes named)) (withdrawals-goes ∙ end)
 
-      from-end : drop end s ≡ rest
-      unfolding end sets behind-states
-      from-end = stretch-rest s (along .behind + length (stateLines 0 (σ .states))) (transitionLines (σ .transitions)) rest from-states
+      -- behind the states
+      abbrev states-here : ℕ → Phase Sets
+      states-here todo =
+          statesAt s (withdrawn .line + length (σ .states)) (withdrawn .at + length (stateLines 0 (σ .states))) (0 + length (σ .states))
+          (0 + flagSet (λ z. z .initial) 0 (σ .states)) (0 + flagSet (λ z. z .recurring) 0 (σ .states)) todo
 
-      abbrev table : List ℕ
-      table = tableOf (replicate 128 0) (σ .transitions)
+      from-states : drop (withdrawn .at + length (stateLines 0 (σ .states))) s ≡ behind-states
+      unfolding withdrawn behind-withdrawals
+      from-states = stretch-rest s (withdrawn .at) (stateLines 0 (σ .states)) behind-states from-withdrawals
 
-      abbrev transitions-here : ℕ → Phase (List ℕ)
-      transitions-here fuel = transitionsAt s (σ .n) (σ .k) (lineDue σ) end (leastAfter 0 (σ .transitions)) table fuel
+      states-goes : (todo : ℕ) → length (σ .states) ≤ σ .n → statesAt s (withdrawn .line) (withdrawn .at) 0 0 0 (length (σ .states) + todo) ≡ states-here todo
+      unfolding withdrawn behind-withdrawals
+      states-goes todo h =
+          let r : σ .n ≤ 16 = above .right .range .1 in
+          states-along s behind-states (σ .states) todo (withdrawn .line) (withdrawn .at) 0 0 0 (omega arith) (above .right .states) from-withdrawals
 
-      all-few : length (σ .transitions) ≤ length s
-      unfolding sets behind-states
-      all-few =
-          let e : length (drop (along .behind + length (stateLines 0 (σ .states))) s) ≡ length (transitionLines (σ .transitions)) + length rest =
-          ap length from-states ∙ length-append (transitionLines (σ .transitions)) rest in
-          omega (arith, length-drop (along .behind + length (stateLines 0 (σ .states))) s, transitions-few (σ .transitions))
+      -- a fault where a state is due
+      state-found : StateDue σ → ((z : State) (after : List ℕ) → FlagsRight z → rest ≡ stateLine (length (σ .states)) z ++ after → ⊥) → parse s ≡ refused 7 (lineDue σ)
+      unfolding sizes withdrawn behind-states transitionLines statesAt
+      state-found due none =
+          let m : ℕ = σ .n - suc (length (σ .states)) in
+          let few : length (σ .states) < σ .n = due .states in
+          let n : σ .n ≡ length (σ .states) + suc m = omega arith in
+          let at : ℕ = withdrawn .at + length (stateLines 0 (σ .states)) in
+          let t : drop at s ≡ rest = from-states ∙ rw (due .transitions) in
+          let bad : stateLineAt s at (0 + length (σ .states)) ≡ S.Bad = state-none s at (0 + length (σ .states)) (rw (t, zero-add) none) in
+          let phase : statesAt s (withdrawn .line) (withdrawn .at) 0 0 0 (σ .n) ≡ refused 7 (withdrawn .line + length (σ .states)) =
+          ap (statesAt s (withdrawn .line) (withdrawn .at) 0 0 0) n ∙ (states-goes (suc m) (omega arith) ∙ simp bad) in
+          let y : length (σ .transitions) ≡ 0 = ap length (due .transitions) in
+          let l : withdrawn .line + length (σ .states) ≡ lineDue σ = omega arith in
+          parse-withdrawals ∙ (ap (λ (p : Phase Sets). andThen p (afterStates s sizes named withdrawn)) phase ∙ ap (refused 7) l)
 
-      parse-transitions : parse s ≡ andThen (transitions-here (suc (length s - length (σ .transitions)))) (λ t. passed (contents sizes named sets t))
-      unfolding sizes sets end behind-states
-      parse-transitions =
-          let few = all-few in
-          let n : σ .n ≤ 1000 = omega (arith, above .right .range .1) in
-          let k : σ .k ≤ 1000 = omega (arith, above .right .range .3) in
-          let f : length s + 1 ≡ length (σ .transitions) + suc (length s - length (σ .transitions)) = omega arith in
-          let l : 2 + length (σ .names) + length (σ .states) + length (σ .transitions) ≡ lineDue σ = omega arith in
-          let go = transitions-along s rest (σ .n) (σ .k) n k (σ .transitions) (suc (length s - length (σ .transitions)))
-          (2 + length (σ .names) + length (σ .states)) (along .behind + length (stateLines 0 (σ .states))) 0 (replicate 128 0) (above .right .transitions) from-states in
-          let phase : transitionsAt s (σ .n) (σ .k) (sets .line) (sets .at) 0 (replicate 128 0) (length s + 1) ≡ transitions-here (suc (length s - length (σ .transitions))) =
-          ap (transitionsAt s (σ .n) (σ .k) (sets .line) (sets .at) 0 (replicate 128 0)) f
-          ∙ (go ∙ ap (λ (m : ℕ). transitionsAt s (σ .n) (σ .k) m end (leastAfter 0 (σ .transitions)) table (suc (length s - length (σ .transitions)))) l) in
-          parse-states ∙ ap (λ (p : Phase (List ℕ)). andThen p (λ t. passed (contents sizes named sets t))) phase
+      module _ (every : length (σ .states) ≡ σ .n) where
+        sets : Sets
+        sets = record {
+          initial = 0 + flagSet (λ z. z .initial) 0 (σ .states);
+          recurring = 0 + flagSet (λ z. z .recurring) 0 (σ .states);
+          at = withdrawn .at + length (stateLines 0 (σ .states));
+          line = withdrawn .line + length (σ .states);
+        }
 
-      -- a fault where a transition or END is due
-      end-found : {number line : ℕ} → EndFault (σ .n) (σ .k) (leastAfter 0 (σ .transitions)) rest (lineDue σ) number line → parse s ≡ refused number line
-      end-found fault =
+        parse-states : parse s ≡ afterStates s sizes named withdrawn sets
+        unfolding sizes sets statesAt
+        parse-states =
+            let n : σ .n ≡ length (σ .states) + 0 = omega arith in
+            let phase : statesAt s (withdrawn .line) (withdrawn .at) 0 0 0 (σ .n) ≡ passed sets = ap (statesAt s (withdrawn .line) (withdrawn .at) 0 0 0) n ∙ states-goes 0 (omega arith) in
+            parse-withdrawals ∙ ap (λ (p : Phase Sets). andThen p (afterStates s sizes named withdrawn)) phase
+
+        -- behind the transitions
+        end : ℕ
+        end = sets .at + length (transitionLines (σ .transitions))
+
+        from-end : drop end s ≡ rest
+        unfolding end sets behind-states
+        from-end = stretch-rest s (sets .at) (transitionLines (σ .transitions)) rest from-states
+
+        abbrev table : List ℕ
+        table = tableOf (replicate 128 0) (σ .transitions)
+
+        abbrev transitions-here : ℕ → Phase (List ℕ)
+        transitions-here fuel = transitionsAt s (withdrawn .cells) (σ .n) (σ .k) (lineDue σ) end (leastAfter 0 (σ .transitions)) table fuel
+
+        all-few : length (σ .transitions) ≤ length s
+        unfolding sets behind-states
+        all-few =
+            let e : length (drop (sets .at) s) ≡ length (transitionLines (σ .transitions)) + length rest =
+            ap length from-states ∙ length-append (transitionLines (σ .transitions)) rest in
+            omega (arith, length-drop (sets .at) s, transitions-few (σ .transitions))
+
+        abbrev read : List ℕ → Phase Contents
+        read t = passed (contents sizes named withdrawn sets t)
+
+        parse-transitions : parse s ≡ andThen (transitions-here (suc (length s - length (σ .transitions)))) read
+        unfolding sizes withdrawn sets end behind-states
+        parse-transitions =
+            let few = all-few in
+            let n : σ .n ≤ 1000 = omega (arith, above .right .range .1) in
+            let k : σ .k ≤ 1000 = omega (arith, above .right .range .3) in
+            let f : length s + 1 ≡ length (σ .transitions) + suc (length s - length (σ .transitions)) = omega arith in
+            let l : sets .line + length (σ .transitions) ≡ lineDue σ = omega arith in
+            let go = transitions-along s rest (σ .withdrawals) (withdrawn .cells) tell (σ .n) (σ .k) n k (σ .transitions) (suc (length s - length (σ .transitions)))
+            (sets .line) (sets .at) 0 (replicate 128 0) (above .right .transitions) (above .right .in-force) from-states in
+            let phase : transitionsAt s (withdrawn .cells) (σ .n) (σ .k) (sets .line) (sets .at) 0 (replicate 128 0) (length s + 1) ≡ transitions-here (suc (length s - length (σ .transitions))) =
+            ap (transitionsAt s (withdrawn .cells) (σ .n) (σ .k) (sets .line) (sets .at) 0 (replicate 128 0)) f
+            ∙ (go ∙ ap (λ (m : ℕ). transitionsAt s (withdrawn .cells) (σ .n) (σ .k) m end (leastAfter 0 (σ .transitions)) table (suc (length s - length (σ .transitions)))) l) in
+            parse-states ∙ ap (λ (p : Phase (List ℕ)). andThen p read) phase
+
+        -- a fault where a transition or END is due
+        end-found : {number line : ℕ} → EndFault (σ .withdrawals) (σ .n) (σ .k) (leastAfter 0 (σ .transitions)) rest (lineDue σ) number line → parse s ≡ refused number line
+        end-found fault =
+            parse-transitions
+            ∙ ap (λ (p : Phase (List ℕ)). andThen p read)
+            (transitions-fault s (σ .withdrawals) (withdrawn .cells) tell (σ .n) (σ .k) (length s - length (σ .transitions)) (lineDue σ) end (leastAfter 0 (σ .transitions)) table
+            (omega (arith, above .right .range .1)) (omega (arith, above .right .range .3)) (rw from-end fault))
+
+        sheet-found : rest ≡ endLine → (c : Contents) × (parse s ≡ passed c)
+        sheet-found e = (
+          contents sizes named withdrawn sets table,
           parse-transitions
-          ∙ ap (λ (p : Phase (List ℕ)). andThen p (λ t. passed (contents sizes named sets t)))
-          (transitions-fault s (σ .n) (σ .k) (length s - length (σ .transitions)) (lineDue σ) end (leastAfter 0 (σ .transitions)) table (rw from-end fault))
+              ∙ ap (λ (p : Phase (List ℕ)). andThen p read)
+              (transitions-end s (σ .withdrawals) (withdrawn .cells) tell (σ .n) (σ .k) (length s - length (σ .transitions)) (lineDue σ) end (leastAfter 0 (σ .transitions)) table (from-end ∙ e)),
+        )
 
-      sheet-found : rest ≡ endLine → (c : Contents) × (parse s ≡ passed c)
-      sheet-found e = (
-        contents sizes named sets table,
-        parse-transitions
-            ∙ ap (λ (p : Phase (List ℕ)). andThen p (λ t. passed (contents sizes named sets t)))
-            (transitions-end s (σ .n) (σ .k) (length s - length (σ .transitions)) (lineDue σ) end (leastAfter 0 (σ .transitions)) table (from-end ∙ e)),
-      )
+  some-states : length (σ .states) ≡ σ .n → 1 ≤ length (σ .states)
+  some-states e = let n = above .right .range .0 in omega arith
+
+  -- behind the withdrawals a state line is not one of them
+  states-open : (1 ≤ length (σ .states)) → getD behind-withdrawals 0 0 ≡ 87 → ⊥
+  unfolding behind-withdrawals
+  states-open some e = state-opens (σ .states) 0 some behind-states e
+
+  -- nor is a line that answers for a state
+  opens-other : StateDue σ → (σ .states ≡ [] → getD rest 0 0 ≡ 87 → ⊥) → getD behind-withdrawals 0 0 ≡ 87 → ⊥
+  unfolding behind-withdrawals behind-states stateLines transitionLines
+  opens-other due other e = by (σ .states) refl
+    where
+      by : (zs : List State) → σ .states ≡ zs → ⊥
+      by [] f = other f (let t : stateLines 0 (σ .states) ++ (transitionLines (σ .transitions) ++ rest) ≡ rest = rw (f, due .transitions) in ap (λ (x : List ℕ). getD x 0 0) (sym t) ∙ e)
+      by (z ∷ zs) f = states-open (let n = ap length f in omega arith) e
 
 -- EVERY FAULT is the refusal
 pub faulty-parse : (s : List ℕ) (number line : ℕ) → Faulty s number line → parse s ≡ refused number line
@@ -193,9 +288,13 @@ faulty-parse s number line (Faulty.size h) = simp (lt-ltb mostSheet (length s) h
 faulty-parse s number line (Faulty.head size none) = simp (le-ltb mostSheet (length s) size, head-form s none)
 faulty-parse s number line (Faulty.range size n k rest hn hk e out) = simp (le-ltb mostSheet (length s) size, head-range s n k rest hn hk e out)
 faulty-parse s number line (Faulty.name σ rest above due fault) = name-found s σ rest above due fault
-faulty-parse s number line (Faulty.state σ rest above due none) = state-found s σ rest above (due .names) due none
-faulty-parse s number line (Faulty.end σ rest above due fault) = end-found s σ rest above (due .names) (due .states) fault
+faulty-parse s number line (Faulty.withdrawal σ rest above due opens none) = withdrawal-found s σ rest above (due .names) due opens none
+faulty-parse s number line (Faulty.state σ rest above due other none) = state-found s σ rest above (due .names) (opens-other s σ rest above due other) due none
+faulty-parse s number line (Faulty.end σ rest above due fault) =
+    end-found s σ rest above (due .names) (states-open s σ rest above (some-states s σ rest above (due .states))) (due .states) fault
 
 -- EVERY SHEET FILE is read
 pub file-read : (s : List ℕ) (σ : Sheet) → FileIs s σ → (c : Contents) × (parse s ≡ passed c)
-file-read s σ h = sheet-found s σ endLine (record { size = h .size; right = h .right; text = h .text }) (h .all-names) (h .all-states) refl
+file-read s σ h =
+    let above : Above s σ endLine = record { size = h .size; right = h .right; text = h .text } in
+    sheet-found s σ endLine above (h .all-names) (states-open s σ endLine above (some-states s σ endLine above (h .all-states))) (h .all-states) refl

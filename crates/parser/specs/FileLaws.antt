@@ -13,14 +13,20 @@ use Rattle.parser.specs.Parse.{Contents, contents, headOf, afterHead, pa
 use Rattle.frame.specs.Phase.{Phase, refused, passed, andThen}
 use Rattle.format.specs.Format.{mostSheet}
 use borrow.Author.Tests.{lt-ltb, le-ltb}
+use Rattle.withdrawal_lines.specs.WithdrawalLines.{Superseded, WithdrawalsRead}
+use Rattle.superseding.specs.Superseding.{supersedingIn, withSuperseding}
+use Rattle.superseding.specs.SupersedingLaws.{eight-stored}
+use Rattle.automaton.specs.declared.Numbers.{Numbers}
 use Rattle.state_lines.specs.StateLines.{statesAnswer}
 use Rattle.transition_lines.specs.TransitionLines.{FillsTable}
-use Rattle.parser.specs.PhaseAnswers.{NumbersRead, FileRead}
+use Rattle.parser.specs.PhaseAnswers.{GraphRead, NumbersRead, FileRead}
 use Rattle.name_rows.specs.Rows.{HoldNames}
 use Rattle.automaton.specs.Graph.{InRange}
 use Rattle.frame.specs.declared.Position.{Position}
 use Rattle.parser.specs.declared.File.{File}
 use Rattle.name_lines.specs.declared.Names.the-variants as N
+use Rattle.withdrawal_lines.specs.declared.Withdrawals.the-variants as W
+use Rattle.parser.specs.LettersRowsLaws.{names-kept, behind-cells}
 use Rattle.parser.specs.declared.Sizes.{Sizes}
 use Rattle.state_lines.specs.declared.Sets.{Sets}
 use Rattle.parser.specs.declared.File.the-variants as F
@@ -47,7 +53,7 @@ module _ (t : List ℕ) (zeros : t ≡ cleared t) (long : 128 ≤ length t) wher
 -- THE STATE LINES
 pub refused-by-states :
     (p : Phase Sets) (next : Sets → Phase Contents) (t u : List ℕ) (r : Refusal) →
-    Q.Refused r ≡ statesAnswer p → u ≡ cleared t → NumbersRead (andThen p next) t u (F.Refused r)
+    Q.Refused r ≡ statesAnswer p → u ≡ cleared t → GraphRead (andThen p next) t u (F.Refused r)
 refused-by-states (refused number line) next t u r e h = (cc, h)
 refused-by-states (passed q) next t u r e h = absurd (let z : _≡_ {A = ℕ} 0 1 = cc in omega arith)
 
@@ -56,20 +62,70 @@ states-pass (refused number line) next q e = absurd (let z : _≡_ {A = ℕ} 0 1
 states-pass (passed q′) next q e = let g : q′ ≡ q = cc in ap next g
 
 -- THE TRANSITION LINES, the last phase
-module _ (z : Sizes) (y : Named) (q : Sets) where
+module _ (z : Sizes) (y : Named) (w : Superseded) (q : Sets) where
   pub refused-by-transitions :
       (p : Phase (List ℕ)) (t u : List ℕ) (r : Refusal) →
-      FillsTable p t u (E.Refused r) → NumbersRead (andThen p (λ table. passed (contents z y q table))) t u (F.Refused r)
+      FillsTable p t u (E.Refused r) → GraphRead (andThen p (λ table. passed (contents z y w q table))) t u (F.Refused r)
   refused-by-transitions (refused number line) t u r e = ((let d = e .0 in cc), e .1)
   refused-by-transitions (passed table) t u r e = absurd (let d = e .0 in let z : _≡_ {A = ℕ} 0 1 = cc in omega arith)
 
   pub transitions-pass :
       (p : Phase (List ℕ)) (t u : List ℕ) →
       FillsTable p t u E.Reached → drop 128 t ≡ replicate (length t - 128) 0 →
-      NumbersRead (andThen p (λ table. passed (contents z y q table))) t u
+      GraphRead (andThen p (λ table. passed (contents z y w q table))) t u
       (F.Is (record { n = z .n; k = z .k; initial = q .initial; recurring = q .recurring }))
   transitions-pass (refused number line) t u e h = absurd (let d = e .0 in let z : _≡_ {A = ℕ} 0 1 = cc in omega arith)
   transitions-pass (passed table) t u e h = (refl, e .1 ∙ ap (λ (x : List ℕ). table ++ x) h)
+
+-- THE WITHDRAWAL LINES, in rows that were `old`
+pub refused-by-withdrawals :
+    (p : Phase Superseded) (next : Superseded → Phase Contents) (t u old rows : List ℕ) (r : Refusal) →
+    WithdrawalsRead p old rows (W.Refused r) → u ≡ cleared t → NumbersRead (andThen p next) t u old rows (F.Refused r)
+refused-by-withdrawals (refused number line) next t u old rows r e h = ((let d = e .0 in cc), h)
+refused-by-withdrawals (passed w) next t u old rows r e h = absurd (let d = e .0 in let z : _≡_ {A = ℕ} 0 1 = cc in omega arith)
+
+-- what is known once they are read
+pub record WithdrawalsHanded (p : Phase Superseded) (old rows : List ℕ) (place : Position) : Type 0 where
+  pub superseded : Superseded
+  pub is : p ≡ passed superseded
+  pub at : superseded .at ≡ place .at
+  pub line : superseded .line ≡ place .line
+  pub small-line : place .line ≤ 17
+  pub small-at : place .at ≤ 308
+  pub eight : length (superseded .cells) ≡ 8
+  pub stored : rows ≡ withSuperseding old (superseded .cells)
+
+pub withdrawals-pass : (p : Phase Superseded) (old rows : List ℕ) (place : Position) → WithdrawalsRead p old rows (W.Are place) → WithdrawalsHanded p old rows place
+withdrawals-pass (refused number line) old rows place e = absurd (let d = e .0 in let z : _≡_ {A = ℕ} 0 1 = cc in omega arith)
+withdrawals-pass (passed w) old rows place e =
+    let d : W.Are place ≡ W.Are (record { at = w .at; line = w .line }) = e .0 in
+    let g : place ≡ record { at = w .at; line = w .line } = cc in
+    record {
+      superseded = w;
+      is = refl;
+      at = sym (ap (λ (p : Position). p .at) g);
+      line = sym (ap (λ (p : Position). p .line) g);
+      small-line = rw g (e .1);
+      small-at = rw g (e .2);
+      eight = e .3;
+      stored = e .4;
+    }
+
+-- the graph's lines behind them
+module _ (z : Sizes) (y : Named) (w : Superseded) (old rows : List ℕ) (eight : length (w .cells) ≡ 8) (stored : rows ≡ withSuperseding old (w .cells)) where
+  pub with-cells :
+      (p : Phase Sets) (next : Sets → Phase (List ℕ)) (t u : List ℕ) (r : File) →
+      GraphRead (andThen p (λ q. andThen (next q) (λ table. passed (contents z y w q table)))) t u r →
+      NumbersRead (andThen p (λ q. andThen (next q) (λ table. passed (contents z y w q table)))) t u old rows r
+  with-cells (refused number line) next t u r e = e
+  with-cells (passed q) next t u r e = cases (next q) e
+    where
+      cases :
+          (p : Phase (List ℕ)) →
+          GraphRead (andThen p (λ table. passed (contents z y w q table))) t u r →
+          NumbersRead (andThen p (λ table. passed (contents z y w q table))) t u old rows r
+      cases (refused number line) e = e
+      cases (passed table) e = (e .0, e .1, eight, stored)
 
 -- THE NAME LINES
 pub refused-by-names :
@@ -107,28 +163,51 @@ names-pass k (passed y) old rows place e =
       behind = e .5;
     }
 
--- THE NUMBERS, behind the name lines of y: the rows, which were `old`, are all zero or hold these names
-module _ (z : Sizes) (y : Named) (old rows : List ℕ) where
-  abbrev pub RowsLeft : File → Type 0
-  RowsLeft (F.Refused r) = rows ≡ cleared old
-  RowsLeft (F.Is a) =
-      InRange (z .n) (z .k) × (length (y .names) ≡ z .k) × HoldNames (y .names) rows × (drop (24 * z .k) rows ≡ drop (24 * z .k) (cleared old))
+-- THE NUMBERS, behind the name lines of y: the rows, which were `old` and with the names `mid`, are all zero or hold these names and the superseding letters
+module _ (z : Sizes) (y : Named) (old mid : List ℕ) where
+  abbrev pub RowsLeft : List ℕ → List ℕ → File → Type 0
+  RowsLeft after rows (F.Refused r) = rows ≡ cleared old
+  RowsLeft after rows (F.Is a) =
+      (rows ≡ after) × InRange (z .n) (z .k) × (length (y .names) ≡ z .k) × HoldNames (y .names) mid
+      × (drop (24 * z .k) mid ≡ drop (24 * z .k) (cleared old)) × (224 ≤ length mid)
+
+  -- the rows with superseding letters in their cells
+  rows-told : (cells after rows : List ℕ) (a : Numbers) → length cells ≡ 8 → after ≡ withSuperseding mid cells → RowsLeft after rows (F.Is a) →
+      InRange (z .n) (z .k) × (length (y .names) ≡ z .k) × HoldNames (y .names) rows
+      × (drop (24 * z .k) rows ≡ drop (24 * z .k) (withSuperseding (cleared old) cells)) × (supersedingIn rows ≡ cells)
+  rows-told cells after rows a eight stored (same, range, all, holds, behind, long) =
+      let e : rows ≡ withSuperseding mid cells = same ∙ stored in
+      let few : z .k ≤ 8 = range .3 in (
+        range,
+        all,
+        rw e (names-kept (y .names) mid cells (omega arith) holds),
+        rw e (behind-cells (z .k) mid (cleared old) cells few behind),
+        rw e (eight-stored mid cells eight long),
+      )
 
   pub with-rows :
-      (p : Phase Sets) (next : Sets → Phase (List ℕ)) (t u : List ℕ) (r : File) →
-      NumbersRead (andThen p (λ q. andThen (next q) (λ table. passed (contents z y q table)))) t u r → RowsLeft r →
-      FileRead (andThen p (λ q. andThen (next q) (λ table. passed (contents z y q table)))) t u old rows r
-  with-rows (refused number line) next t u r e left = (e .0, e .1, subst RowsLeft (e .0) left)
-  with-rows (passed q) next t u r e left = cases (next q) e
+      (p : Phase Superseded) (states : Superseded → Phase Sets) (transitions : Superseded → Sets → Phase (List ℕ)) (t u after rows : List ℕ) (r : File) →
+      NumbersRead (andThen p (λ w. andThen (states w) (λ q. andThen (transitions w q) (λ table. passed (contents z y w q table))))) t u mid after r →
+      RowsLeft after rows r →
+      FileRead (andThen p (λ w. andThen (states w) (λ q. andThen (transitions w q) (λ table. passed (contents z y w q table))))) t u old rows r
+  with-rows (refused number line) states transitions t u after rows r e left = (e .0, e .1, subst (RowsLeft after rows) (e .0) left)
+  with-rows (passed w) states transitions t u after rows r e left = cases (states w) e
     where
+      read :
+          (q : Sets) (p : Phase (List ℕ)) →
+          NumbersRead (andThen p (λ table. passed (contents z y w q table))) t u mid after r →
+          FileRead (andThen p (λ table. passed (contents z y w q table))) t u old rows r
+      read q (refused number line) e = (e .0, e .1, subst (RowsLeft after rows) (e .0) left)
+      read q (passed table) e =
+          let (range, all, holds, behind, cells) = rows-told (w .cells) after rows (record { n = z .n; k = z .k; initial = q .initial; recurring = q .recurring }) (e .2) (e .3) (subst (RowsLeft after rows) (e .0) left) in
+          (e .0, e .1, range, all, holds, behind, cells)
+
       cases :
-          (p : Phase (List ℕ)) →
-          NumbersRead (andThen p (λ table. passed (contents z y q table))) t u r →
-          FileRead (andThen p (λ table. passed (contents z y q table))) t u old rows r
-      cases (refused number line) e = (e .0, e .1, subst RowsLeft (e .0) left)
-      cases (passed table) e =
-          let (range, all, holds, behind) = subst RowsLeft (e .0) left in
-          (e .0, e .1, range, all, holds, behind)
+          (p : Phase Sets) →
+          NumbersRead (andThen p (λ q. andThen (transitions w q) (λ table. passed (contents z y w q table)))) t u mid after r →
+          FileRead (andThen p (λ q. andThen (transitions w q) (λ table. passed (contents z y w q table)))) t u old rows r
+      cases (refused number line) e = (e .0, e .1, subst (RowsLeft after rows) (e .0) left)
+      cases (passed q) e = read q (transitions w q) e
 
 -- THE SIZE
 module _ (s : List ℕ) where

@@ -17,23 +17,30 @@ use Rattle.frame.specs.Phase.{Phase, refused, passed}
 use Rattle.parser.specs.ParseLaws.{Means, AreContents, parse-means}
 use Rattle.parser.specs.PhaseAnswers.{numbersOf, FileRead}
 use Rattle.parser.specs.declared.File.the-variants as F
-use Rattle.parser.specs.LettersOf.{NamesIn, LettersOf}
+use Rattle.superseding.specs.Superseding.{supersedingIn, withSuperseding}
+use Rattle.parser.specs.LettersOf.{LettersIn, BehindNames, LettersOf}
 
--- a file that is read: its numbers and names, and its successor sets
+-- a file that is read: its numbers and letters, and its successor sets
 pub record FileAccepted (s t u old rows : List ℕ) (a : Numbers) : Type 0 where
   pub letters : LettersOf s rows a
   pub table : u ≡ lentTable (numbers (letters .sheet) .table) t
-  pub behind : drop (24 * a .k) rows ≡ drop (24 * a .k) (cleared old)
+  pub behind : BehindNames (letters .sheet) (a .k) old rows
 
 are-numbers : (σ : Sheet) {a : Numbers} → a ≡ numbersOf (numbers σ) → AreNumbers (numbers σ) a
 are-numbers σ e = record { n = ap (λ z. z .n) e; k = ap (λ z. z .k) e; initial = ap (λ z. z .initial) e; recurring = ap (λ z. z .recurring) e }
 
-names-in : {s rows : List ℕ} (σ : Sheet) {a : Numbers} → FileIs s σ → a ≡ numbersOf (numbers σ) → {c : Contents} → AreContents σ c → HoldNames (c .names) rows
-    → NamesIn σ (a .k) rows
+letters-in : {s rows : List ℕ} (σ : Sheet) {a : Numbers} → FileIs s σ → a ≡ numbersOf (numbers σ) → {c : Contents} → AreContents σ c → HoldNames (c .names) rows
+    → supersedingIn rows ≡ c .superseding → LettersIn σ (a .k) rows
 unfolding numbers
-names-in {rows = rows} σ file e are holds =
+letters-in {rows = rows} σ file e are holds cells =
     let k : σ .k ≡ _ = sym (ap (λ (z : Numbers). z .k) e) in
-    record { letters = k; all-names = file .all-names ∙ k; holds = subst (λ (names : List (List ℕ)). HoldNames names rows) (are .names) holds }
+    record {
+      letters = k;
+      all-names = file .all-names ∙ k;
+      holds = subst (λ (names : List (List ℕ)). HoldNames names rows) (are .names) holds;
+      withdrawals = file .right .withdrawals;
+      superseding = cells ∙ are .superseding;
+    }
 
 module _ (s t u old rows : List ℕ) where
   pub file-refused : (r : Refusal) → FileRead (parse s) t u old rows (F.Refused r) → RefusedBy (Faulty s) r × (u ≡ cleared t) × (rows ≡ cleared old)
@@ -53,7 +60,7 @@ module _ (s t u old rows : List ℕ) where
           let h : a ≡ numbersOf (c .numbers) = cc in
           let n : a ≡ numbersOf (numbers σ) = h ∙ ap numbersOf (are .numbers) in
           record {
-            letters = record { sheet = σ; file = file; are = are-numbers σ n; range = rw h (e .2); names = names-in σ file n are (e .4) };
+            letters = record { sheet = σ; file = file; are = are-numbers σ n; range = rw h (e .2); names = letters-in σ file n are (e .4) (e .6) };
             table = e .1 ∙ ap (λ A. lentTable (A .table) t) (are .numbers);
-            behind = rw h (e .5);
+            behind = rw h (e .5) ∙ ap (λ (cells : List ℕ). drop (24 * a .k) (withSuperseding (cleared old) cells)) (are .superseding);
           }

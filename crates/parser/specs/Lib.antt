@@ -4,6 +4,7 @@ pub mod HeadLaws
 pub mod ParseLaws
 pub mod CompleteLaws
 pub mod UniqueLaws
+pub mod LettersRowsLaws
 pub mod FileLaws
 pub mod LettersOf
 pub mod LettersOfLaws

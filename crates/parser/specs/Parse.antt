@@ -1,4 +1,4 @@
--- A sheet file read from the top, line by line: questions 2 to 9 in the order in which a reader asks them.
+-- A sheet file read from the top, line by line: questions 2 to 9, 15 and 16 in the order in which a reader asks them.
 -- That this is what Format describes is a theorem. A byte past the end is 0, and 0 stands in no line.
 use Prim.Native.Nat.{ℕ, _+_}
 use mathlib.Core.List.{List, []}
@@ -13,6 +13,7 @@ use Rattle.frame.specs.declared.Bounds.{Bounds}
 use Rattle.parser.specs.declared.Sizes.{Sizes}
 use Rattle.state_lines.specs.declared.Sets.{Sets}
 use Rattle.name_lines.specs.NameLines.{Named, namesAt}
+use Rattle.withdrawal_lines.specs.WithdrawalLines.{Superseded, withdrawalsAt}
 use Rattle.state_lines.specs.StateLines.{statesAt}
 use Rattle.transition_lines.specs.TransitionLines.{transitionsAt}
 
@@ -32,26 +33,32 @@ headOf s = firstPhase (wordAndPair s sheetWord) sheetBounds sizes 3 4
 
 -- THE WHOLE FILE
 
--- what a sheet file holds: its numbers, with the 128 successor sets, and its names composed
+-- what a sheet file holds: its numbers, with the 128 successor sets, its names composed, and its superseding letters
 pub record Contents : Type 0 where
   pub numbers : Automaton
   pub names : List (List ℕ)
+  pub superseding : List ℕ
 
 -- what was read in each phase, put together
-abbrev pub contents : Sizes → Named → Sets → List ℕ → Contents
-contents z y q table = record {
+abbrev pub contents : Sizes → Named → Superseded → Sets → List ℕ → Contents
+contents z y w q table = record {
   numbers = record { n = z .n; k = z .k; initial = q .initial; recurring = q .recurring; table = table };
   names = y .names;
+  superseding = w .cells;
 }
 
 -- the phases behind the state lines
-abbrev pub afterStates : List ℕ → Sizes → Named → Sets → Phase Contents
-afterStates s z y q =
-    andThen (transitionsAt s (z .n) (z .k) (q .line) (q .at) 0 (replicate 128 0) (length s + 1)) (λ table. passed (contents z y q table))
+abbrev pub afterStates : List ℕ → Sizes → Named → Superseded → Sets → Phase Contents
+afterStates s z y w q =
+    andThen (transitionsAt s (w .cells) (z .n) (z .k) (q .line) (q .at) 0 (replicate 128 0) (length s + 1)) (λ table. passed (contents z y w q table))
+
+-- those behind the withdrawal lines
+abbrev pub afterWithdrawals : List ℕ → Sizes → Named → Superseded → Phase Contents
+afterWithdrawals s z y w = andThen (statesAt s (w .line) (w .at) 0 0 0 (z .n)) (afterStates s z y w)
 
 -- those behind the name lines
 abbrev pub afterNames : List ℕ → Sizes → Named → Phase Contents
-afterNames s z y = andThen (statesAt s (y .line) (y .at) 0 0 0 (z .n)) (afterStates s z y)
+afterNames s z y = andThen (withdrawalsAt s (z .k) (y .line) (y .at) 0 (replicate 8 0) (length s + 1)) (afterWithdrawals s z y)
 
 -- those behind the first line
 abbrev pub afterHead : List ℕ → Sizes → Phase Contents

@@ -1,46 +1,53 @@
 -- A file read from the top is the sheet file of Format or has its fault: the phases, one after the other. Assumes nothing.
 use Prim.Native.Nat.{ℕ, _+_, _≤_}
-use mathlib.Core.Path.{_≡_, refl, sym, subst, _∙_}
+use mathlib.Core.Path.{_≡_, refl, sym, ap, subst, _∙_}
 use mathlib.Core.Bool.{Bool, true, false}
 use mathlib.Core.List.{List, [], _++_, map}
-use lib.ListN.{length, drop, replicate}
+use lib.ListN.{length, getD, drop, replicate}
 use lib.Dec.{ltb}
 use borrow.Author.Tests.{ltb-true, ltb-false}
 use native.Mathlib.Omega.{arith}
 use native.Mathlib.Nat.{zero-add}
 use Rattle.lists.specs.Choice.{choose}
+use Rattle.text.specs.WordLaws.{first-byte}
 use Rattle.names.specs.Name.{compose}
 use Rattle.automaton.specs.Graph.{InRange}
-use Rattle.format.specs.Format.{State, Transition, Sheet, headLine, stateLine, FlagsRight, nameLines, stateLines, transitionLines, endLine, lines, leastAfter, mostSheet, FileIs, Above, NameDue, StateDue, EndDue, lineDue, EndFault, Faulty}
+use Rattle.format.specs.Format.{State, Transition, Withdrawal, Sheet, headLine, stateLine, FlagsRight, nameLines, withdrawalLines, stateLines, transitionLines, endLine, lines, leastAfter, mostSheet, FileIs, Above, NameDue, WithdrawalDue, StateDue, EndDue, lineDue, EndFault, Faulty}
 use Rattle.format.specs.Numbers.{numbers}
+use Rattle.format.specs.Withdrawals.{supersedingOf, TellWithdrawn}
+use Rattle.format.specs.WithdrawalLaws.{superseding-tell}
 use Rattle.format.specs.FormatLaws.{lines-parted}
 use Rattle.parser.specs.declared.Sizes.{Sizes}
 use Rattle.state_lines.specs.declared.Sets.{Sets}
-use Rattle.parser.specs.Parse.{headOf, Contents, contents, afterHead, afterNames, afterStates, parse}
+use Rattle.parser.specs.Parse.{headOf, Contents, contents, afterHead, afterNames, afterWithdrawals, afterStates, parse}
 use Rattle.name_lines.specs.NameLines.{Named, namesAt}
+use Rattle.withdrawal_lines.specs.WithdrawalLines.{Superseded, withdrawalsAt}
 use Rattle.state_lines.specs.StateLines.{statesAt}
 use Rattle.transition_lines.specs.TransitionLines.{transitionsAt}
 use Rattle.frame.specs.Phase.{Phase, refused, passed, andThen}
 use Rattle.parser.specs.HeadLaws.{HeadOutcome, head-outcome}
 use Rattle.name_lines.specs.NameLaws.{NamesOutcome, NamesRefused, NamesPassed, names-outcome}
+use Rattle.withdrawal_lines.specs.WithdrawalLaws.{WithdrawalsOutcome, WithdrawalsRefused, WithdrawalsPassed, withdrawals-outcome}
 use Rattle.state_lines.specs.StateLaws.{StatesOutcome, StatesRefused, StatesPassed, states-outcome}
 use Rattle.transition_lines.specs.TransitionLaws.{TransitionsOutcome, TransitionsRefused, TransitionsPassed, transitions-outcome}
 
 -- the upper part of a sheet
-abbrev upper : ℕ → ℕ → List (List ℕ) → List State → List Transition → Sheet
-upper n k names states transitions = record { n = n; k = k; names = names; states = states; transitions = transitions }
+abbrev upper : ℕ → ℕ → List (List ℕ) → List Withdrawal → List State → List Transition → Sheet
+upper n k names withdrawals states transitions = record { n = n; k = k; names = names; withdrawals = withdrawals; states = states; transitions = transitions }
 
 -- the lines of each kind, one after the other
 upper-text :
-    (s r1 r2 r3 rest : List ℕ) (n k : ℕ) (names : List (List ℕ)) (states : List State) (transitions : List Transition) →
-    s ≡ headLine n k ++ r1 → r1 ≡ nameLines 0 names ++ r2 → r2 ≡ stateLines 0 states ++ r3 → r3 ≡ transitionLines transitions ++ rest →
-    s ≡ lines (upper n k names states transitions) ++ rest
-upper-text s r1 r2 r3 rest n k names states transitions e1 e2 e3 e4 = e1 ∙ rw (e2, e3, e4) (sym (lines-parted (upper n k names states transitions) rest))
+    (s r1 r2 r3 r4 rest : List ℕ) (n k : ℕ) (names : List (List ℕ)) (withdrawals : List Withdrawal) (states : List State) (transitions : List Transition) →
+    s ≡ headLine n k ++ r1 → r1 ≡ nameLines 0 names ++ r2 → r2 ≡ withdrawalLines withdrawals ++ r3 → r3 ≡ stateLines 0 states ++ r4 →
+    r4 ≡ transitionLines transitions ++ rest → s ≡ lines (upper n k names withdrawals states transitions) ++ rest
+upper-text s r1 r2 r3 r4 rest n k names withdrawals states transitions e1 e2 e3 e4 e5 =
+    e1 ∙ rw (e2, e3, e4, e5) (sym (lines-parted (upper n k names withdrawals states transitions) rest))
 
 -- what is read of a sheet file
 pub record AreContents (σ : Sheet) (c : Contents) : Type 0 where
   pub numbers : c .numbers ≡ numbers σ
   pub names : c .names ≡ map compose (σ .names)
+  pub superseding : c .superseding ≡ supersedingOf (σ .withdrawals)
 
 -- WHAT READING GIVES
 abbrev pub Means : List ℕ → Phase Contents → Type 0
@@ -49,107 +56,150 @@ Means s (passed c) = (σ : Sheet) × FileIs s σ × AreContents σ c
 
 module _ (s : List ℕ) (size : length s ≤ mostSheet) (z : Sizes) (range : InRange (z .n) (z .k)) (head : s ≡ headLine (z .n) (z .k) ++ drop 12 s) where
   names-refuse : (number line : ℕ) → NamesRefused s 2 12 [] (z .k) number line → Faulty s number line
-  unfolding stateLines transitionLines
+  unfolding withdrawalLines stateLines transitionLines
   names-refuse number line h = subst (Faulty s number) l (Faulty.name σ (h .rest) above due (h .fault))
     where
       σ : Sheet
-      σ = upper (z .n) (z .k) (h .names) [] []
+      σ = upper (z .n) (z .k) (h .names) [] [] []
 
       above : Above s σ (h .rest)
       above = record {
         size = size;
-        right = record { range = range; names = h .right; states = tt; transitions = tt };
-        text = upper-text s (drop 12 s) (h .rest) (h .rest) (h .rest) (z .n) (z .k) (h .names) [] [] head (h .text) refl refl;
+        right = record { range = range; names = h .right; withdrawals = tt; states = tt; transitions = tt; in-force = tt };
+        text = upper-text s (drop 12 s) (h .rest) (h .rest) (h .rest) (h .rest) (z .n) (z .k) (h .names) [] [] [] head (h .text) refl refl refl;
       }
 
       due : NameDue σ
-      due = record { names = h .count; states = refl; transitions = refl }
+      due = record { names = h .count; withdrawals = refl; states = refl; transitions = refl }
 
       l : lineDue σ ≡ line
       l = omega (arith, h .here)
 
   module _ (y : Named) (g : NamesPassed s 2 12 [] (z .k) y) where
-    states-refuse : (number line : ℕ) → StatesRefused s (y .line) (y .at) 0 (z .n) number line → Faulty s number line
-    unfolding transitionLines
-    states-refuse number line h = subst (λ (x : ℕ). Faulty s x line) (sym (h .seven)) (subst (Faulty s 7) l (Faulty.state σ (h .rest) above due none))
+    withdrawals-refuse : (number line : ℕ) → WithdrawalsRefused s (z .k) (y .line) (y .at) 0 number line → Faulty s number line
+    unfolding stateLines transitionLines
+    withdrawals-refuse number line h =
+        subst (λ (x : ℕ). Faulty s x line) (sym (h .fifteen)) (subst (Faulty s 15) l (Faulty.withdrawal σ (h .rest) above due (h .opens) (h .none)))
       where
         σ : Sheet
-        σ = upper (z .n) (z .k) (g .names) (h .states) []
+        σ = upper (z .n) (z .k) (g .names) (h .withdrawals) [] []
 
         above : Above s σ (h .rest)
         above = record {
           size = size;
-          right = record { range = range; names = g .right; states = h .right; transitions = tt };
-          text = upper-text s (drop 12 s) (drop (y .at) s) (h .rest) (h .rest) (z .n) (z .k) (g .names) (h .states) [] head (g .text) (h .text) refl;
+          right = record { range = range; names = g .right; withdrawals = h .right; states = tt; transitions = tt; in-force = tt };
+          text = upper-text s (drop 12 s) (drop (y .at) s) (h .rest) (h .rest) (h .rest) (z .n) (z .k) (g .names) (h .withdrawals) [] [] head (g .text) (h .text) refl refl;
         }
 
-        due : StateDue σ
-        due = record { names = g .count; states = h .count; transitions = refl }
+        due : WithdrawalDue σ
+        due = record { names = g .count; states = refl; transitions = refl }
 
         l : lineDue σ ≡ line
         l = omega (arith, h .here, g .next)
 
-        none : (w : State) (after : List ℕ) → FlagsRight w → h .rest ≡ stateLine (length (h .states)) w ++ after → ⊥
-        none = rw zero-add at (h .none)
+    module _ (w : Superseded) (v : WithdrawalsPassed s (z .k) (y .line) (y .at) 0 (replicate 8 0) w) where
+      cells-are : w .cells ≡ supersedingOf (v .withdrawals)
+      unfolding supersedingOf
+      cells-are = v .filled
 
-    module _ (q : Sets) (h : StatesPassed s (y .line) (y .at) 0 0 0 (z .n) q) where
-      transitions-refuse : (number line : ℕ) → TransitionsRefused s (z .n) (z .k) (q .line) (q .at) 0 number line → Faulty s number line
-      transitions-refuse number line t = Faulty.end σ (t .rest) above due fault
+      tell : TellWithdrawn (v .withdrawals) (w .cells)
+      tell = subst (TellWithdrawn (v .withdrawals)) (sym cells-are) (superseding-tell (z .k) (range .3) (v .withdrawals) (v .right))
+
+      states-refuse : (number line : ℕ) → StatesRefused s (w .line) (w .at) 0 (z .n) number line → Faulty s number line
+      unfolding stateLines transitionLines
+      states-refuse number line h =
+          subst (λ (x : ℕ). Faulty s x line) (sym (h .seven)) (subst (Faulty s 7) l (Faulty.state σ (h .rest) above due other none))
         where
           σ : Sheet
-          σ = upper (z .n) (z .k) (g .names) (h .states) (t .transitions)
+          σ = upper (z .n) (z .k) (g .names) (v .withdrawals) (h .states) []
 
-          above : Above s σ (t .rest)
+          above : Above s σ (h .rest)
           above = record {
             size = size;
-            right = record { range = range; names = g .right; states = h .right; transitions = t .right };
-            text = upper-text s (drop 12 s) (drop (y .at) s) (drop (q .at) s) (t .rest) (z .n) (z .k) (g .names) (h .states) (t .transitions) head (g .text) (h .text) (t .text);
+            right = record { range = range; names = g .right; withdrawals = v .right; states = h .right; transitions = tt; in-force = tt };
+            text = upper-text s (drop 12 s) (drop (y .at) s) (drop (w .at) s) (h .rest) (h .rest) (z .n) (z .k) (g .names) (v .withdrawals) (h .states) [] head (g .text) (v .text) (h .text) refl;
           }
 
-          due : EndDue σ
-          due = record { names = g .count; states = h .count }
+          due : StateDue σ
+          due = record { names = g .count; states = h .count; transitions = refl }
 
-          l : lineDue σ ≡ q .line + length (t .transitions)
-          l = omega (arith, h .next, g .next)
+          l : lineDue σ ≡ line
+          l = omega (arith, h .here, v .next, g .next)
 
-          fault : EndFault (z .n) (z .k) (leastAfter 0 (t .transitions)) (t .rest) (lineDue σ) number line
-          fault = rw l (t .fault)
+          -- where no state is read, the rest is what stands behind the withdrawals
+          other : h .states ≡ [] → getD (h .rest) 0 0 ≡ 87 → ⊥
+          other e f =
+              let t : drop (w .at) s ≡ h .rest = rw e at (h .text) in
+              v .other (sym (first-byte s (w .at)) ∙ (ap (λ (x : List ℕ). getD x 0 0) t ∙ f))
 
-      sheet-read : (table : List ℕ) → TransitionsPassed s (z .n) (z .k) (q .at) 0 (replicate 128 0) table → Means s (passed (contents z y q table))
-      unfolding numbers
-      sheet-read table t = (σ, file, holds)
-        where
-          σ : Sheet
-          σ = upper (z .n) (z .k) (g .names) (h .states) (t .transitions)
+          none : (x : State) (after : List ℕ) → FlagsRight x → h .rest ≡ stateLine (length (h .states)) x ++ after → ⊥
+          none = rw zero-add at (h .none)
 
-          file : FileIs s σ
-          file = record {
-            size = size;
-            right = record { range = range; names = g .right; states = h .right; transitions = t .right };
-            all-names = g .count;
-            all-states = h .count;
-            text = upper-text s (drop 12 s) (drop (y .at) s) (drop (q .at) s) endLine (z .n) (z .k) (g .names) (h .states) (t .transitions) head (g .text) (h .text) (t .text);
-          }
+      module _ (q : Sets) (h : StatesPassed s (w .line) (w .at) 0 0 0 (z .n) q) where
+        transitions-refuse : (number line : ℕ) → TransitionsRefused (v .withdrawals) s (z .n) (z .k) (q .line) (q .at) 0 number line → Faulty s number line
+        transitions-refuse number line t = Faulty.end σ (t .rest) above due fault
+          where
+            σ : Sheet
+            σ = upper (z .n) (z .k) (g .names) (v .withdrawals) (h .states) (t .transitions)
 
-          holds : AreContents σ (contents z y q table)
-          holds = record {
-            numbers = λ i. record { n = z .n; k = z .k; initial = (h .initials ∙ zero-add _) i; recurring = (h .recurrings ∙ zero-add _) i; table = t .filled i };
-            names = g .composed;
-          }
+            above : Above s σ (t .rest)
+            above = record {
+              size = size;
+              right = record { range = range; names = g .right; withdrawals = v .right; states = h .right; transitions = t .right; in-force = t .in-force };
+              text = upper-text s (drop 12 s) (drop (y .at) s) (drop (w .at) s) (drop (q .at) s) (t .rest) (z .n) (z .k) (g .names) (v .withdrawals) (h .states) (t .transitions) head (g .text) (v .text) (h .text) (t .text);
+            }
 
-      transitions-mean : (p : Phase (List ℕ)) → TransitionsOutcome s (z .n) (z .k) (q .line) (q .at) 0 (replicate 128 0) p → Means s (andThen p (λ table. passed (contents z y q table)))
-      transitions-mean (refused number line) t = transitions-refuse number line t
-      transitions-mean (passed table) t = sheet-read table t
+            due : EndDue σ
+            due = record { names = g .count; states = h .count }
 
-    states-mean : (p : Phase Sets) → StatesOutcome s (y .line) (y .at) 0 0 0 (z .n) p → Means s (andThen p (afterStates s z y))
-    states-mean (refused number line) h = states-refuse number line h
-    states-mean (passed q) h =
-        transitions-mean q h (transitionsAt s (z .n) (z .k) (q .line) (q .at) 0 (replicate 128 0) (length s + 1))
-        (transitions-outcome s (z .n) (z .k) (omega arith) (omega arith) (length s + 1) (q .line) (q .at) 0 (replicate 128 0) (omega arith))
+            l : lineDue σ ≡ q .line + length (t .transitions)
+            l = omega (arith, h .next, v .next, g .next)
+
+            fault : EndFault (v .withdrawals) (z .n) (z .k) (leastAfter 0 (t .transitions)) (t .rest) (lineDue σ) number line
+            fault = rw l (t .fault)
+
+        sheet-read : (table : List ℕ) → TransitionsPassed (v .withdrawals) s (z .n) (z .k) (q .at) 0 (replicate 128 0) table → Means s (passed (contents z y w q table))
+        unfolding numbers
+        sheet-read table t = (σ, file, holds)
+          where
+            σ : Sheet
+            σ = upper (z .n) (z .k) (g .names) (v .withdrawals) (h .states) (t .transitions)
+
+            file : FileIs s σ
+            file = record {
+              size = size;
+              right = record { range = range; names = g .right; withdrawals = v .right; states = h .right; transitions = t .right; in-force = t .in-force };
+              all-names = g .count;
+              all-states = h .count;
+              text = upper-text s (drop 12 s) (drop (y .at) s) (drop (w .at) s) (drop (q .at) s) endLine (z .n) (z .k) (g .names) (v .withdrawals) (h .states) (t .transitions) head (g .text) (v .text) (h .text) (t .text);
+            }
+
+            holds : AreContents σ (contents z y w q table)
+            holds = record {
+              numbers = λ i. record { n = z .n; k = z .k; initial = (h .initials ∙ zero-add _) i; recurring = (h .recurrings ∙ zero-add _) i; table = t .filled i };
+              names = g .composed;
+              superseding = cells-are;
+            }
+
+        transitions-mean : (p : Phase (List ℕ)) → TransitionsOutcome (v .withdrawals) s (z .n) (z .k) (q .line) (q .at) 0 (replicate 128 0) p → Means s (andThen p (λ table. passed (contents z y w q table)))
+        transitions-mean (refused number line) t = transitions-refuse number line t
+        transitions-mean (passed table) t = sheet-read table t
+
+      states-mean : (p : Phase Sets) → StatesOutcome s (w .line) (w .at) 0 0 0 (z .n) p → Means s (andThen p (afterStates s z y w))
+      states-mean (refused number line) h = states-refuse number line h
+      states-mean (passed q) h =
+          transitions-mean q h (transitionsAt s (w .cells) (z .n) (z .k) (q .line) (q .at) 0 (replicate 128 0) (length s + 1))
+          (transitions-outcome s (v .withdrawals) (w .cells) tell (z .n) (z .k) (omega arith) (omega arith) (length s + 1) (q .line) (q .at) 0 (replicate 128 0) (omega arith))
+
+    withdrawals-mean : (p : Phase Superseded) → WithdrawalsOutcome s (z .k) (y .line) (y .at) 0 (replicate 8 0) p → Means s (andThen p (afterWithdrawals s z y))
+    withdrawals-mean (refused number line) v = withdrawals-refuse number line v
+    withdrawals-mean (passed w) v = states-mean w v (statesAt s (w .line) (w .at) 0 0 0 (z .n)) (states-outcome s (z .n) (w .line) (w .at) 0 0 0 (omega arith))
 
   names-mean : (p : Phase Named) → NamesOutcome s 2 12 [] (z .k) p → Means s (andThen p (afterNames s z))
   names-mean (refused number line) g = names-refuse number line g
-  names-mean (passed y) g = states-mean y g (statesAt s (y .line) (y .at) 0 0 0 (z .n)) (states-outcome s (z .n) (y .line) (y .at) 0 0 0 (omega arith))
+  names-mean (passed y) g =
+      withdrawals-mean y g (withdrawalsAt s (z .k) (y .line) (y .at) 0 (replicate 8 0) (length s + 1))
+      (withdrawals-outcome s (z .k) (omega arith) (length s + 1) (y .line) (y .at) 0 (replicate 8 0) (omega arith))
 
 head-means : (s : List ℕ) → length s ≤ mostSheet → (p : Phase Sizes) → HeadOutcome s p → Means s (andThen p (afterHead s))
 head-means s size (refused number line) h = h

@@ -6,17 +6,18 @@ use mathlib.Core.List.{List, [], _++_}
 use native.Mathlib.Omega.{arith}
 use Rattle.lists.specs.AppendLaws.{append-same}
 use Rattle.automaton.specs.Graph.{InRange}
-use Rattle.format.specs.Format.{Sheet, headLine, endLine, TransitionsRight, FileIs, Faulty}
+use Rattle.format.specs.Format.{Sheet, headLine, endLine, WithdrawalsRight, TransitionsRight, FileIs, Faulty}
 use Rattle.format.specs.FormatLaws.{head-length, lines-parted}
 use Rattle.parser.specs.declared.Sizes.{Sizes}
 use Rattle.parser.specs.Parse.{sizes, headOf, Contents, parse}
 use Rattle.frame.specs.Phase.{Phase, refused, passed}
 use Rattle.parser.specs.HeadLaws.{head-right}
 use Rattle.name_lines.specs.NameUniqueLaws.{names-same}
+use Rattle.withdrawal_lines.specs.WithdrawalUniqueLaws.{withdrawals-same}
 use Rattle.state_lines.specs.StateUniqueLaws.{states-same}
 use Rattle.transition_lines.specs.TransitionUniqueLaws.{transitions-same}
 use Rattle.parser.specs.ParseLaws.{AreContents, Means, parse-means, parse-accepts}
-use Rattle.parser.specs.CompleteLaws.{faulty-parse, file-read}
+use Rattle.parser.specs.CompleteLaws.{state-opens, faulty-parse, file-read}
 
 -- ONE LINE at the top of a text is one line
 
@@ -37,10 +38,13 @@ file-unique s σ τ h g =
     let hk : σ .k ≤ 8 = h .right .range .3 in
     let hn : σ .n ≤ 16 = h .right .range .1 in
     let (names, e2) = names-same 0 [] [] (σ .names) (τ .names) _ _ (omega (arith, h .all-names)) (omega (arith, h .all-names, g .all-names)) (h .right .names) (g .right .names) e1 in
-    let (states, e3) = states-same 0 (σ .states) (τ .states) _ _ (omega (arith, h .all-states)) (omega (arith, h .all-states, g .all-states)) (h .right .states) (g .right .states) e2 in
+    let other : WithdrawalsRight (σ .k) 0 (τ .withdrawals) = rw k (g .right .withdrawals) in
+    let (withdrawals, e3) = withdrawals-same (σ .k) (omega arith) 0 0 (σ .withdrawals) (τ .withdrawals) _ _ (h .right .withdrawals) other
+    (state-opens (σ .states) 0 (omega (arith, h .all-states, h .right .range .0)) _) (state-opens (τ .states) 0 (omega (arith, g .all-states, g .right .range .0)) _) e2 in
+    let (states, e4) = states-same 0 (σ .states) (τ .states) _ _ (omega (arith, h .all-states)) (omega (arith, h .all-states, g .all-states)) (h .right .states) (g .right .states) e3 in
     let right : TransitionsRight (σ .n) (σ .k) 0 (τ .transitions) = rw (n, k) (g .right .transitions) in
-    let transitions = transitions-same (σ .n) (σ .k) (omega arith) (omega arith) 0 0 (σ .transitions) (τ .transitions) (h .right .transitions) right e3 in
-    λ i. record { n = n i; k = k i; names = names i; states = states i; transitions = transitions i }
+    let transitions = transitions-same (σ .n) (σ .k) (omega arith) (omega arith) 0 0 (σ .transitions) (τ .transitions) (h .right .transitions) right e4 in
+    λ i. record { n = n i; k = k i; names = names i; withdrawals = withdrawals i; states = states i; transitions = transitions i }
 
 -- "Each number is returned on its own "no" and on nothing else": one fault
 pub fault-unique : (s : List ℕ) (x y l m : ℕ) → Faulty s x l → Faulty s y m → (x ≡ y) × (l ≡ m)

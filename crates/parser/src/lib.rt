@@ -1,4 +1,4 @@
-// The lines of a sheet file, read from the top: questions 2 to 9.
+// The lines of a sheet file, read from the top: questions 2 to 9, 15 and 16.
 pub mod whole_file;
 
 use automaton::Numbers;
@@ -13,7 +13,7 @@ pub struct Sizes {
     pub k: usize,
 }
 
-// The answer of a whole file on the questions 2 to 9.
+// The answer of a whole file on these questions.
 pub enum File {
     Refused(Refusal),
     Is(Numbers),

@@ -7,4 +7,6 @@ pub mod ParseLaws
 pub mod CompleteLaws
 pub mod ReadLaws
 pub mod FileLaws
+pub mod NewNames
+pub mod NewNamesLaws
 pub mod Unfold

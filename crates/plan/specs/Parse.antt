@@ -1,5 +1,5 @@
 -- A plan file read from the top, line by line: questions 12 to 14 in the order in which a reader asks them. The sheet's names are given
--- composed. That this is what Plan describes is a theorem. A byte past the end is 0, and 0 stands in no line.
+-- composed, its superseding letters as cells. That this is what Plan describes is a theorem. A byte past the end is 0, and 0 stands in no line.
 use Prim.Native.Nat.{ℕ, _+_}
 use mathlib.Core.List.{List, []}
 use Rattle.columns.specs.Pair.{wordAndPair}
@@ -42,10 +42,10 @@ abbrev pub planContents : PlanLengths → List ℕ → PlanContents
 planContents z letters = record { lead = z .lead; cycle = z .cycle; letters = letters }
 
 -- the phases behind the first line
-abbrev pub afterPlanHead : List (List ℕ) → List ℕ → PlanLengths → Phase PlanContents
-afterPlanHead names p z =
-    andThen (lettersAt names p 2 11 [] (z .lead + z .cycle)) (λ y. andThen (endOf p y) (λ letters. passed (planContents z letters)))
+abbrev pub afterPlanHead : List (List ℕ) → List ℕ → List ℕ → PlanLengths → Phase PlanContents
+afterPlanHead names cells p z =
+    andThen (lettersAt names cells p 2 11 [] (z .lead + z .cycle)) (λ y. andThen (endOf p y) (λ letters. passed (planContents z letters)))
 
 -- the whole file
-unfoldable pub planOf : List (List ℕ) → List ℕ → Phase PlanContents
-planOf names p = andThen (planHeadOf p) (afterPlanHead names p)
+unfoldable pub planOf : List (List ℕ) → List ℕ → List ℕ → Phase PlanContents
+planOf names cells p = andThen (planHeadOf p) (afterPlanHead names cells p)

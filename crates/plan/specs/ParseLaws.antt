@@ -5,7 +5,8 @@ use mathlib.Core.List.{List, [], _++_, map}
 use lib.ListN.{length, take, drop, length-take, length-drop, take-append-drop}
 use native.Mathlib.Omega.{arith}
 use Rattle.names.specs.Name.{compose}
-use Rattle.format.specs.Format.{Sheet, endLine}
+use Rattle.format.specs.Format.{Sheet, WithdrawalsRight, endLine}
+use Rattle.format.specs.Withdrawals.{supersedingOf}
 use Rattle.frame.specs.Phase.{Phase, refused, passed, andThen}
 use Rattle.frame.specs.EndLaws.{end-outcome}
 use Rattle.plan.specs.declared.PlanLengths.{PlanLengths}
@@ -74,14 +75,16 @@ module _ (σ : Sheet) (p : List ℕ) (size : length p ≤ mostPlan) (z : PlanLen
   letters-mean (refused number line) h = letters-refuse number line h
   letters-mean (passed y) h = end-means y h
 
-module _ (σ : Sheet) (all : length (σ .names) ≡ σ .k) (p : List ℕ) (size : length p ≤ mostPlan) where
-  head-means : (w : Phase PlanLengths) → PlanHeadOutcome σ p w → PlanMeans σ p (andThen w (afterPlanHead (map compose (σ .names)) p))
+module _ (σ : Sheet) (all : length (σ .names) ≡ σ .k) (few : σ .k ≤ 8) (withdrawals : WithdrawalsRight (σ .k) 0 (σ .withdrawals)) (p : List ℕ)
+    (size : length p ≤ mostPlan) where
+  head-means : (w : Phase PlanLengths) → PlanHeadOutcome σ p w
+      → PlanMeans σ p (andThen w (afterPlanHead (map compose (σ .names)) (supersedingOf (σ .withdrawals)) p))
   head-means (refused number line) h = h
   head-means (passed z) h =
-      letters-mean σ p size z (h .0) (h .1) (lettersAt (map compose (σ .names)) p 2 11 [] (z .lead + z .cycle))
-      (letters-outcome σ all p (z .lead + z .cycle) 2 11 [])
+      letters-mean σ p size z (h .0) (h .1) (lettersAt (map compose (σ .names)) (supersedingOf (σ .withdrawals)) p 2 11 [] (z .lead + z .cycle))
+      (letters-outcome σ all few withdrawals p (z .lead + z .cycle) 2 11 [])
 
   -- EVERY FILE is a plan file, whose letters are read, or has a fault, which is the refusal
-  pub plan-means : PlanMeans σ p (planOf (map compose (σ .names)) p)
+  pub plan-means : PlanMeans σ p (planOf (map compose (σ .names)) (supersedingOf (σ .withdrawals)) p)
   unfolding planOf
   plan-means = head-means (planHeadOf p) (plan-head-outcome p σ)

@@ -6,7 +6,9 @@ use lib.ListN.{length, drop, length-take, length-drop, take-append-drop}
 use native.Mathlib.Omega.{arith}
 use Rattle.names.specs.Name.{compose}
 use Rattle.format.specs.Format.{Sheet}
+use Rattle.format.specs.Withdrawals.{supersedingOf}
 use Rattle.frame.specs.Phase.{Phase, refused, passed}
+use Rattle.parser.specs.LettersOf.{LettersIn}
 use Rattle.plan.specs.declared.Planned.{Planned}
 use Rattle.plan.specs.declared.Planned.the-variants.{Refused, Is}
 use Rattle.plan_lines.specs.PlanLines.{mostPlan}
@@ -35,6 +37,10 @@ means-read σ p t u (passed x) (n, plan) (Is z) (e, b) =
           ∙ (append-assoc (leadOf x) (cycleOf x) (drop (x .lead + x .cycle) t) ∙ ap (λ (y : ℕ). leadOf x ++ (cycleOf x ++ drop y t)) (sym k))),
     )
 
-pub reads : (σ : Sheet) → length (σ .names) ≡ σ .k → (p t u : List ℕ) → length p ≤ mostPlan → (r : Planned)
-    → PlanRead (planOf (map compose (σ .names)) p) t u r → ReadsPlan σ p t u r
-reads σ all p t u size r e = means-read σ p t u (planOf (map compose (σ .names)) p) (plan-means σ all p size) r e
+-- over a sheet whose letters stand in rows
+pub reads : {σ : Sheet} {k : ℕ} {rows : List ℕ} → LettersIn σ k rows → k ≤ 8 → (p t u : List ℕ) → length p ≤ mostPlan → (r : Planned)
+    → PlanRead (planOf (map compose (σ .names)) (supersedingOf (σ .withdrawals)) p) t u r → ReadsPlan σ p t u r
+reads {σ} h few p t u size r e =
+    let k = h .letters in
+    means-read σ p t u (planOf (map compose (σ .names)) (supersedingOf (σ .withdrawals)) p)
+    (plan-means σ (h .all-names ∙ sym (h .letters)) (omega arith) (h .withdrawals) p size) r e

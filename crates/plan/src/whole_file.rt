@@ -5,7 +5,7 @@ ghost use Rattle.name_rows.specs.Rows.{OnlyRow};
 ghost use Rattle.format.specs.Format.{Sheet};
 ghost use Rattle.plan_lines.specs.PlanLines.{mostPlan};
 ghost use Rattle.plan.specs.Answers.{LengthsFit};
-ghost use Rattle.parser.specs.LettersOf.{NamesIn};
+ghost use Rattle.parser.specs.LettersOf.{LettersIn};
 ghost use Rattle.plan.specs.Read.{ReadsPlan};
 use super::PlanLengths;
 use super::Planned;
@@ -17,12 +17,12 @@ use frame::first_line;
 use plan_lines::Letters;
 use plan_lines::read_letters;
 
-// The plan, over the letters whose composed names the first k rows hold: they hold them still. Only row k is written, whatever the rows
-// hold. A refusal leaves the letters all zero.
+// The plan, over the letters whose composed names the first k rows hold, with the superseding letters behind the rows: they stand there
+// still. Only row k is written, whatever the rows hold. A refusal leaves the letters all zero.
 pub fn read_plan(p: &[u8], rows: &mut [u8], k: usize, letters: &mut [u8]) -> Planned
-    requires { ⌜ (length (now p) ≤ mostPlan) × (k ≤ 8) × (216 ≤ length (now rows)) × (400 ≤ length (now letters)) ⌝ }
-    ensures { λ r. ⌜ LengthsFit r × ((σ : Sheet) → NamesIn σ k (now (rows .entry))
-        → NamesIn σ k (now (rows .exit)) × ReadsPlan σ (now (p .entry)) (now (letters .entry)) (now (letters .exit)) r)
+    requires { ⌜ (length (now p) ≤ mostPlan) × (k ≤ 8) × (224 ≤ length (now rows)) × (400 ≤ length (now letters)) ⌝ }
+    ensures { λ r. ⌜ LengthsFit r × ((σ : Sheet) → LettersIn σ k (now (rows .entry))
+        → LettersIn σ k (now (rows .exit)) × ReadsPlan σ (now (p .entry)) (now (letters .entry)) (now (letters .exit)) r)
         × OnlyRow k (now (rows .entry)) (now (rows .exit)) ⌝ }
 {
     let bounds = Bounds {

@@ -1,5 +1,5 @@
 -- The name lines of a plan file, read from the top: questions 12 and 14 in the order in which a reader asks them. The sheet's names are
--- given composed. That this is what PlanLines describes is a theorem. A byte past the end is 0, and 0 stands in no line.
+-- given composed, its superseding letters as cells. That this is what PlanLines describes is a theorem. A byte past the end is 0, and 0 stands in no line.
 use Prim.Native.Nat.{ℕ, zero, suc, _+_, _≤_, _<_}
 use mathlib.Core.Path.{_≡_}
 use mathlib.Core.List.{List, [], _∷_, _++_}
@@ -12,12 +12,13 @@ use Rattle.names.specs.Name.{compose}
 use Rattle.names.specs.Scan.{nameEndAt, withEnding}
 use Rattle.frame.specs.Phase.{Phase, refused, passed}
 use Rattle.name_rows.specs.Rows.{letterOf}
+use Rattle.superseding.specs.Superseding.{finalLetter}
 use Rattle.plan_lines.specs.declared.LetterLine.{LetterLine}
 use Rattle.plan_lines.specs.declared.LetterLine.the-variants as L
 use Rattle.plan_lines.specs.declared.Letters.{Letters}
 use Rattle.plan_lines.specs.declared.Letters.the-variants as A
 
--- what the name lines give: the letters that the names stand for, and the next line's position and number
+-- what the name lines give: the letters that finally stand for the names, and the next line's position and number
 pub record Lettered : Type 0 where
   pub letters : List ℕ
   pub at : ℕ
@@ -31,11 +32,13 @@ lettered letters at line = record { letters = letters; at = at; line = line }
 abbrev pub letterFrom : List (List ℕ) → List ℕ → ℕ → ℕ → ℕ
 letterFrom names p at e = letterOf names (compose (stretch p at e))
 
--- a line with a name: its letter, and where its LF stands
+-- a line with a name: the letter that finally stands for it, and where its LF stands
 -- "Is each plan line of its form? No: 12. .. Is each name known? No: 14."
-unfoldable pub letterLineAt : List (List ℕ) → List ℕ → ℕ → LetterLine
-letterLineAt names p at =
-    withEnding (nameEndAt p at) (λ e. choose (ltb (letterFrom names p at e) (length names)) (L.Is (letterFrom names p at e) e) L.Unknown) L.Bad
+unfoldable pub letterLineAt : List (List ℕ) → List ℕ → List ℕ → ℕ → LetterLine
+letterLineAt names cells p at =
+    withEnding (nameEndAt p at)
+    (λ e. choose (ltb (letterFrom names p at e) (length names)) (L.Is (finalLetter cells (letterFrom names p at e)) e) L.Unknown)
+    L.Bad
 
 -- what to do with a letter that was read, with an unknown name, and where there is no name
 abbrev pub withLetter : {A : Type 0} → LetterLine → (ℕ → ℕ → A) → A → A → A
@@ -44,16 +47,16 @@ withLetter L.Unknown go unknown bad = unknown
 withLetter L.Bad go unknown bad = bad
 
 -- `todo` name lines, the first of which is line `line` and stands at `at`, after those of `letters`
-unfoldable pub lettersAt : List (List ℕ) → List ℕ → ℕ → ℕ → List ℕ → ℕ → Phase Lettered
-lettersAt names p line at letters zero = passed (lettered letters at line)
-lettersAt names p line at letters (suc todo) =
-    withLetter (letterLineAt names p at) (λ l e. lettersAt names p (line + 1) (e + 1) (letters ++ (l ∷ [])) todo) (refused 14 line) (refused 12 line)
+unfoldable pub lettersAt : List (List ℕ) → List ℕ → List ℕ → ℕ → ℕ → List ℕ → ℕ → Phase Lettered
+lettersAt names cells p line at letters zero = passed (lettered letters at line)
+lettersAt names cells p line at letters (suc todo) =
+    withLetter (letterLineAt names cells p at) (λ l e. lettersAt names cells p (line + 1) (e + 1) (letters ++ (l ∷ [])) todo) (refused 14 line) (refused 12 line)
 
--- a line that is read is one of k letters, and its LF stands within so many bytes
-abbrev pub LineFits : ℕ → ℕ → LetterLine → Type 0
-LineFits n k (L.Is l e) = (l < k) × (e < n)
-LineFits n k L.Unknown = Unit
-LineFits n k L.Bad = Unit
+-- a line that is read is one of eight letters, and its LF stands within so many bytes
+abbrev pub LineFits : ℕ → LetterLine → Type 0
+LineFits n (L.Is l e) = (l < 8) × (e < n)
+LineFits n L.Unknown = Unit
+LineFits n L.Bad = Unit
 
 -- where the line after the name lines stands
 abbrev pub PlaceFits : Letters → Type 0

@@ -18,7 +18,9 @@ use Rattle.names.specs.Scan.{nameEndAt, withEnding}
 use Rattle.names.specs.ScanLaws.{NameAt, name-is, name-ends, no-name}
 use Rattle.names.specs.declared.Ending.{Ending}
 use Rattle.names.specs.declared.Ending.the-variants as E
-use Rattle.format.specs.Format.{Sheet, NamesRight}
+use Rattle.superseding.specs.Superseding.{finalLetter}
+use Rattle.format.specs.Format.{Sheet, NamesRight, WithdrawalsRight}
+use Rattle.format.specs.Withdrawals.{supersedingOf}
 use Rattle.format.specs.StandsFor.{StandsFor}
 use Rattle.frame.specs.Phase.{Phase, refused, passed}
 use Rattle.name_rows.specs.Rows.{letterOf}
@@ -26,7 +28,7 @@ use Rattle.plan_lines.specs.PlanLines.{planLines, Known, none, more, Pla
 use Rattle.plan_lines.specs.declared.LetterLine.{LetterLine}
 use Rattle.plan_lines.specs.declared.LetterLine.the-variants as L
 use Rattle.plan_lines.specs.LetterLines.{Lettered, letterFrom, letterLineAt, withLetter, lettersAt}
-use Rattle.plan_lines.specs.KnownLaws.{found-stands, found-none, stands-found}
+use Rattle.plan_lines.specs.KnownLaws.{found-stands, found-none, named-found, stands-found}
 
 -- THE PHASE, after some letters: the names of the lines that it read, and their letters
 pub record LettersPassed (σ : Sheet) (p : List ℕ) (line at : ℕ) (before : List ℕ) (todo : ℕ) (y : Lettered) : Type 0 where
@@ -76,9 +78,12 @@ module _ (σ : Sheet) (p : List ℕ) (line at : ℕ) (before : List ℕ) (todo e
     fault = g .fault;
   }
 
-module _ (σ : Sheet) (all : length (σ .names) ≡ σ .k) where
+module _ (σ : Sheet) (all : length (σ .names) ≡ σ .k) (few : σ .k ≤ 8) (withdrawals : WithdrawalsRight (σ .k) 0 (σ .withdrawals)) where
   abbrev composed : List (List ℕ)
   composed = map compose (σ .names)
+
+  abbrev cells : List ℕ
+  cells = supersedingOf (σ .withdrawals)
 
   -- ONE LINE
   abbrev LineOutcome : List ℕ → ℕ → LetterLine → Type 0
@@ -86,32 +91,32 @@ module _ (σ : Sheet) (all : length (σ .names) ≡ σ .k) where
   LineOutcome p at L.Unknown = PlanNameFault σ (drop at p) 14
   LineOutcome p at L.Bad = PlanNameFault σ (drop at p) 12
 
-  line-outcome : (p : List ℕ) (at : ℕ) → LineOutcome p at (letterLineAt composed p at)
+  line-outcome : (p : List ℕ) (at : ℕ) → LineOutcome p at (letterLineAt composed cells p at)
   unfolding letterLineAt
   line-outcome p at = by (nameEndAt p at) refl
     where
       tell : (e : ℕ) → NameAt p at e → (t : Bool) → ltb (letterFrom composed p at e) (length composed) ≡ t
-          → LineOutcome p at (choose t (L.Is (letterFrom composed p at e) e) L.Unknown)
-      tell e h true q = (h, found-stands σ all (stretch p at e) (h .name) (ltb-true (letterFrom composed p at e) (length composed) q))
+          → LineOutcome p at (choose t (L.Is (finalLetter cells (letterFrom composed p at e)) e) L.Unknown)
+      tell e h true q = (h, found-stands σ all (stretch p at e) few withdrawals (h .name) (ltb-true (letterFrom composed p at e) (length composed) q))
       tell e h false q =
           let n = ltb-false (letterFrom composed p at e) (length composed) q in
           unknown-name (stretch p at e) (drop (e + 1) p) (h .name) (h .line) (found-none σ all (stretch p at e) (λ k. omega arith))
 
       by : (w : Ending) → nameEndAt p at ≡ w
-          → LineOutcome p at (withEnding w (λ e. choose (ltb (letterFrom composed p at e) (length composed)) (L.Is (letterFrom composed p at e) e) L.Unknown) L.Bad)
+          → LineOutcome p at (withEnding w (λ e. choose (ltb (letterFrom composed p at e) (length composed)) (L.Is (finalLetter cells (letterFrom composed p at e)) e) L.Unknown) L.Bad)
       by (E.At e) q = tell e (name-is p at e q) (ltb (letterFrom composed p at e) (length composed)) refl
       by E.Bad q = wrong-name (λ x after is t. no-name p x after at q is t)
 
   -- THE PHASE
-  pub letters-outcome : (p : List ℕ) (todo line at : ℕ) (before : List ℕ) → LettersOutcome σ p line at before todo (lettersAt composed p line at before todo)
+  pub letters-outcome : (p : List ℕ) (todo line at : ℕ) (before : List ℕ) → LettersOutcome σ p line at before todo (lettersAt composed cells p line at before todo)
   unfolding lettersAt planLines
   letters-outcome p zero line at before =
       record { names = []; letters = []; known = none; count = refl; text = refl; next = omega arith; are = rw append-nil }
   letters-outcome p (suc todo) line at before =
-      by (letterLineAt composed p at) (line-outcome p at) (λ l e. letters-outcome p todo (line + 1) (e + 1) (before ++ (l ∷ [])))
+      by (letterLineAt composed cells p at) (line-outcome p at) (λ l e. letters-outcome p todo (line + 1) (e + 1) (before ++ (l ∷ [])))
     where
       go : ℕ → ℕ → Phase Lettered
-      go l e = lettersAt composed p (line + 1) (e + 1) (before ++ (l ∷ [])) todo
+      go l e = lettersAt composed cells p (line + 1) (e + 1) (before ++ (l ∷ [])) todo
 
       -- nothing of the phase is read yet
       at-once : {number : ℕ} → PlanNameFault σ (drop at p) number → LettersRefused σ p line at (suc todo) number line
@@ -127,52 +132,54 @@ module _ (σ : Sheet) (all : length (σ .names) ≡ σ .k) where
 
   module _ (p : List ℕ) (line at : ℕ) (before : List ℕ) (todo : ℕ) where
     line-read : (x rest : List ℕ) → IsName x → drop at p ≡ x ++ (lf ∷ rest)
-        → letterLineAt composed p at
-        ≡ choose (ltb (letterOf composed (compose x)) (length composed)) (L.Is (letterOf composed (compose x)) (at + length x)) L.Unknown
+        → letterLineAt composed cells p at
+        ≡ choose (ltb (letterOf composed (compose x)) (length composed)) (L.Is (finalLetter cells (letterOf composed (compose x))) (at + length x)) L.Unknown
     unfolding letterLineAt
     line-read x rest is e =
         let w = name-ends p x rest at is e in
         let s = stretch-is p at x (lf ∷ rest) e in
         simp (w, s)
 
-    line-none : ((x after : List ℕ) → IsName x → drop at p ≡ x ++ (lf ∷ after) → ⊥) → letterLineAt composed p at ≡ L.Bad
+    line-none : ((x after : List ℕ) → IsName x → drop at p ≡ x ++ (lf ∷ after) → ⊥) → letterLineAt composed cells p at ≡ L.Bad
     unfolding letterLineAt
     line-none f = by (nameEndAt p at) refl
       where
         by : (w : Ending) → nameEndAt p at ≡ w
-            → withEnding w (λ e. choose (ltb (letterFrom composed p at e) (length composed)) (L.Is (letterFrom composed p at e) e) L.Unknown) L.Bad ≡ L.Bad
+            → withEnding w (λ e. choose (ltb (letterFrom composed p at e) (length composed)) (L.Is (finalLetter cells (letterFrom composed p at e)) e) L.Unknown) L.Bad ≡ L.Bad
         by (E.At e) q = let h = name-is p at e q in absurd (f (stretch p at e) (drop (e + 1) p) (h .name) (h .line))
         by E.Bad q = refl
 
-    line-unknown : (x after : List ℕ) → IsName x → drop at p ≡ x ++ (lf ∷ after) → ((l : ℕ) → StandsFor σ x l → ⊥) → letterLineAt composed p at ≡ L.Unknown
+    line-unknown : (x after : List ℕ) → IsName x → drop at p ≡ x ++ (lf ∷ after) → ((l : ℕ) → StandsFor σ x l → ⊥) → letterLineAt composed cells p at ≡ L.Unknown
     line-unknown x after is e f =
         let n : length composed ≤ letterOf composed (compose x) = by (decLt (letterOf composed (compose x)) (length composed)) in
         line-read x after is e ∙ simp (le-ltb (letterOf composed (compose x)) (length composed) n)
       where
         by : Dec (letterOf composed (compose x) < length composed) → length composed ≤ letterOf composed (compose x)
-        by (yes l) = absurd (f (letterOf composed (compose x)) (found-stands σ all x is l))
+        by (yes l) = absurd (f (finalLetter cells (letterOf composed (compose x))) (found-stands σ all x few withdrawals is l))
         by (no l) = omega arith
 
-    pub letters-fault : {number : ℕ} → PlanNameFault σ (drop at p) number → lettersAt composed p line at before (suc todo) ≡ refused number line
+    pub letters-fault : {number : ℕ} → PlanNameFault σ (drop at p) number → lettersAt composed cells p line at before (suc todo) ≡ refused number line
     unfolding lettersAt
     letters-fault (wrong-name f) = simp (line-none f)
     letters-fault (unknown-name x after is e f) = simp (line-unknown x after is e f)
 
     letter-next : NamesRight [] (σ .names) → (x rest : List ℕ) (l : ℕ) → StandsFor σ x l → drop at p ≡ x ++ (lf ∷ rest)
-        → lettersAt composed p line at before (suc todo) ≡ lettersAt composed p (line + 1) (at + length x + 1) (before ++ (l ∷ [])) todo
+        → lettersAt composed cells p line at before (suc todo) ≡ lettersAt composed cells p (line + 1) (at + length x + 1) (before ++ (l ∷ [])) todo
     unfolding lettersAt
     letter-next right x rest l s e =
-        let k : letterOf composed (compose x) ≡ l = stands-found σ all x right l s in
+        let named = named-found σ all x right l s in
         let m = s .letter in
-        let n : letterLineAt composed p at ≡ L.Is l (at + length x) =
-        line-read x rest (s .is-name) e ∙ simp (k, lt-ltb l (length composed) (omega (arith, length-map (σ .names) compose))) in
+        let b : letterOf composed (compose x) < length composed = omega (arith, length-map (σ .names) compose) in
+        let n : letterLineAt composed cells p at ≡ L.Is l (at + length x) =
+        line-read x rest (s .is-name) e
+        ∙ simp (lt-ltb (letterOf composed (compose x)) (length composed) b, stands-found σ all x few withdrawals right l s) in
         simp n
 
   -- where the phase stands behind the lines of some names
   pub letters-along : NamesRight [] (σ .names) → (p rest : List ℕ) {names : List (List ℕ)} {letters : List ℕ} (todo line at : ℕ) (before : List ℕ)
       → Known σ names letters → drop at p ≡ planLines names ++ rest
       → (behind : ℕ) × (drop behind p ≡ rest)
-      × (lettersAt composed p line at before (length names + todo) ≡ lettersAt composed p (line + length names) behind (before ++ letters) todo)
+      × (lettersAt composed cells p line at before (length names + todo) ≡ lettersAt composed cells p (line + length names) behind (before ++ letters) todo)
   unfolding planLines
   letters-along right p rest todo line at before none e = (at, e, simp (zero-add, add-zero, append-nil))
   letters-along right p rest todo line at before (more {x} {l} {xs} {ls} s k) e =

@@ -4,6 +4,7 @@ ghost use mathlib.Core.List.{List, []};
 ghost use Prim.Native.Nat.{ℕ, _<_, _≤_, _^_};
 ghost use lib.ListN.{length};
 ghost use Rattle.name_rows.specs.Rows.{HoldNames, OnlyRow};
+ghost use Rattle.superseding.specs.Superseding.{supersedingIn};
 ghost use Rattle.plan_lines.specs.PlanLines.{mostPlan};
 ghost use Rattle.plan_lines.specs.LetterLines.{letterLineAt, lettersAt, LineFits, LettersRead, PlaceFits};
 use frame::Position;
@@ -13,7 +14,7 @@ use names::Ending;
 
 // A line with a name.
 pub enum LetterLine {
-    // The letter that it stands for, and the position of its LF.
+    // The letter that finally stands for it, and the position of its LF.
     Is(usize, usize),
     // It is no letter's name.
     Unknown,
@@ -27,12 +28,12 @@ pub enum Letters {
     Are(Position),
 }
 
-// The line at `at`. Where the first k rows hold the composed names of k letters, they hold them still; the line's own name goes into row k,
-// and no other byte of the rows changes, whatever they hold.
+// The line at `at`. Where the first k rows hold the composed names of k letters, they hold them still; the superseding letters stand behind
+// the rows. The line's own name goes into row k, and no other byte changes, whatever the rows hold.
 fn letter_line(p: &[u8], at: usize, rows: &mut [u8], k: usize) -> LetterLine
-    requires { ⌜ (at < 2 ^ 30) × (k ≤ 8) × (216 ≤ length (now rows)) ⌝ }
-    ensures { λ r. ⌜ LineFits (length (now (p .entry))) k r × ((names : List (List ℕ)) → length names ≡ k → HoldNames names (now (rows .entry))
-        → (r ≡ letterLineAt names (now (p .entry)) at) × HoldNames names (now (rows .exit)))
+    requires { ⌜ (at < 2 ^ 30) × (k ≤ 8) × (224 ≤ length (now rows)) ⌝ }
+    ensures { λ r. ⌜ LineFits (length (now (p .entry))) r × ((names : List (List ℕ)) → length names ≡ k → HoldNames names (now (rows .entry))
+        → (r ≡ letterLineAt names (supersedingIn (now (rows .entry))) (now (p .entry)) at) × HoldNames names (now (rows .exit)))
         × OnlyRow k (now (rows .entry)) (now (rows .exit)) ⌝ }
 {
     let Ending::At(e) = names::name_end(p, at) else {
@@ -40,13 +41,13 @@ fn letter_line(p: &[u8], at: usize, rows: &mut [u8], k: usize) -> LetterLine
     };
     let l = letter_of(rows, k, p, at, e);
     if l < k {
-        return LetterLine::Is(l, e);
+        return LetterLine::Is(superseding::final_letter(rows, l), e);
     }
     LetterLine::Unknown
 }
 
-// The lines of `count` names: the letters that they stand for go into the buffer, which a refusal leaves all zero. Names that the first k
-// rows hold they hold still; only row k is written, whatever the rows hold.
+// The lines of `count` names: the letters that finally stand for them go into the buffer, which a refusal leaves all zero. Names that the
+// first k rows hold they hold still; only row k is written, whatever the rows hold.
 pub fn read_letters(
     p: &[u8],
     rows: &mut [u8],
@@ -54,9 +55,10 @@ pub fn read_letters(
     count: usize,
     letters: &mut [u8],
 ) -> Letters
-    requires { ⌜ (length (now p) ≤ mostPlan) × (k ≤ 8) × (216 ≤ length (now rows)) × (count ≤ length (now letters)) × (count ≤ 400) ⌝ }
+    requires { ⌜ (length (now p) ≤ mostPlan) × (k ≤ 8) × (224 ≤ length (now rows)) × (count ≤ length (now letters)) × (count ≤ 400) ⌝ }
     ensures { λ r. ⌜ PlaceFits r × ((names : List (List ℕ)) → length names ≡ k → HoldNames names (now (rows .entry))
-        → HoldNames names (now (rows .exit)) × LettersRead (lettersAt names (now (p .entry)) 2 11 [] count) count (now (letters .entry)) (now (letters .exit)) r)
+        → HoldNames names (now (rows .exit))
+        × LettersRead (lettersAt names (supersedingIn (now (rows .entry))) (now (p .entry)) 2 11 [] count) count (now (letters .entry)) (now (letters .exit)) r)
         × OnlyRow k (now (rows .entry)) (now (rows .exit)) ⌝ }
 {
     let mut line = 2;

@@ -7,7 +7,7 @@ use lib.ListN.{length, getD, take, drop, replicate, length-append, List·getD-ap
 use lib.Seq.{take-at, drop-at, getD-append-add, getD-drop}
 use native.Mathlib.Omega.{arith}
 use native.Mathlib.Decide.{decLt}
-use Rattle.format.specs.Format.{Sheet}
+use Rattle.format.specs.Format.{Sheet, WithdrawalsRight}
 use Rattle.passes.specs.Letter.{letterAt}
 use Rattle.plan.specs.Plan.{PlanIs}
 use Rattle.plan_lines.specs.KnownLaws.{known-below}
@@ -15,7 +15,7 @@ use Rattle.passes.specs.declared.Verdict.{Verdict}
 use Rattle.passes.specs.TableRun.{LettersFit, wordOf, TableJudges}
 
 -- a buffer that was all zero, with the letters of a plan in front
-module _ (σ : Sheet) (k : σ .k ≤ 8) (p lead cycle : List ℕ) (plan : PlanIs σ p lead cycle) (n m c : ℕ) (u : List ℕ)
+module _ (σ : Sheet) (k : σ .k ≤ 8) (right : WithdrawalsRight (σ .k) 0 (σ .withdrawals)) (p lead cycle : List ℕ) (plan : PlanIs σ p lead cycle) (n m c : ℕ) (u : List ℕ)
     (lead-is : m ≡ length lead) (cycle-is : c ≡ length cycle) (is : u ≡ lead ++ (cycle ++ drop (m + c) (replicate n 0))) where
   abbrev behind : List ℕ
   behind = drop (m + c) (replicate n 0)
@@ -29,7 +29,7 @@ module _ (σ : Sheet) (k : σ .k ≤ 8) (p lead cycle : List ℕ) (plan : PlanIs
       by : Dec (i < length (lead ++ cycle)) → getD u i 0 < 8
       by (yes l) =
           let e = ap (λ (y : List ℕ). getD y i 0) in-front ∙ List·getD-append (lead ++ cycle) (behind) 0 i l in
-          omega (arith, known-below σ (plan .known) i l)
+          omega (arith, known-below σ right (plan .known) i l)
       by (no l) =
           let j = i - length (lead ++ cycle) in
           let e : i ≡ length (lead ++ cycle) + j = omega arith in

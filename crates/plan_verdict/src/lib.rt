@@ -4,7 +4,7 @@ ghost use Prim.Native.Nat.{_≤_};
 ghost use lib.ListN.{length};
 ghost use Rattle.name_rows.specs.Rows.{OnlyRow};
 ghost use Rattle.format.specs.Format.{Sheet};
-ghost use Rattle.parser.specs.LettersOf.{NamesIn};
+ghost use Rattle.parser.specs.LettersOf.{LettersIn};
 ghost use Rattle.plan_lines.specs.PlanLines.{mostPlan};
 ghost use Rattle.filling.specs.TrackerTables.{trackerTables};
 ghost use Rattle.passes.specs.TableRun.{TablesFit};
@@ -31,8 +31,8 @@ pub fn judge_plan(
     count: usize,
 ) -> Outcome
     requires { ⌜ (length (now plan) ≤ mostPlan) × TablesFit (now tuples) (now nexts) count ⌝ }
-    requires { ⌜ (216 ≤ length (now rows)) × (k ≤ 8) × ((σ : Sheet) × NamesIn σ k (now rows)) ⌝ }
-    ensures { λ r. ⌜ ((σ : Sheet) → NamesIn σ k (now (rows .entry))
+    requires { ⌜ (224 ≤ length (now rows)) × (k ≤ 8) × ((σ : Sheet) × LettersIn σ k (now rows)) ⌝ }
+    ensures { λ r. ⌜ ((σ : Sheet) → LettersIn σ k (now (rows .entry))
         → PlanJudged σ (now (plan .entry)) (now (tuples .entry)) (now (nexts .entry)) count r) × OnlyRow k (now (rows .entry)) (now (rows .exit)) ⌝ }
 {
     let mut letters = [0u8; 400];

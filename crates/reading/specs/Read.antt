@@ -1,8 +1,7 @@
 -- What the questions behind 1 answer on a sheet file, and what the tables hold then.
-use Prim.Native.Nat.{ℕ, _*_}
+use Prim.Native.Nat.{ℕ}
 use mathlib.Core.Path.{_≡_}
 use mathlib.Core.List.{List}
-use lib.ListN.{drop}
 use Rattle.gate.specs.Gate.{refusal, cleared}
 use Rattle.gate.specs.declared.Refusal.{Refusal}
 use Rattle.automaton.specs.declared.Numbers.{Numbers}
@@ -13,7 +12,7 @@ use Rattle.reading.specs.declared.Read.{Read}
 use Rattle.reading.specs.declared.Read.the-variants.{Refused, Is}
 use Rattle.format.specs.Format.{Sheet, FileIs, Faulty}
 use Rattle.format.specs.Numbers.{numbers}
-use Rattle.parser.specs.LettersOf.{NamesIn}
+use Rattle.parser.specs.LettersOf.{LettersIn, BehindNames}
 
 -- QUESTIONS 2 TO 10 on a sheet file: s is the file of σ, and no two walks meet
 pub record Accepted (s : List ℕ) (σ : Sheet) : Type 0 where
@@ -29,7 +28,7 @@ pub data Refuses (s : List ℕ) (before after : WitnessTables) (r : Refusal) : T
 pub record ReadTables : Type 0 where
   -- the lent table of successor sets
   pub successors : List ℕ
-  -- the composed names
+  -- the composed names, and the superseding letters
   pub rows : List ℕ
   -- the lent witness
   pub witness : WitnessTables
@@ -48,8 +47,8 @@ pub record SheetRead (s : List ℕ) (before after : ReadTables) (a : Numbers) : 
   pub are : AreNumbers (numbers sheet) a
   pub successors : after .successors ≡ lentTable (numbers sheet .table) (before .successors)
   pub witness : after .witness ≡ clearedWitness (before .witness)
-  pub names : NamesIn sheet (a .k) (after .rows)
-  pub behind : drop (24 * a .k) (after .rows) ≡ drop (24 * a .k) (cleared (before .rows))
+  pub names : LettersIn sheet (a .k) (after .rows)
+  pub behind : BehindNames sheet (a .k) (before .rows) (after .rows)
 
 -- the answer of questions 2 to 10, in tables that are long enough, with the names
 abbrev pub ReadsNamed : List ℕ → ReadTables → ReadTables → Read → Type 0

@@ -96,9 +96,9 @@ named-cleared s before after (R.Is a) h = record {
 
 -- the tables once they are cleared
 module _ (before : ReadTables) {zeroed : ReadTables} (e : zeroed ≡ lentCleared before) where
-  pub ready-to-read : EnoughForSheet (before .successors) (before .witness) × (192 ≤ length (before .rows))
+  pub ready-to-read : EnoughForSheet (before .successors) (before .witness) × (224 ≤ length (before .rows))
       → EnoughForSheet (zeroed .successors) (zeroed .witness)
-      × (192 ≤ length (zeroed .rows))
+      × (224 ≤ length (zeroed .rows))
       × (zeroed .successors ≡ cleared (zeroed .successors))
       × (zeroed .witness ≡ clearedWitness (zeroed .witness))
   ready-to-read (long, room) =

@@ -26,7 +26,7 @@ fn read_cleared(
     one: &mut [u16],
     other: &mut [u16],
 ) -> Read
-    requires { ⌜ EnoughForSheet (now table) (witnessTables (now word) (now one) (now other)) × (192 ≤ length (now rows)) × (now table ≡ cleared (now table))
+    requires { ⌜ EnoughForSheet (now table) (witnessTables (now word) (now one) (now other)) × (224 ≤ length (now rows)) × (now table ≡ cleared (now table))
         × (witnessTables (now word) (now one) (now other) ≡ clearedWitness (witnessTables (now word) (now one) (now other))) ⌝ }
     ensures { λ r. ⌜ ReadsNamed (now (sheet .entry))
         (readTables (now (table .entry)) (now (rows .entry)) (witnessTables (now (word .entry)) (now (one .entry)) (now (other .entry))))
@@ -59,7 +59,7 @@ pub fn read_long(
     one: &mut [u16],
     other: &mut [u16],
 ) -> Read
-    requires { ⌜ EnoughForSheet (now table) (witnessTables (now word) (now one) (now other)) × (192 ≤ length (now rows)) ⌝ }
+    requires { ⌜ EnoughForSheet (now table) (witnessTables (now word) (now one) (now other)) × (224 ≤ length (now rows)) ⌝ }
     ensures { λ r. ⌜ ReadsNamed (now (sheet .entry))
         (readTables (now (table .entry)) (now (rows .entry)) (witnessTables (now (word .entry)) (now (one .entry)) (now (other .entry))))
         (readTables (now (table .exit)) (now (rows .exit)) (witnessTables (now (word .exit)) (now (one .exit)) (now (other .exit)))) r ⌝ }

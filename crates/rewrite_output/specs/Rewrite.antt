@@ -18,7 +18,7 @@ longestRewrite = 22960
 
 -- WHAT `rewrite` PRINTS for the input s
 pub data RewriteOutput (s text : List ℕ) : Type 0 where
-  -- 2 to 9
+  -- 2 to 9, 15 and 16
   refused : (number line : ℕ) → Faulty s number line → text ≡ refusalLine number line → RewriteOutput s text
   -- 10, with its witness in some tables
   meeting : (σ : Sheet) → FileIs s σ → (before after : WitnessTables) (r : Refusal) → Meets (graphOf (numbers σ)) before after r

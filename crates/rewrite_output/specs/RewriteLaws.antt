@@ -1,7 +1,7 @@
 -- What `rewrite` prints: one line for an input that is too long, each number of a witness whole, and the ends of the call. Assumes nothing.
 use Prim.Native.Nat.{ℕ, _+_, _≤_, _<_}
 use mathlib.Core.Path.{_≡_, refl, ap, ap₂, subst, _∙_}
-use mathlib.Core.Logic.{_↔_}
+use mathlib.Core.Logic.{⊎-elim, _↔_}
 use mathlib.Core.List.{List}
 use native.Mathlib.Nat.{zero-add}
 use native.Mathlib.Omega.{arith}
@@ -79,7 +79,7 @@ module _ {s : List ℕ} {before after : WitnessTables} {r : Refusal} where
   refused-output : Refuses s before after r → RewriteOutput s (refusalText r after)
   refused-output (Refuses.faulty number line f e z) =
       let is : refusalText r after ≡ refusalLine number line =
-      ap (λ (x : Refusal). refusalText x after) e ∙ text-other (refusal number line) after (λ n. omega (arith, fault-number f .1)) in
+      ap (λ (x : Refusal). refusalText x after) e ∙ text-other (refusal number line) after (λ n. ⊎-elim (λ a. omega arith) (λ a. omega arith) (fault-number f .2)) in
       RewriteOutput.refused number line f is
   refused-output (Refuses.meeting σ f m) = RewriteOutput.meeting σ f before after r m (text-ten r after (m .number))
 

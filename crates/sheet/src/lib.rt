@@ -25,6 +25,6 @@ pub fn read_sheet(
             length: 0,
         });
     }
-    let mut rows = [0u8; 192];
+    let mut rows = [0u8; 224];
     read_long(sheet, table, &mut rows, word, one, other)
 }

@@ -4,11 +4,23 @@ ghost use Prim.Native.Nat.{_+_, _≤_, _<_};
 ghost use lib.ListN.{length};
 ghost use lib.Seq.{sets};
 ghost use mathlib.Core.List.{[], _∷_};
-ghost use Rattle.columns.specs.Line.{numbersLine};
+ghost use Rattle.text.specs.Bytes.{lf};
+ghost use Rattle.columns.specs.Line.{fields, numbersLine};
 ghost use Rattle.sets.specs.Sets.{bit};
-ghost use Rattle.format.specs.Format.{headLine, nameLine, stateLine, transitionLine};
+ghost use Rattle.format.specs.Format.{headLine, nameLine, withdrawalLine, stateLine, transitionLine};
+ghost use Rattle.format.specs.Withdrawals.{withdrawnBy};
 ghost use Rattle.format.specs.Written.{stateOf, placed};
 ghost use Rattle.sheet_lines.specs.RowName.{rowName};
+
+// The last two numbers of a line, and its end.
+fn put_last(out: &mut [u8], at: usize, a: usize, b: usize)
+    requires { ⌜ at + 7 ≤ length (now out) ⌝ }
+    ensures { λ _. ⌜ now (out .exit) ≡ sets (now (out .entry)) at (fields (a ∷ b ∷ []) (lf ∷ [])) ⌝ }
+{
+    columns::put_column(out, at, 3, a);
+    columns::put_column(out, at + 3, 3, b);
+    out[at + 6] = 10;
+}
 
 // The first line.
 pub fn put_head(out: &mut [u8], at: usize, n: usize, k: usize)
@@ -16,9 +28,7 @@ pub fn put_head(out: &mut [u8], at: usize, n: usize, k: usize)
     ensures { λ _. ⌜ now (out .exit) ≡ sets (now (out .entry)) at (headLine n k) ⌝ }
 {
     text::put_bytes(out, at, b"SHEET");
-    columns::put_column(out, at + 5, 3, n);
-    columns::put_column(out, at + 8, 3, k);
-    out[at + 11] = 10;
+    put_last(out, at + 5, n, k);
 }
 
 // The line of a letter's name. The answer is the place behind it.
@@ -62,6 +72,15 @@ pub fn put_row(out: &mut [u8], at: usize, rows: &[u8], l: usize) -> usize
     put_name(out, at, l, &rows[start..end])
 }
 
+// The line of a withdrawn letter: `by` supersedes it.
+pub fn put_withdrawal(out: &mut [u8], at: usize, letter: usize, by: usize)
+    requires { ⌜ at + 8 ≤ length (now out) ⌝ }
+    ensures { λ _. ⌜ now (out .exit) ≡ sets (now (out .entry)) at (withdrawalLine (withdrawnBy letter by)) ⌝ }
+{
+    out[at] = b'W';
+    put_last(out, at + 1, letter, by);
+}
+
 // The byte `kind` and three numbers: the line of a state or of a transition.
 fn put_columns(out: &mut [u8], at: usize, kind: u8, a: usize, b: usize, c: usize)
     requires { ⌜ at + 11 ≤ length (now out) ⌝ }
@@ -69,9 +88,7 @@ fn put_columns(out: &mut [u8], at: usize, kind: u8, a: usize, b: usize, c: usize
 {
     out[at] = kind;
     columns::put_column(out, at + 1, 3, a);
-    columns::put_column(out, at + 4, 3, b);
-    columns::put_column(out, at + 7, 3, c);
-    out[at + 10] = 10;
+    put_last(out, at + 4, b, c);
 }
 
 // 1 where q is a member of the set, and 0 where it is not.

@@ -1,12 +1,12 @@
--- How many states and transitions are written, and how many bytes their lines have: 11 each. Assumes nothing.
+-- How many states and transitions are written, and how many bytes their lines have, 11 each, and those of withdrawals, 8 each. Assumes nothing.
 use Prim.Native.Nat.{ℕ, zero, suc, _*_, _/_, _%_, _≤_}
 use mathlib.Core.Path.{_≡_, refl, ap}
 use mathlib.Core.List.{List, [], _∷_}
 use native.Mathlib.Omega.{arith}
 use lib.ListN.{length, getD}
 use Rattle.sets.specs.Sets.{bit}
-use Rattle.format.specs.Format.{State, Transition, stateLines, transitionLines}
-use Rattle.format.specs.FormatLaws.{state-behind, transition-behind}
+use Rattle.format.specs.Format.{State, Transition, Withdrawal, withdrawalLines, stateLines, transitionLines}
+use Rattle.format.specs.FormatLaws.{withdrawal-behind, state-behind, transition-behind}
 use Rattle.format.specs.Written.{statesOf, placed, whereMember, transitionsOf}
 
 pub statesOf-length : (initial recurring n q : ℕ) → length (statesOf initial recurring q n) ≡ n
@@ -23,6 +23,11 @@ transitionsOf-most T (suc left) i = by (bit (getD T (i / 16) 0) (i % 16)) (trans
     by : (b : ℕ) → length (transitionsOf T (suc i) left) ≤ left → length (whereMember b (placed i) (transitionsOf T (suc i) left)) ≤ suc left
     by zero h = omega arith
     by (suc b) h = omega arith
+
+pub withdrawals-length : (ws : List Withdrawal) → length (withdrawalLines ws) ≡ 8 * length ws
+unfolding withdrawalLines
+withdrawals-length [] = refl
+withdrawals-length (w ∷ ws) = omega (arith, withdrawal-behind 0 w ws, withdrawals-length ws)
 
 pub states-length : (q : ℕ) (zs : List State) → length (stateLines q zs) ≡ 11 * length zs
 unfolding stateLines

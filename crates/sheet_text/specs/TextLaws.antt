@@ -7,14 +7,14 @@ use lib.Seq.{sets}
 use Rattle.lists.specs.StoreLaws.{sets-append}
 use Rattle.names.specs.Name.{compose}
 use Rattle.automaton.specs.Automaton.{Automaton}
-use Rattle.format.specs.Format.{headLine, nameLines, stateLines, transitionLines, endLine}
+use Rattle.format.specs.Format.{Withdrawal, headLine, nameLines, withdrawalLines, stateLines, transitionLines, endLine}
 use Rattle.format.specs.Written.{statesOf, mostTransitions, transitionsOf, sheetOf, writtenSheet, written}
 use Rattle.format.specs.FormatLaws.{head-length, lines-parted}
 use Rattle.sheet_text.specs.Text.{textOf}
 
-pub text-written : (A : Automaton) (names : List (List ℕ)) → textOf A (map compose names) ≡ written A names
+pub text-written : (A : Automaton) (names : List (List ℕ)) (ws : List Withdrawal) → textOf A (map compose names) ws ≡ written A names ws
 unfolding textOf written writtenSheet
-text-written A names = refl
+text-written A names ws = refl
 
 -- the lines of its states and of its transitions
 abbrev pub statesText : Automaton → List ℕ
@@ -23,25 +23,29 @@ statesText A = stateLines 0 (statesOf (A .initial) (A .recurring) 0 (A .n))
 abbrev pub transitionsText : Automaton → List ℕ
 transitionsText A = transitionLines (transitionsOf (A .table) 0 mostTransitions)
 
-module _ (A : Automaton) (names : List (List ℕ)) where
-  text-parts : textOf A names ≡ headLine (A .n) (A .k) ++ (nameLines 0 names ++ (statesText A ++ (transitionsText A ++ endLine)))
+module _ (A : Automaton) (names : List (List ℕ)) (ws : List Withdrawal) where
+  text-parts : textOf A names ws ≡ headLine (A .n) (A .k) ++ (nameLines 0 names ++ (withdrawalLines ws ++ (statesText A ++ (transitionsText A ++ endLine))))
   unfolding textOf sheetOf
-  text-parts = lines-parted (sheetOf A names) endLine
+  text-parts = lines-parted (sheetOf A names ws) endLine
 
   -- 12 bytes for the first line, 4 for END
-  pub text-length : length (textOf A names) ≡ 12 + (length (nameLines 0 names) + (length (statesText A) + (length (transitionsText A) + 4)))
+  pub text-length :
+      length (textOf A names ws)
+      ≡ 12 + (length (nameLines 0 names) + (length (withdrawalLines ws) + (length (statesText A) + (length (transitionsText A) + 4))))
   text-length = rw text-parts (simp (length-append, head-length))
 
   -- the parts of a text, stored one behind the other
-  pub text-stored : (out : List ℕ) {o₁ o₂ o₃ o₄ o₅ : List ℕ} {a b c : ℕ} →
+  pub text-stored : (out : List ℕ) {o₁ o₂ o₃ o₄ o₅ o₆ : List ℕ} {a b c d : ℕ} →
       o₁ ≡ sets out 0 (headLine (A .n) (A .k)) →
       o₂ ≡ sets o₁ 12 (nameLines 0 names) → a ≡ 12 + length (nameLines 0 names) →
-      o₃ ≡ sets o₂ a (statesText A) → b ≡ a + length (statesText A) →
-      o₄ ≡ sets o₃ b (transitionsText A) → c ≡ b + length (transitionsText A) →
-      o₅ ≡ sets o₄ c endLine → o₅ ≡ sets out 0 (textOf A names)
-  text-stored out e₁ e₂ f e₃ g e₄ h e₅ =
-      rw (text-parts, e₅, e₄, h, e₃, g, e₂, f, e₁, sets-append (headLine (A .n) (A .k)), sets-append (nameLines 0 names), sets-append (statesText A), sets-append (transitionsText A), head-length)
+      o₃ ≡ sets o₂ a (withdrawalLines ws) → b ≡ a + length (withdrawalLines ws) →
+      o₄ ≡ sets o₃ b (statesText A) → c ≡ b + length (statesText A) →
+      o₅ ≡ sets o₄ c (transitionsText A) → d ≡ c + length (transitionsText A) →
+      o₆ ≡ sets o₅ d endLine → o₆ ≡ sets out 0 (textOf A names ws)
+  text-stored out e₁ e₂ f e₃ g e₄ h e₅ k e₆ =
+      rw (text-parts, e₆, e₅, k, e₄, h, e₃, g, e₂, f, e₁, sets-append (headLine (A .n) (A .k)), sets-append (nameLines 0 names), sets-append (withdrawalLines ws), sets-append (statesText A), sets-append (transitionsText A), head-length)
 
-pub written-length : (A : Automaton) (names : List (List ℕ))
-    → length (written A names) ≡ 12 + (length (nameLines 0 (map compose names)) + (length (statesText A) + (length (transitionsText A) + 4)))
-written-length A names = ap length (sym (text-written A names)) ∙ text-length A (map compose names)
+pub written-length : (A : Automaton) (names : List (List ℕ)) (ws : List Withdrawal)
+    → length (written A names ws)
+    ≡ 12 + (length (nameLines 0 (map compose names)) + (length (withdrawalLines ws) + (length (statesText A) + (length (transitionsText A) + 4))))
+written-length A names ws = ap length (sym (text-written A names ws)) ∙ text-length A (map compose names) ws

@@ -11,22 +11,29 @@ use sheet_sections::name_lines::put_names;
 use sheet_sections::state_lines::put_states;
 use sheet_sections::transition_lines::count_transitions;
 use sheet_sections::transition_lines::put_transitions;
+use sheet_sections::withdrawal_lines::put_withdrawals;
+use sheet_sections::withdrawal_lines::withdrawals_length;
 
 // How many bytes the text of a sheet has.
 pub fn text_length(a: Numbers, table: &[u16], rows: &[u8]) -> usize
-    requires { ⌜ Writable (automaton a (now table)) × (192 ≤ length (now rows)) ⌝ }
+    requires { ⌜ Writable (automaton a (now table)) × (224 ≤ length (now rows)) ⌝ }
     ensures { λ r. ⌜ r ≡ length (rowsText (automaton a (now (table .entry))) (now (rows .entry))) ⌝ }
 {
-    16 + names_length(rows, a.k) + 11 * a.n + 11 * count_transitions(table)
+    16
+        + names_length(rows, a.k)
+        + withdrawals_length(rows, a.k)
+        + 11 * a.n
+        + 11 * count_transitions(table)
 }
 
 // The text of a sheet.
 pub fn put_text(a: Numbers, table: &[u16], rows: &[u8], out: &mut [u8])
-    requires { ⌜ Writable (automaton a (now table)) × (192 ≤ length (now rows)) × (length (rowsText (automaton a (now table)) (now rows)) ≤ length (now out)) ⌝ }
+    requires { ⌜ Writable (automaton a (now table)) × (224 ≤ length (now rows)) × (length (rowsText (automaton a (now table)) (now rows)) ≤ length (now out)) ⌝ }
     ensures { λ _. ⌜ now (out .exit) ≡ sets (now (out .entry)) 0 (rowsText (automaton a (now (table .entry))) (now (rows .entry))) ⌝ }
 {
     sheet_lines::put_head(out, 0, a.n, a.k);
-    let states = put_names(out, 12, rows, a.k);
+    let withdrawals = put_names(out, 12, rows, a.k);
+    let states = put_withdrawals(out, withdrawals, rows, a.k);
     let transitions = put_states(out, states, a.n, a.initial, a.recurring);
     let end = put_transitions(out, transitions, table);
     text::put_bytes(out, end, b"END\n");

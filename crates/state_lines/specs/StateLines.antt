@@ -49,4 +49,4 @@ statesAnswer (passed q) = Q.Are q
 -- where the line after the state lines stands
 abbrev pub SetsFit : States → Type 0
 SetsFit (Q.Refused r) = Unit
-SetsFit (Q.Are q) = (q .line ≤ 26) × (q .at ≤ 500)
+SetsFit (Q.Are q) = (q .line ≤ 33) × (q .at ≤ 500)

@@ -44,7 +44,7 @@ fn state_line(s: &[u8], at: usize, q: usize) -> StateLine
 
 // The lines of n states, the first of which is line `first` and stands at `start`.
 pub fn read_states(s: &[u8], first: usize, start: usize, n: usize) -> States
-    requires { ⌜ (first ≤ 10) × (start ≤ 300) × (n ≤ 16) ⌝ }
+    requires { ⌜ (first ≤ 17) × (start ≤ 308) × (n ≤ 16) ⌝ }
     ensures { λ r. ⌜ (r ≡ statesAnswer (statesAt (now (s .entry)) first start 0 0 0 n)) × SetsFit r ⌝ }
 {
     let mut line = first;

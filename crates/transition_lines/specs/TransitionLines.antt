@@ -1,4 +1,4 @@
--- The transition lines of a sheet file and its end, read from the top: questions 8 and 9 in the order in which a reader asks them.
+-- The transition lines of a sheet file and its end, read from the top: questions 8, 16 and 9 in the order in which a reader asks them.
 -- That this is what Format describes is a theorem. A byte past the end is 0, and 0 stands in no line.
 use Prim.Native.Nat.{ℕ, zero, suc, _+_, _<_}
 use mathlib.Core.Path.{_≡_}
@@ -34,17 +34,24 @@ abbrev pub withTransition : {A : Type 0} → TransitionLine → (Transition → 
 withTransition (T.Is from letter to) go bad = go (record { from = from; letter = letter; to = to })
 withTransition T.Bad go bad = bad
 
+-- what comes after a transition where the cell of its letter has no superseding letter
+-- "a transition on a withdrawn letter with 16 straight after 8"
+abbrev pub ifInForce : List ℕ → ℕ → Transition → Phase (List ℕ) → Phase (List ℕ)
+ifInForce cells line t next = choose (eqb (getD cells (t .letter) 0) 0) next (refused 16 line)
+
 -- one line; `go` says what comes after a transition
 -- "a line beginning with T answers to question 8, any other to 9"
-abbrev transitionStep : List ℕ → ℕ → ℕ → ℕ → ℕ → ℕ → List ℕ → (Transition → Phase (List ℕ)) → Phase (List ℕ)
-transitionStep s n k line at least table go =
-    choose (eqb (getD s at 0) 84) (withTransition (transitionLineAt s at n k least) go (refused 8 line)) (endAt 9 s line at table)
+abbrev transitionStep : List ℕ → List ℕ → ℕ → ℕ → ℕ → ℕ → ℕ → List ℕ → (Transition → Phase (List ℕ)) → Phase (List ℕ)
+transitionStep s cells n k line at least table go =
+    choose (eqb (getD s at 0) 84)
+    (withTransition (transitionLineAt s at n k least) (λ t. ifInForce cells line t (go t)) (refused 8 line))
+    (endAt 9 s line at table)
 
--- the transition lines and the end: the table of successor sets. `fuel` is more than there are lines
-unfoldable pub transitionsAt : List ℕ → ℕ → ℕ → ℕ → ℕ → ℕ → List ℕ → ℕ → Phase (List ℕ)
-transitionsAt s n k line at least table zero = refused 9 line
-transitionsAt s n k line at least table (suc fuel) =
-    transitionStep s n k line at least table (λ t. transitionsAt s n k (line + 1) (at + 11) (transitionIndex t + 1) (inserted table t) fuel)
+-- the transition lines and the end: the table of successor sets. `cells` has the superseding letters, `fuel` is more than there are lines
+unfoldable pub transitionsAt : List ℕ → List ℕ → ℕ → ℕ → ℕ → ℕ → ℕ → List ℕ → ℕ → Phase (List ℕ)
+transitionsAt s cells n k line at least table zero = refused 9 line
+transitionsAt s cells n k line at least table (suc fuel) =
+    transitionStep s cells n k line at least table (λ t. transitionsAt s cells n k (line + 1) (at + 11) (transitionIndex t + 1) (inserted table t) fuel)
 
 -- a transition that is read has its cell among the 128, and its state among the 16
 abbrev pub TransitionFits : TransitionLine → Type 0

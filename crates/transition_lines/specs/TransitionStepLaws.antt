@@ -6,7 +6,7 @@ use lib.ListN.{getD, drop}
 use borrow.Author.Tests.{eq-eqb, ne-eqb}
 use Rattle.format.specs.Format.{transitionIndex}
 use Rattle.format.specs.Numbers.{inserted}
-use Rattle.transition_lines.specs.TransitionLines.{withTransition, transitionLineAt, transitionsAt, FillsTable}
+use Rattle.transition_lines.specs.TransitionLines.{withTransition, transitionLineAt, ifInForce, transitionsAt, FillsTable}
 use Rattle.frame.specs.Phase.{refused, endAt}
 use Rattle.gate.specs.Gate.{cleared}
 use Rattle.frame.specs.Answers.{endAnswer}
@@ -16,15 +16,15 @@ use Rattle.frame.specs.declared.End.{End}
 use Rattle.frame.specs.declared.End.the-variants as End
 
 -- THE TRANSITION LINES: g of them may still come
-module _ (s : List ℕ) (n k line at least : ℕ) (table : List ℕ) (f g : ℕ) (h : g ≡ suc f) where
+module _ (s cells : List ℕ) (n k line at least : ℕ) (table : List ℕ) (f g : ℕ) (h : g ≡ suc f) where
   pub transitions-turn :
       {w : TransitionLine} → getD s at 0 ≡ 84 → transitionLineAt s at n k least ≡ w →
-      transitionsAt s n k line at least table g ≡
-      withTransition w (λ t. transitionsAt s n k (line + 1) (at + 11) (transitionIndex t + 1) (inserted table t) f) (refused 8 line)
+      transitionsAt s cells n k line at least table g ≡
+      withTransition w (λ t. ifInForce cells line t (transitionsAt s cells n k (line + 1) (at + 11) (transitionIndex t + 1) (inserted table t) f)) (refused 8 line)
   unfolding transitionsAt
   transitions-turn t e = rw h (simp (eq-eqb _ _ t, e))
 
-  pub transitions-done : (getD s at 0 ≡ 84 → ⊥) → transitionsAt s n k line at least table g ≡ endAt 9 s line at table
+  pub transitions-done : (getD s at 0 ≡ 84 → ⊥) → transitionsAt s cells n k line at least table g ≡ endAt 9 s line at table
   unfolding transitionsAt
   transitions-done t = rw h (simp (ne-eqb _ _ t))
 

@@ -1,7 +1,8 @@
-// The transition lines of a sheet and its end: questions 8 and 9.
+// The transition lines of a sheet and its end: questions 8, 16 and 9.
 ghost use mathlib.Core.Path.{_≡_};
 ghost use Prim.Native.Nat.{_+_, _<_, _≤_, _^_};
 ghost use lib.ListN.{length, take};
+ghost use Rattle.superseding.specs.Superseding.{supersedingIn};
 ghost use Rattle.format.specs.Format.{mostSheet};
 ghost use Rattle.transition_lines.specs.TransitionLines.{transitionOf, transitionLineAt, transitionsAt, TransitionFits, FillsTable};
 use columns::Number;
@@ -58,18 +59,20 @@ fn transition_line(s: &[u8], at: usize, n: usize, k: usize, least: usize) -> Tra
 }
 
 // The transition lines, the first of which is line `first` and stands at `start`, and the end. Each transition goes into its set.
-// A refusal leaves the table all zero.
+// The rows have the superseding letters. A refusal leaves the table all zero.
 pub fn read_transitions(
     s: &[u8],
+    rows: &[u8],
     n: usize,
     k: usize,
     first: usize,
     start: usize,
     table: &mut [u16],
 ) -> End
-    requires { ⌜ (length (now s) ≤ mostSheet) × (first ≤ 26) × (start ≤ 500) × (n ≤ 16) × (k ≤ 8) × (128 ≤ length (now table)) ⌝ }
-    ensures { λ r. ⌜ FillsTable (transitionsAt (now (s .entry)) n k first start 0 (take 128 (now (table .entry))) (length (now (s .entry)) + 1))
-        (now (table .entry)) (now (table .exit)) r ⌝ }
+    requires { ⌜ (length (now s) ≤ mostSheet) × (224 ≤ length (now rows)) × (first ≤ 33) × (start ≤ 500) × (n ≤ 16) × (k ≤ 8)
+        × (128 ≤ length (now table)) ⌝ }
+    ensures { λ r. ⌜ FillsTable (transitionsAt (now (s .entry)) (supersedingIn (now (rows .entry))) n k first start 0 (take 128 (now (table .entry)))
+        (length (now (s .entry)) + 1)) (now (table .entry)) (now (table .exit)) r ⌝ }
 {
     let mut line = first;
     let mut at = start;
@@ -83,6 +86,14 @@ pub fn read_transitions(
                 length: 0,
             });
         };
+        if superseding::superseding(rows, letter) != 0 {
+            gate::clear(table);
+            return End::Refused(Refusal {
+                number: 16,
+                line,
+                length: 0,
+            });
+        }
         let cell = 8 * from + letter;
         table[cell] = sets::insert(table[cell], to);
         least = cell * 16 + to + 1;

@@ -10,7 +10,7 @@ use lib.Seq.{ext-getD, getD-take, length-take-le}
 use Rattle.sets.specs.Sets.{bit, Member, setOf}
 use Rattle.sets.specs.SetLaws.{bit-lt, bit-out, bit-zero, ext, small-of-within, set-is-sum}
 use Rattle.automaton.specs.Automaton.{Automaton, Fits}
-use Rattle.format.specs.Format.{State, Transition}
+use Rattle.format.specs.Format.{State, Transition, Withdrawal}
 use Rattle.format.specs.Numbers.{flagSet, inserted, tableOf, numbers}
 use Rattle.format.specs.Written.{stateOf, statesOf, mostTransitions, placed, whereMember, transitionsOf, sheetOf, writtenSheet}
 use Rattle.format.specs.NumbersLaws.{unflagged, flags-set, inserted-length, inserted-new, inserted-other, table-length}
@@ -122,9 +122,9 @@ module _ (T : List ℕ) where
 
 -- The numbers
 
-pub numbers-written : (A : Automaton) (names : List (List ℕ)) → Fits A → 128 ≤ length (A .table) → numbers (writtenSheet A names) ≡ trimmed A
+pub numbers-written : (A : Automaton) (names : List (List ℕ)) (ws : List Withdrawal) → Fits A → 128 ≤ length (A .table) → numbers (writtenSheet A names ws) ≡ trimmed A
 unfolding numbers sheetOf writtenSheet
-numbers-written A names fits h = λ i. record { n = A .n; k = A .k; initial = initials i; recurring = recurrings i; table = cells i }
+numbers-written A names ws fits h = λ i. record { n = A .n; k = A .k; initial = initials i; recurring = recurrings i; table = cells i }
   where
     initials : flagSet (λ z. z .initial) 0 (statesOf (A .initial) (A .recurring) 0 (A .n)) ≡ A .initial
     initials = flags-back (A .initial) (A .recurring) (λ z. z .initial) (A .initial) (λ q. refl) (A .n) (small-of-within (A .initial) (A .n) (fits .states .0))

@@ -1,4 +1,4 @@
--- THE ROUND TRIP of numbers with names: what is written reads back as the numbers it was written from, and is written again byte for byte. Assumes nothing.
+-- THE ROUND TRIP of numbers with names and withdrawals: what is written reads back as what it was written from, and is written again byte for byte. Assumes nothing.
 use Prim.Native.Nat.{ℕ, _≤_}
 use mathlib.Core.Path.{_≡_, refl, sym, ap, ap₂, _∙_, subst}
 use mathlib.Core.List.{List, [], _∷_, _++_, map}
@@ -7,53 +7,74 @@ use Rattle.names.specs.Name.{compose}
 use Rattle.names.specs.NameLaws.{compose-idempotent}
 use Rattle.automaton.specs.Automaton.{Automaton, graphOf, Fits}
 use Rattle.automaton.specs.Meeting.{Free, Everywhere}
-use Rattle.format.specs.Format.{Sheet, NamesRight, FileIs, lines, endLine}
+use Rattle.format.specs.Format.{Withdrawal, Sheet, WithdrawalsRight, FileIs, lines, endLine}
 use Rattle.format.specs.Numbers.{numbers}
 use Rattle.format.specs.Written.{sheetOf, writtenSheet, written}
 use Rattle.reading.specs.Read.{Accepted}
+use Rattle.named_numbers.specs.Ask.{NamedAccepted}
 use Rattle.parser.specs.UniqueLaws.{file-unique}
-use Rattle.writer.specs.Writing.{trimmed, writing}
+use Rattle.writer.specs.Writing.{trimmed, writing, LettersRight}
 use Rattle.writer.specs.NumbersLaws.{numbers-written}
 use Rattle.writer.specs.TrimmedLaws.{free-trimmed, written-trimmed}
 use Rattle.writer.specs.FileLaws.{written-file}
 
--- What is written depends on the numbers and the composed names alone
+-- What is written depends on the numbers, the composed names and the withdrawals alone
 
-pub written-composed : (A : Automaton) (xs ys : List (List ℕ)) → map compose xs ≡ map compose ys → written A xs ≡ written A ys
+pub written-composed : (A : Automaton) (xs ys : List (List ℕ)) (ws : List Withdrawal) → map compose xs ≡ map compose ys → written A xs ws ≡ written A ys ws
 unfolding written writtenSheet
-written-composed A xs ys e = ap (λ names. lines (sheetOf A names) ++ endLine) e
+written-composed A xs ys ws e = ap (λ names. lines (sheetOf A names ws) ++ endLine) e
 
 composed-twice : (names : List (List ℕ)) → map compose (map compose names) ≡ map compose names
 composed-twice [] = refl
 composed-twice (x ∷ xs) = ap₂ _∷_ (compose-idempotent x) (composed-twice xs)
 
-names-written : (A : Automaton) (names : List (List ℕ)) → map compose (writtenSheet A names .names) ≡ map compose names
-unfolding sheetOf writtenSheet
-names-written A names = composed-twice names
+module _ (A : Automaton) (names : List (List ℕ)) (ws : List Withdrawal) where
+  names-written : map compose (writtenSheet A names ws .names) ≡ map compose names
+  unfolding sheetOf writtenSheet
+  names-written = composed-twice names
 
--- FROM NUMBERS with names
-module _ (A : Automaton) (fits : Fits A) (long : 128 ≤ length (A .table)) (names : List (List ℕ)) (right : NamesRight [] names) (all : length names ≡ A .k) where
+  withdrawals-written : writtenSheet A names ws .withdrawals ≡ ws
+  unfolding sheetOf writtenSheet
+  withdrawals-written = refl
+
+-- the file that accepted numbers take their names from gives them letters that are right
+pub named-right : {A : Automaton} {s : List ℕ} {σ : Sheet} → NamedAccepted A s σ → LettersRight A (σ .names) (σ .withdrawals)
+named-right {σ = σ} h =
+    let file = h .names .file in
+    record {
+      names = file .right .names;
+      all-names = file .all-names ∙ h .letters;
+      withdrawals = subst (λ (k : ℕ). WithdrawalsRight k 0 (σ .withdrawals)) (h .letters) (file .right .withdrawals);
+      in-force = h .in-force;
+    }
+
+-- FROM NUMBERS with names and withdrawals
+module _ (A : Automaton) (fits : Fits A) (long : 128 ≤ length (A .table)) (names : List (List ℕ)) (ws : List Withdrawal) (right : LettersRight A names ws) where
   -- what is written is accepted, where no walks meet
-  pub numbers-accepted : Free (graphOf A) Everywhere → Accepted (written A names) (writtenSheet A names)
+  pub numbers-accepted : Free (graphOf A) Everywhere → Accepted (written A names ws) (writtenSheet A names ws)
   numbers-accepted free = record {
-    file = written-file A fits names right all;
-    free = subst (λ (B : Automaton). Free (graphOf B) Everywhere) (sym (numbers-written A names fits long)) (free-trimmed A fits free);
+    file = written-file A fits names ws right;
+    free = subst (λ (B : Automaton). Free (graphOf B) Everywhere) (sym (numbers-written A names ws fits long)) (free-trimmed A fits free);
   }
 
-  module _ (τ : Sheet) (file : FileIs (written A names) τ) where
-    is : writtenSheet A names ≡ τ
-    is = file-unique (written A names) (writtenSheet A names) τ (written-file A fits names right all) file
+  module _ (τ : Sheet) (file : FileIs (written A names ws) τ) where
+    is : writtenSheet A names ws ≡ τ
+    is = file-unique (written A names ws) (writtenSheet A names ws) τ (written-file A fits names ws right) file
 
-    -- whatever sheet is read back from it has the numbers and the names
+    -- whatever sheet is read back from it has the numbers, the names and the withdrawals
     pub numbers-back : numbers τ ≡ trimmed A
-    numbers-back = ap numbers (sym is) ∙ numbers-written A names fits long
+    numbers-back = ap numbers (sym is) ∙ numbers-written A names ws fits long
 
     pub names-back : map compose (τ .names) ≡ map compose names
-    names-back = ap (λ (υ : Sheet). map compose (υ .names)) (sym is) ∙ names-written A names
+    names-back = ap (λ (υ : Sheet). map compose (υ .names)) (sym is) ∙ names-written A names ws
+
+    pub withdrawals-back : τ .withdrawals ≡ ws
+    withdrawals-back = ap (λ (υ : Sheet). υ .withdrawals) (sym is) ∙ withdrawals-written A names ws
 
     -- and is written again as the same bytes
-    pub numbers-again : writing τ ≡ written A names
+    pub numbers-again : writing τ ≡ written A names ws
     numbers-again =
-        ap (λ (B : Automaton). written B (τ .names)) numbers-back
-        ∙ written-trimmed A (τ .names)
-        ∙ written-composed A (τ .names) names names-back
+        ap (λ (B : Automaton). written B (τ .names) (τ .withdrawals)) numbers-back
+        ∙ written-trimmed A (τ .names) (τ .withdrawals)
+        ∙ ap (written A (τ .names)) withdrawals-back
+        ∙ written-composed A (τ .names) names ws names-back

@@ -10,7 +10,7 @@ use Rattle.sets.specs.Sets.{bit, Member}
 use Rattle.automaton.specs.Automaton.{Automaton, graphOf, Fits}
 use Rattle.automaton.specs.Graph.{Edge}
 use Rattle.automaton.specs.Meeting.{Walk, Free, Everywhere}
-use Rattle.format.specs.Format.{Sheet, lines, endLine}
+use Rattle.format.specs.Format.{Withdrawal, Sheet, lines, endLine}
 use Rattle.format.specs.Numbers.{numbers}
 use Rattle.format.specs.Written.{mostTransitions, whereMember, placed, transitionsOf, sheetOf, writtenSheet, written}
 use Rattle.format.specs.NumbersLaws.{numbers-length}
@@ -41,15 +41,22 @@ free-trimmed A fits free w t x y m = free w t x y (record {
   counts = m .counts;
 })
 
-sheet-trimmed : (A : Automaton) (names : List (List ℕ)) → sheetOf (trimmed A) names ≡ sheetOf A names
+sheet-trimmed : (A : Automaton) (names : List (List ℕ)) (ws : List Withdrawal) → sheetOf (trimmed A) names ws ≡ sheetOf A names ws
 unfolding sheetOf
-sheet-trimmed A names =
-    let σ = sheetOf A names in
-    λ i. record { n = σ .n; k = σ .k; names = σ .names; states = σ .states; transitions = transitions-trimmed (A .table) mostTransitions 0 (omega arith) i }
+sheet-trimmed A names ws =
+    let σ = sheetOf A names ws in
+    λ i. record {
+      n = σ .n;
+      k = σ .k;
+      names = σ .names;
+      withdrawals = σ .withdrawals;
+      states = σ .states;
+      transitions = transitions-trimmed (A .table) mostTransitions 0 (omega arith) i;
+    }
 
-pub written-trimmed : (A : Automaton) (names : List (List ℕ)) → written (trimmed A) names ≡ written A names
+pub written-trimmed : (A : Automaton) (names : List (List ℕ)) (ws : List Withdrawal) → written (trimmed A) names ws ≡ written A names ws
 unfolding written writtenSheet
-written-trimmed A names = ap (λ σ. lines σ ++ endLine) (sheet-trimmed A (map compose names))
+written-trimmed A names ws = ap (λ σ. lines σ ++ endLine) (sheet-trimmed A (map compose names) ws)
 
 -- a sheet has no such cells
 pub trimmed-numbers : (σ : Sheet) → trimmed (numbers σ) ≡ numbers σ

@@ -31,4 +31,4 @@ pub data WritesNumbers (A : Automaton) (s : List ℕ) (before after : WriteTable
       → after .output ≡ cleared (before .output) → WritesNumbers A s before after r
   -- 1, asked last, or the text
   asked : EnoughForSheet (A .table) (before .witness) → (σ : Sheet) → NamedAccepted A s σ → after .witness ≡ clearedWitness (before .witness)
-      → Put (written A (σ .names)) (before .output) (after .output) r → WritesNumbers A s before after r
+      → Put (written A (σ .names) (σ .withdrawals)) (before .output) (after .output) r → WritesNumbers A s before after r

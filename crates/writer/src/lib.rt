@@ -13,9 +13,9 @@ use sheet_text::put_text;
 use sheet_text::text_length;
 use walks::Checked;
 
-// The last question, whether the output is long enough, and the text with zeros behind it. The names are in rows.
+// The last question, whether the output is long enough, and the text with zeros behind it. The letters are in rows.
 pub fn finish(a: Numbers, table: &[u16], rows: &[u8], out: &mut [u8]) -> Written
-    requires { ⌜ Writable (automaton a (now table)) × (192 ≤ length (now rows)) ⌝ }
+    requires { ⌜ Writable (automaton a (now table)) × (224 ≤ length (now rows)) ⌝ }
     ensures { λ r. ⌜ Put (rowsText (automaton a (now (table .entry))) (now (rows .entry))) (now (out .entry)) (now (out .exit)) r ⌝ }
 {
     let count = text_length(a, table, rows);
@@ -54,7 +54,7 @@ pub fn write_numbers(
             length: 0,
         });
     }
-    let mut rows = [0u8; 192];
+    let mut rows = [0u8; 224];
     match named_numbers::ask(a, table, names, &mut rows, word, one, other) {
         Checked::Refused(r) => {
             gate::clear_bytes(out);

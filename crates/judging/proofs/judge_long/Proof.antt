@@ -28,7 +28,7 @@ Built-as c b =
     BuildsNamed (a .sheet .now) (a .room)
     (buildTables (a .table .now) (witnessTables (a .word .now) (a .one .now) (a .other .now)) (trackerTables (a .tuples .now) (a .nexts .now)))
     (buildTables (w .0) (witnessTables (tables .1 .1 .0) (tables .1 .1 .1 .0) (tables .1 .1 .1 .1 .0)) (trackerTables (tables .0) (tables .1 .0)))
-    (replicate 216 0) (w .1 .0) b
+    (replicate 224 0) (w .1 .0) b
 
 built-as : (c : tie.After-build-long) (b : Built) → c .build-long .result ≡ b → Built-as c b
 built-as c b told = subst (Built-as c) told (c .build-long .ensures)

@@ -36,7 +36,7 @@ after c =
 abbrev Read-as : tie.After-read-long → Read → Type 0
 Read-as c x =
     let s = start (asked c) in
-    ReadsNamed (s .args .sheet .now) (readTables (replicate 128 0) (replicate 216 0) (lent s)) (after c) x
+    ReadsNamed (s .args .sheet .now) (readTables (replicate 128 0) (replicate 224 0) (lent s)) (after c) x
 
 abbrev reading : tie.After-a → tie.After-read-long
 reading c = c .before .before .before .before .before .before .before .before .before .before

@@ -1,4 +1,4 @@
--- `named_numbers::ask` meets its contract: what reading the names' file answers is handed on, and then what the check of the numbers answers. Assumes nothing.
+-- `named_numbers::ask` meets its contract: what reading the names' file answers is handed on, and then what the questions on the numbers answer. Assumes nothing.
 use mathlib.Core.Path.{refl, subst, _∙_}
 use native.Mathlib.Omega.{arith}
 use lib.ListN.{replicate}
@@ -8,7 +8,7 @@ use Rattle.reading.specs.declared.Read.{Read}
 use Rattle.reading.specs.declared.Read.the-variants as R
 use Rattle.reading.specs.Read.{ReadTables, readTables, ReadsNamed}
 use Rattle.named_numbers.specs.Ask.{NamedRefuse}
-use Rattle.named_numbers.specs.AskLaws.{ask-letters, ask-lengths, ask-numbers}
+use Rattle.named_numbers.specs.AskLaws.{ask-letters, ask-ready, ask-numbers}
 use borrow.Author.Needs.{needs}
 use Rattle.named_numbers.proofs.ask.Statement.{statement}
 use Rattle.named_numbers.proofs.ask.Tie as tie
@@ -37,7 +37,7 @@ reading c = c .before .before .before .before .before .before .before .before .b
 accepted : (c : tie.After-b) → Read-as (reading c) (R.Is (c .b .given .0 .0))
 accepted c = subst (Read-as (reading c)) (c .b .given .1) (reading c .read-long .ensures)
 
--- reading, from the ends: another k, the names' file is refused, the numbers are checked
+-- reading, from the ends: another k, the names' file is refused, the numbers are asked
 abbrev letters-at : tie.Then1 → tie.After-read-long
 letters-at c = c .before .before .before .before .before .before .before .before .before .before .before .before .before .before .before
 
@@ -45,7 +45,7 @@ abbrev names-at : tie.After-known-told → tie.After-read-long
 names-at c = c .before .before .before .before .before .before .before .before .before .before .before .before
 
 abbrev numbers-at : tie.After-slice-known11 → tie.After-read-long
-numbers-at c = c .before .before .before .before .before .before .before .before .before .before .before .before .before .before .before .before .before .before .before .before .before .before .before .before .before
+numbers-at c = c .before .before .before .before .before .before .before .before .before .before .before .before .before .before .before .before .before .before .before .before .before .before .before .before .before .before
 
 slice-aggregate-read-long : tie.Need-slice-aggregate-read-long
 slice-aggregate-read-long c = search needs
@@ -78,10 +78,12 @@ returns c =
     let told = c .before .before .before .before in
     ask-letters (given (start (reading told))) (accepted told) (c .if1 .taken) refl
 
-check-long-requires : tie.Need-check-long-requires
-check-long-requires c κs =
-    let told = c .before .before .before .before .before .before .before in
-    ask-lengths (given (start (reading told))) (accepted told) (start (reading told) .pre .0)
+ask-numbers-requires : tie.Need-ask-numbers-requires
+ask-numbers-requires c κs =
+    let told = c .before .before .before .before .before .before .before .before in
+    let s = start (reading told) in
+    let (long, zeros) = ask-ready (given s) (accepted told) (s .pre .0) in
+    (long, zeros, omega (arith, reading told .read-long .kept .1 .1 .0))
 
 same-length-5 : tie.Need-same-length-5
 same-length-5 c = names-at c .read-long .kept .1 .1 .0
@@ -105,20 +107,21 @@ same-length-9 : tie.Need-same-length-9
 same-length-9 c = numbers-at c .read-long .kept .1 .1 .0
 
 same-length-10 : tie.Need-same-length-10
-same-length-10 c = c .before .before .before .before .before .before .check-long .kept .1 .1 .0 ∙ numbers-at c .read-long .kept .1 .1 .1 .0
+same-length-10 c = c .before .before .before .before .before .before .ask-numbers .kept .1 .1 .1 .0 ∙ numbers-at c .read-long .kept .1 .1 .1 .0
 
 same-length-11 : tie.Need-same-length-11
-same-length-11 c = c .before .before .before .before .before .before .check-long .kept .1 .1 .1 .0 ∙ numbers-at c .read-long .kept .1 .1 .1 .1 .0
+same-length-11 c = c .before .before .before .before .before .before .ask-numbers .kept .1 .1 .1 .1 .0 ∙ numbers-at c .read-long .kept .1 .1 .1 .1 .0
 
 same-length-12 : tie.Need-same-length-12
-same-length-12 c = c .before .before .before .before .before .before .check-long .kept .1 .1 .1 .1 .0 ∙ numbers-at c .read-long .kept .1 .1 .1 .1 .1 .0
+same-length-12 c = c .before .before .before .before .before .before .ask-numbers .kept .1 .1 .1 .1 .1 .0 ∙ numbers-at c .read-long .kept .1 .1 .1 .1 .1 .0
 
 returns-3 : tie.Need-returns-3
 returns-3 c =
-    let check = c .before .before .before .before .before .before .check-long in
-    let told = c .before .before .before .before .before .before .before .before .before .before .before .before .before .before in
-    ask-numbers (given (start (reading told))) (accepted told) (c .before .before .before .before .before .before .before .before .before .before .if1 .left)
-    (witnessTables (check .last .1 .1 .0) (check .last .1 .1 .1 .0) (check .last .1 .1 .1 .1 .0)) (check .result) (check .ensures)
+    let check = c .before .before .before .before .before .before .ask-numbers in
+    let told = c .before .before .before .before .before .before .before .before .before .before .before .before .before .before .before in
+    let w = check .last .1 .1 .1 in
+    ask-numbers (given (start (reading told))) (accepted told) (c .before .before .before .before .before .before .before .before .before .before .before .if1 .left)
+    (witnessTables (w .0) (w .1 .0) (w .1 .1 .0)) (check .result) (check .ensures)
 
 pub ask-spec : {M : Type 1} → statement M
 ask-spec =
@@ -133,7 +136,7 @@ ask-spec =
     same-length-3
     same-length-4
     returns
-    check-long-requires
+    ask-numbers-requires
     same-length-5
     same-length-6
     same-length-7

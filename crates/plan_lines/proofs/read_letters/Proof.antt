@@ -6,13 +6,14 @@ use native.Mathlib.Nat.{sub-zero}
 use denote.Ref.{now}
 use mathlib.Core.List.{List, [], _∷_, _++_}
 use lib.ListN.{length, take, drop, length-set, take-append-drop}
-use Rattle.plan_lines.specs.StepLaws.{SoFar, letters-step, letters-done, letter-stored, letter-behind}
+use Rattle.plan_lines.specs.StepLaws.{SoFar, letters-step, letters-done, superseding-still, letter-stored, letter-behind}
 use Rattle.gate.specs.GateLaws.{same-cleared}
 use Rattle.frame.specs.Phase.{refused}
 use Rattle.name_rows.specs.Rows.{HoldNames, OnlyRow}
 use Rattle.name_rows.specs.RowsLaws.{only-none, only-again}
+use Rattle.superseding.specs.Superseding.{supersedingIn}
 use Rattle.plan_lines.specs.declared.LetterLine.{LetterLine}
-use Rattle.plan_lines.specs.LetterLines.{withLetter, lettersAt}
+use Rattle.plan_lines.specs.LetterLines.{letterLineAt, withLetter, lettersAt}
 use borrow.Author.Needs.{needs}
 use Rattle.plan_lines.proofs.read_letters.Statement.{statement}
 use Rattle.plan_lines.proofs.read_letters.Tie as tie
@@ -31,14 +32,16 @@ turn : (c : tie.After-letter-line Inv-loop μ-loop) →
     let a = c .before .before .before .before .before .before .before .args in
     (w : LetterLine) → c .letter-line .result ≡ w → (names : List (List ℕ)) → length names ≡ a .k → HoldNames names (a .rows .now) →
     HoldNames names (c .letter-line .last .1 .1 .0)
-    × (withLetter w (λ l e. lettersAt names (a .p .now) (v .line + 1) (e + 1) (take (v .i) (v .letters) ++ (l ∷ [])) (a .count - (v .i + 1))) (refused 14 (v .line)) (refused 12 (v .line))
-    ≡ lettersAt names (a .p .now) 2 11 [] (a .count))
+    × (withLetter w (λ l e. lettersAt names (supersedingIn (a .rows .now)) (a .p .now) (v .line + 1) (e + 1) (take (v .i) (v .letters) ++ (l ∷ [])) (a .count - (v .i + 1))) (refused 14 (v .line)) (refused 12 (v .line))
+    ≡ lettersAt names (supersedingIn (a .rows .now)) (a .p .now) 2 11 [] (a .count))
 turn c w e names n h =
     let v = c .before .before .before .loop in
     let a = c .before .before .before .before .before .before .before .args in
     let z = v .inv .6 names n h in
     let f = c .letter-line .ensures .1 names n (z .0) in
-    (f .1, sym (letters-step names (a .p .now) (v .line) (v .at) (v .i) (a .count) (take (v .i) (v .letters)) (omega arith) (sym (f .0) ∙ e)) ∙ z .1)
+    let cells = superseding-still (c .before .before .before .before .before .before .before .pre .1) (v .inv .7) in
+    let line = ap (λ (cells : List ℕ). letterLineAt names cells (a .p .now) (v .at)) (sym cells) ∙ (sym (f .0) ∙ e) in
+    (f .1, sym (letters-step names (supersedingIn (a .rows .now)) (a .p .now) (v .line) (v .at) (v .i) (a .count) (take (v .i) (v .letters)) (omega arith) line) ∙ z .1)
 
 -- a line more writes the same row
 only-row : (c : tie.After-letter-line Inv-loop μ-loop) →
@@ -46,10 +49,10 @@ only-row : (c : tie.After-letter-line Inv-loop μ-loop) →
     OnlyRow (a .k) (a .rows .now) (c .letter-line .last .1 .1 .0)
 only-row c = only-again (c .before .before .before .loop .inv .7) (c .letter-line .ensures .2)
 
--- the letter of a line is one of the sheet's, and its LF stands within the file
+-- the letter of a line is one of eight, and its LF stands within the file
 fits :
     (c : tie.After-known-told Inv-loop μ-loop) →
-    (c .before .l .given .0 .0 < c .before .before .before .before .before .before .before .before .before .before .before .before .args .k) × (c .before .l .given .0 .1 .0 < length (now (c .before .before .before .before .before .before .before .before .before .before .before .before .args .p)))
+    (c .before .l .given .0 .0 < 8) × (c .before .l .given .0 .1 .0 < length (now (c .before .before .before .before .before .before .before .before .before .before .before .before .args .p)))
 fits c = rw (c .before .l .given .1) at (c .before .before .before .before .before .letter-line .ensures .0)
 
 loop-holds : tie.Need-loop-holds Inv-loop μ-loop
@@ -153,7 +156,7 @@ returns-3 c =
       (v .inv .2, omega arith),
       λ names n h.
           (let z = v .inv .6 names n h in
-          let e = sym (letters-done names (now (a .p)) (v .line) (v .at) (v .i) (a .count) (take (v .i) (v .letters)) (omega arith)) ∙ z .1 in
+          let e = sym (letters-done names (supersedingIn (now (a .rows))) (now (a .p)) (v .line) (v .at) (v .i) (a .count) (take (v .i) (v .letters)) (omega arith)) ∙ z .1 in
           (z .0, rw (← e) (refl, sym (take-append-drop (v .i) (v .letters)) ∙ ap (λ (l : List ℕ). take (v .i) (v .letters) ++ l) (v .inv .5 ∙ ap (λ (n : ℕ). drop n (now (a .letters))) i)))),
       v .inv .7,
     )

@@ -5,7 +5,7 @@ use native.Mathlib.Omega.{arith}
 use lib.ListN.{replicate}
 use denote.Ref.{now}
 use Rattle.format.specs.Format.{Sheet}
-use Rattle.parser.specs.LettersOf.{NamesIn}
+use Rattle.parser.specs.LettersOf.{LettersIn}
 use Rattle.plan.specs.Read.{ReadsPlan}
 use Rattle.plan.specs.declared.Planned.{Planned}
 use Rattle.plan_verdict.specs.PlanLaws.{letters-fit, judged-plan}
@@ -17,11 +17,11 @@ abbrev start : tie.After-read-plan → tie.Start
 start c = c .before .before .before .before .before .before .before
 
 -- such a sheet has at most 8 letters
-few : (c : tie.After-read-plan) (σ : Sheet) → NamesIn σ (start c .args .k) (now (start c .args .rows)) → σ .k ≤ 8
+few : (c : tie.After-read-plan) (σ : Sheet) → LettersIn σ (start c .args .k) (now (start c .args .rows)) → σ .k ≤ 8
 few c σ names = let k = names .letters in let m = start c .pre .1 .1 in omega arith
 
 -- what is read of the plan over it
-plan-of : (c : tie.After-read-plan) (σ : Sheet) → NamesIn σ (start c .args .k) (now (start c .args .rows)) → (r : Planned) → c .read-plan .result ≡ r
+plan-of : (c : tie.After-read-plan) (σ : Sheet) → LettersIn σ (start c .args .k) (now (start c .args .rows)) → (r : Planned) → c .read-plan .result ≡ r
     → ReadsPlan σ (now (start c .args .plan)) (replicate 400 0) (c .read-plan .last .1 .1 .1 .0) r
 plan-of c σ names r told = subst (ReadsPlan σ (now (start c .args .plan)) (replicate 400 0) (c .read-plan .last .1 .1 .1 .0)) told (c .read-plan .ensures .1 σ names .1)
 
@@ -46,7 +46,7 @@ judge-letters-requires c κs =
     let read = told .before .before .before .before .before in
     let (σ, names) = start read .pre .1 .2 in
     let (lead, cycle, plan, m, k, is) = plan-of read σ names _ (told .z .given .1) in
-    (start read .pre .0 .1, letters-fit σ (few read σ names) _ lead cycle plan 400 _ _ _ m k is)
+    (start read .pre .0 .1, letters-fit σ (few read σ names) (names .withdrawals) _ lead cycle plan 400 _ _ _ m k is)
 
 same-length : tie.Need-same-length
 same-length c = search needs
@@ -66,7 +66,7 @@ returns-2 c =
     let read = told .before .before .before .before .before in (
       λ σ names.
           (let (lead, cycle, plan, m, k, is) = plan-of read σ names _ (told .z .given .1) in
-          (lead, cycle, plan, judged-plan σ (few read σ names) _ lead cycle plan 400 _ _ _ m k is _ _ _ _ (c .judge-letters .ensures))),
+          (lead, cycle, plan, judged-plan σ (few read σ names) (names .withdrawals) _ lead cycle plan 400 _ _ _ m k is _ _ _ _ (c .judge-letters .ensures))),
       read .read-plan .ensures .2,
     )
 

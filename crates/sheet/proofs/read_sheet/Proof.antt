@@ -68,7 +68,7 @@ returns-2 c =
     let g = read c .read-long in
     let s = start (asked (read c)) in
     let after = readTables (g .last .1 .0) (g .last .1 .1 .0) (witnessTables (g .last .1 .1 .1 .0) (g .last .1 .1 .1 .1 .0) (g .last .1 .1 .1 .1 .1 .0)) in
-    reads-asked (s .args .sheet .now) (readTables (s .args .table .now) (replicate 192 0) (lent s)) after (g .result) (enough (asked (read c))) (g .ensures)
+    reads-asked (s .args .sheet .now) (readTables (s .args .table .now) (replicate 224 0) (lent s)) after (g .result) (enough (asked (read c))) (g .ensures)
 
 pub read-sheet-spec : {M : Type 1} → statement M
 read-sheet-spec =

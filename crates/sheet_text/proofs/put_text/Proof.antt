@@ -5,8 +5,10 @@ use mathlib.Core.List.{List}
 use native.Mathlib.Omega.{arith}
 use lib.ListN.{length}
 use Rattle.automaton.specs.Automaton.{Automaton, automaton}
-use Rattle.format.specs.Format.{nameLines}
+use Rattle.superseding.specs.Superseding.{supersedingIn}
+use Rattle.format.specs.Format.{Withdrawal, nameLines, withdrawalLines}
 use Rattle.sheet_sections.specs.RowNames.{rowNames}
+use Rattle.sheet_sections.specs.RowWithdrawals.{withdrawalsOf}
 use Rattle.sheet_text.specs.TextLaws.{statesText, transitionsText, text-length, text-stored}
 use borrow.Author.Needs.{needs}
 use Rattle.sheet_text.proofs.put_text.Statement.{statement}
@@ -19,9 +21,13 @@ numbers s = automaton (s .args .a) (s .args .table .now)
 abbrev names : tie.Start → List (List ℕ)
 names s = rowNames (s .args .rows .now) 0 (s .args .a .k)
 
+abbrev withdrawals : tie.Start → List Withdrawal
+withdrawals s = withdrawalsOf (supersedingIn (s .args .rows .now)) 0 (s .args .a .k)
+
 fits : (s : tie.Start) →
-    12 + (length (nameLines 0 (names s)) + (length (statesText (numbers s)) + (length (transitionsText (numbers s)) + 4))) ≤ length (s .args .out .now)
-fits s = omega (arith, s .pre .2, text-length (numbers s) (names s))
+    12 + (length (nameLines 0 (names s)) + (length (withdrawalLines (withdrawals s)) + (length (statesText (numbers s)) + (length (transitionsText (numbers s)) + 4))))
+    ≤ length (s .args .out .now)
+fits s = omega (arith, s .pre .2, text-length (numbers s) (names s) (withdrawals s))
 
 -- the states in which the parts are stored, one by one, in an output that keeps its length
 abbrev start : tie.After-put-head → tie.Start
@@ -30,8 +36,11 @@ start c = c .before .before .before .before .before
 abbrev head : tie.After-put-names → tie.After-put-head
 head c = c .before .before .before .before
 
-abbrev named : tie.After-put-states → tie.After-put-names
+abbrev named : tie.After-put-withdrawals → tie.After-put-names
 named c = c .before .before .before .before
+
+abbrev withdrawn : tie.After-put-states → tie.After-put-withdrawals
+withdrawn c = c .before .before .before .before
 
 abbrev stated : tie.After-put-transitions → tie.After-put-states
 stated c = c .before .before .before .before
@@ -39,8 +48,11 @@ stated c = c .before .before .before .before
 kept-names : (c : tie.After-put-names) → length (c .put-names .last .0) ≡ length (start (head c) .args .out .now)
 kept-names c = c .put-names .kept .0 ∙ head c .put-head .kept .0
 
-kept-states : (c : tie.After-put-states) → length (c .put-states .last .0) ≡ length (start (head (named c)) .args .out .now)
-kept-states c = c .put-states .kept .0 ∙ kept-names (named c)
+kept-withdrawals : (c : tie.After-put-withdrawals) → length (c .put-withdrawals .last .0) ≡ length (start (head (named c)) .args .out .now)
+kept-withdrawals c = c .put-withdrawals .kept .0 ∙ kept-names (named c)
+
+kept-states : (c : tie.After-put-states) → length (c .put-states .last .0) ≡ length (start (head (named (withdrawn c))) .args .out .now)
+kept-states c = c .put-states .kept .0 ∙ kept-withdrawals (withdrawn c)
 
 put-head-requires : tie.Need-put-head-requires
 put-head-requires c κs = omega (arith, fits (c .before .before .before .before))
@@ -50,15 +62,20 @@ put-names-requires c κs =
     let k = c .before .before .before in
     omega (arith, k .put-head .kept .0, fits (start k))
 
+put-withdrawals-requires : tie.Need-put-withdrawals-requires
+put-withdrawals-requires c κs =
+    let k = c .before .before .before in
+    omega (arith, kept-names k, fits (start (head k)))
+
 put-states-requires : tie.Need-put-states-requires
 put-states-requires c κs =
     let k = c .before .before .before in
-    omega (arith, kept-names k, fits (start (head k)))
+    omega (arith, kept-withdrawals k, fits (start (head (named k))))
 
 put-transitions-requires : tie.Need-put-transitions-requires
 put-transitions-requires c κs =
     let k = c .before .before .before in
-    let s = start (head (named k)) in
+    let s = start (head (named (withdrawn k))) in
     (s .pre .0 .table, omega (arith, kept-states k, fits s))
 
 slice-aggregate-put-bytes : tie.Need-slice-aggregate-put-bytes
@@ -67,7 +84,7 @@ slice-aggregate-put-bytes c = search needs
 put-bytes-requires : tie.Need-put-bytes-requires
 put-bytes-requires c κs =
     let k = c .before .before .before .before in
-    omega (arith, k .put-transitions .kept .0, kept-states (stated k), fits (start (head (named (stated k)))))
+    omega (arith, k .put-transitions .kept .0, kept-states (stated k), fits (start (head (named (withdrawn (stated k))))))
 
 same-length : tie.Need-same-length
 same-length c = search needs
@@ -76,12 +93,15 @@ returns : tie.Need-returns
 returns c =
     let transitions = c .before .before .before .before .before .before .before in
     let states = stated transitions in
-    let lines = named states in
+    let letters = withdrawn states in
+    let lines = named letters in
     let s = start (head lines) in
-    text-stored (numbers s) (names s) (s .args .out .now)
+    text-stored (numbers s) (names s) (withdrawals s) (s .args .out .now)
     (head lines .put-head .ensures)
     (lines .put-names .ensures .1)
     (lines .put-names .ensures .0)
+    (letters .put-withdrawals .ensures .1)
+    (letters .put-withdrawals .ensures .0)
     (states .put-states .ensures .1)
     (states .put-states .ensures .0)
     (transitions .put-transitions .ensures .1)
@@ -94,6 +114,7 @@ put-text-spec =
     (tie.spec
     put-head-requires
     put-names-requires
+    put-withdrawals-requires
     put-states-requires
     put-transitions-requires
     slice-aggregate-put-bytes

@@ -1,4 +1,4 @@
--- The name is looked up in the rows of the letters' names. Assumes nothing.
+-- The name is looked up in the rows of the letters' names, and its letter's chain is followed. Assumes nothing.
 use mathlib.Core.Path.{refl, _∙_}
 use mathlib.Core.List.{map}
 use native.Mathlib.Omega.{arith}
@@ -10,7 +10,7 @@ use Rattle.names.specs.NameLaws.{composed-name}
 use Rattle.name_rows.specs.Rows.{FirstName, OnlyRow}
 use Rattle.name_rows.specs.RowsLaws.{only-stored, only-none}
 use Rattle.format.specs.Format.{Sheet}
-use Rattle.parser.specs.LettersOf.{NamesIn}
+use Rattle.parser.specs.LettersOf.{LettersIn}
 use Rattle.letter_search.specs.LetterOfLaws.{letter-found, letter-nowhere}
 use borrow.Author.Needs.{needs}
 use Rattle.letter_search.proofs.finding.letter_named.Statement.{statement}
@@ -24,7 +24,7 @@ is-one : (c : tie.Else1) → IsName (start c .args .name .now)
 is-one c = c .before .is-name .ensures .0 (not-false _ (c .if1 .left))
 
 -- the rows were searched for it
-first : (c : tie.After-letter-of) (σ : Sheet) → NamesIn σ (start (c .before .before) .args .k) (start (c .before .before) .args .rows .now)
+first : (c : tie.After-letter-of) (σ : Sheet) → LettersIn σ (start (c .before .before) .args .k) (start (c .before .before) .args .rows .now)
     → FirstName (map compose (σ .names)) (compose (start (c .before .before) .args .name .now)) (c .letter-of .result)
 first c σ h =
     let whole = stretch-end (start (c .before .before) .args .name .now) 0 in
@@ -35,7 +35,7 @@ only-row : (c : tie.After-letter-of) → OnlyRow (start (c .before .before) .arg
 only-row c =
     let s = start (c .before .before) in
     let whole = stretch-end (s .args .name .now) 0 in
-    only-stored _ _ (compose _) (s .pre .1) (composed-name _ (rw whole (is-one (c .before .before))) .most) _ (c .letter-of .ensures .0)
+    only-stored _ _ (compose _) (let p = s .pre in omega arith) (composed-name _ (rw whole (is-one (c .before .before))) .most) _ (c .letter-of .ensures .0)
 
 is-name-requires : tie.Need-is-name-requires
 is-name-requires c κs = search needs
@@ -47,15 +47,23 @@ letter-of-requires : tie.Need-letter-of-requires
 letter-of-requires c κs =
     let m = is-one (c .before) .most in
     let p = start (c .before) .pre in
-    (p .0, p .1, record { order = omega arith; fits = omega arith }, omega arith)
+    (p .0, omega arith, record { order = omega arith; fits = omega arith }, omega arith)
+
+final-letter-requires : tie.Need-final-letter-requires
+final-letter-requires c κs = search needs
 
 same-length : tie.Need-same-length
 same-length c = search needs
 
 returns-2 : tie.Need-returns-2
 returns-2 c =
-    let found = c .before .before .before in
-    (λ σ h. letter-found h (start (found .before .before) .args .name .now) (found .letter-of .result) (first found σ h) (is-one (found .before .before)) (c .if2 .taken), only-row found)
+    let found = c .before .before .before .before .before in
+    let s = start (found .before .before) in (
+      λ σ h.
+          letter-found h (s .args .name .now) (found .letter-of .result) (first found σ h) (s .pre .0) (only-row found) (is-one (found .before .before))
+          (c .before .before .if2 .taken) (c .final-letter .ensures .0),
+      only-row found,
+    )
 
 same-length-2 : tie.Need-same-length-2
 same-length-2 c = search needs
@@ -72,6 +80,7 @@ letter-named-spec =
     is-name-requires
     returns
     letter-of-requires
+    final-letter-requires
     same-length
     returns-2
     same-length-2

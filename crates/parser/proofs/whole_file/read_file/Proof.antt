@@ -21,6 +21,8 @@ use Rattle.name_lines.specs.declared.Names.{Names}
 use Rattle.state_lines.specs.declared.Sets.{Sets}
 use Rattle.parser.specs.declared.File.{File}
 use Rattle.parser.specs.declared.File.the-variants as F
+use Rattle.withdrawal_lines.specs.WithdrawalLines.{Superseded, withdrawalsAt}
+use Rattle.parser.specs.LettersRowsLaws.{none-withdrawn}
 use Rattle.parser.specs.FileLaws.{too-large, not-large, refused-by-names, NamesHanded, names-pass, RowsLeft, with-rows}
 use borrow.Author.Needs.{needs}
 use Rattle.parser.proofs.whole_file.read_file.Statement.{statement}
@@ -81,13 +83,13 @@ passes c =
 
 -- behind the numbers: their answer r, with what the rows hold then
 numbered : (c : tie.After-read-numbers) (r : File) → c .read-numbers .result ≡ r →
-    let known = c .before .before in
+    let known = c .before .before .before in
     let h = headed (named known) in
     let a = start (lined h) .args in
-    (rows : List ℕ) → RowsLeft (sizes (n h) (k h)) (passes known .named) (a .rows .now) rows r →
-    FileRead (parse (a .s .now)) (a .table .now) (c .read-numbers .last .1 .1 .1 .0) (a .rows .now) rows r
+    (rows : List ℕ) → RowsLeft (sizes (n h) (k h)) (passes known .named) (a .rows .now) (named known .read-names .last .1 .1 .0) (c .read-numbers .last .1 .1 .1 .0) rows r →
+    FileRead (parse (a .s .now)) (a .table .now) (c .read-numbers .last .1 .1 .1 .1 .0) (a .rows .now) rows r
 numbered c r told rows left =
-    let known = c .before .before in
+    let known = c .before .before .before in
     let h = headed (named known) in
     let l = lined h in
     let a = start l .args in
@@ -95,11 +97,18 @@ numbered c r told rows left =
     let p = passes known in
     let y = p .named in
     let z = sizes (n h) (k h) in
-    let next : Sets → Phase (List ℕ) = λ q. transitionsAt s (n h) (k h) (q .line) (q .at) 0 (replicate 128 0) (length s + 1) in
-    let u = c .read-numbers .last .1 .1 .1 .0 in
+    let mid = named known .read-names .last .1 .1 .0 in
+    let states : Superseded → Phase Sets = λ w. statesAt s (w .line) (w .at) 0 0 0 (n h) in
+    let transitions : Superseded → Sets → Phase (List ℕ) = λ w q. transitionsAt s (w .cells) (n h) (k h) (q .line) (q .at) 0 (replicate 128 0) (length s + 1) in
+    let after = c .read-numbers .last .1 .1 .1 .0 in
+    let u = c .read-numbers .last .1 .1 .1 .1 .0 in
     rw (not-large s (l .before .before .if1 .left), read h, p .is)
-    (with-rows z y (a .rows .now) rows (statesAt s (y .line) (y .at) 0 0 0 (n h)) next (a .table .now) u r
-    (subst (NumbersRead (afterNames s z y) (a .table .now) u) told (c .read-numbers .ensures y (p .at) (p .line))) left)
+    (with-rows z y (a .rows .now) mid (withdrawalsAt s (k h) (y .line) (y .at) 0 (replicate 8 0) (length s + 1)) states transitions (a .table .now) u after rows r
+    (subst (NumbersRead (afterNames s z y) (a .table .now) u mid after) told (c .read-numbers .ensures y (p .at) (p .line))) left)
+
+-- the rows with the names are as long as those that were lent
+names-long : (c : tie.After-read-names) → length (c .read-names .last .1 .1 .0) ≡ length (start (lined (headed c)) .args .rows .now)
+names-long c = c .read-names .kept .1 .1 .0 ∙ clear (lined (headed c)) .clear-bytes .kept .0
 
 clear-bytes-requires : tie.Need-clear-bytes-requires
 clear-bytes-requires c κs = search needs
@@ -136,10 +145,13 @@ enum-known-place c = search needs
 
 read-numbers-requires : tie.Need-read-numbers-requires
 read-numbers-requires c κs =
-    let h = headed (named (c .before)) in
+    let known = c .before .before in
+    let h = headed (named known) in
     let first = start (lined h) in
-    let p = passes (c .before) in
-    (lined h .before .before .if1 .left, in-range h, p .small-line, p .small-at, first .pre .0, first .pre .1)
+    let p = passes known in
+    let rows = named known .read-names .last .1 .1 .0 in
+    let none = none-withdrawn (k h) rows (first .args .rows .now) (in-range h .3) (first .pre .2) (p .behind) in
+    (lined h .before .before .if1 .left, in-range h, p .small-line, p .small-at, omega (arith, names-long (named known), first .pre .2), none, first .pre .0, first .pre .1)
 
 enum-known-r-3 : tie.Need-enum-known-r-3
 enum-known-r-3 c = search needs
@@ -179,31 +191,36 @@ same-length-4 : tie.Need-same-length-4
 same-length-4 c = search needs
 
 same-length-5 : tie.Need-same-length-5
-same-length-5 c = search needs
+same-length-5 c =
+    let numbers = c .before .before .before .before .before .before .before .before .before .before .before in
+    c .before .before .clear-bytes2 .kept .0 ∙ (numbers .read-numbers .kept .1 .1 .1 .0 ∙ names-long (named (numbers .before .before .before)))
 
 returns-4 : tie.Need-returns-4
 returns-4 c =
     let told = c .before .before .before .before .before in
-    let numbers = told .before .before .before .before in
-    let g = named (numbers .before .before) in
-    let l = lined (headed g) in
+    let numbers = told .before .before .before .before .before .before in
+    let g = named (numbers .before .before .before) in
     numbered numbers (F.Refused (told .r3 .given .0 .0)) (told .r3 .given .1) (c .before .before .clear-bytes2 .last .0)
-    (c .before .before .clear-bytes2 .ensures ∙ same-cleared (start l .args .rows .now) (g .read-names .last .1 .1 .0) (g .read-names .kept .1 .1 .0 ∙ clear l .clear-bytes .kept .0))
+    (c .before .before .clear-bytes2 .ensures
+    ∙ same-cleared (start (lined (headed g)) .args .rows .now) (numbers .read-numbers .last .1 .1 .1 .0) (numbers .read-numbers .kept .1 .1 .1 .0 ∙ names-long g))
 
 same-length-6 : tie.Need-same-length-6
 same-length-6 c = search needs
 
 same-length-7 : tie.Need-same-length-7
-same-length-7 c = search needs
+same-length-7 c =
+    let numbers = c .before .before .before .before .before .before .before in
+    numbers .read-numbers .kept .1 .1 .1 .0 ∙ names-long (named (numbers .before .before .before))
 
 returns-5 : tie.Need-returns-5
 returns-5 c =
     let told = c .before in
-    let numbers = told .before .before .before .before in
-    let known = numbers .before .before in
+    let numbers = told .before .before .before .before .before .before in
+    let known = numbers .before .before .before in
     let p = passes known in
-    numbered numbers (F.Is (told .a .given .0 .0)) (told .a .given .1) (named known .read-names .last .1 .1 .0)
-    (in-range (headed (named known)), p .all, p .holds, p .behind)
+    let first = start (lined (headed (named known))) in
+    numbered numbers (F.Is (told .a .given .0 .0)) (told .a .given .1) (numbers .read-numbers .last .1 .1 .1 .0)
+    (refl, in-range (headed (named known)), p .all, p .holds, p .behind, omega (arith, names-long (named known), first .pre .2))
 
 pub read-file-spec : {M : Type 1} → statement M
 read-file-spec =

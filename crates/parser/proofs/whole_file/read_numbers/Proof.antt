@@ -1,121 +1,114 @@
 -- Each answer is that of the phase which gives it: FileLaws. Assumes nothing.
-use Prim.Native.Nat.{ℕ, _+_, _≤_}
-use mathlib.Core.Path.{_≡_, sym, _∙_}
+use Prim.Native.Nat.{ℕ, _+_}
+use mathlib.Core.Path.{_≡_, sym, _∙_, ap, subst}
 use mathlib.Core.List.{List}
 use native.Mathlib.Omega.{arith}
 use denote.Ref.{now}
 use lib.ListN.{length, replicate}
-use Rattle.parser.specs.Parse.{Contents, afterStates}
+use Rattle.superseding.specs.Superseding.{supersedingIn}
+use Rattle.superseding.specs.SupersedingLaws.{eight-stored}
+use Rattle.withdrawal_lines.specs.WithdrawalLines.{Superseded, withdrawalsAt, WithdrawalsRead}
+use Rattle.withdrawal_lines.specs.declared.Withdrawals.{Withdrawals}
 use Rattle.state_lines.specs.StateLines.{statesAt}
-use Rattle.transition_lines.specs.TransitionLines.{transitionsAt, FillsTable}
-use Rattle.frame.specs.Phase.{Phase, andThen}
+use Rattle.transition_lines.specs.TransitionLines.{transitionsAt}
 use Rattle.state_lines.specs.declared.Sets.{Sets}
-use Rattle.frame.specs.declared.End.{End}
-use Rattle.parser.specs.FileLaws.{sets-zero, behind-zero, refused-by-states, states-pass, refused-by-transitions, transitions-pass}
+use Rattle.frame.specs.Phase.{Phase}
+use Rattle.parser.specs.Parse.{afterWithdrawals}
+use Rattle.parser.specs.FileLaws.{refused-by-withdrawals, WithdrawalsHanded, withdrawals-pass, with-cells}
 use borrow.Author.Needs.{needs}
 use Rattle.parser.proofs.whole_file.read_numbers.Statement.{statement}
 use Rattle.parser.proofs.whole_file.read_numbers.Tie as tie
 
-abbrev start : tie.After-read-states → tie.Start
-start c = c .before .before .before
+abbrev start : tie.After-read-withdrawals → tie.Start
+start c = c .before .before .before .before .before
 
-abbrev states : tie.After-read-states → Phase Sets
-states c =
+abbrev withdrawals : tie.After-read-withdrawals → List ℕ → Phase Superseded
+withdrawals c cells =
     let a = start c .args in
-    statesAt (now (a .s)) (a .place .line) (a .place .at) 0 0 0 (a .z .n)
+    withdrawalsAt (now (a .s)) (a .z .k) (a .place .line) (a .place .at) 0 cells (length (now (a .s)) + 1)
 
--- behind the state lines: both sets are read, and where the next line stands
-abbrev stated : tie.After-known-told2 → tie.After-read-states
-stated c = c .before .before .before
+abbrev left : tie.After-read-withdrawals → List ℕ
+left c = c .read-withdrawals .last .1 .1 .1 .1 .0
 
-abbrev q : tie.After-known-told2 → Sets
-q c = c .before .q .given .0 .0
+-- the answer of the withdrawal lines, in rows whose cells were zero
+withdrawn-as : (c : tie.After-read-withdrawals) (w : Withdrawals) → c .read-withdrawals .result ≡ w →
+    WithdrawalsRead (withdrawals c (replicate 8 0)) (now (start c .args .rows)) (left c) w
+withdrawn-as c w e =
+    let rows = now (start c .args .rows) in
+    subst (λ (cells : List ℕ). WithdrawalsRead (withdrawals c cells) rows (left c) w) (start c .pre .5)
+    (subst (WithdrawalsRead (withdrawals c (supersedingIn rows)) rows (left c)) e (c .read-withdrawals .ensures))
 
-after : (c : tie.After-known-told2) → (q c .line ≤ 26) × (q c .at ≤ 500)
-after c = rw (c .before .q .given .1) at (stated c .read-states .ensures .1)
+-- behind them
+abbrev read : tie.After-known-told2 → tie.After-read-withdrawals
+read c = c .before .before .before .before .before
 
-states-passed : (c : tie.After-known-told2) (next : Sets → Phase Contents) → andThen (states (stated c)) next ≡ next (q c)
-states-passed c next = states-pass (states (stated c)) next (q c) (sym (c .before .q .given .1) ∙ stated c .read-states .ensures .0)
+passes : (c : tie.After-known-told2) →
+    WithdrawalsHanded (withdrawals (read c) (replicate 8 0)) (now (start (read c) .args .rows)) (left (read c)) (c .before .behind .given .0 .0)
+passes c =
+    withdrawals-pass (withdrawals (read c) (replicate 8 0)) (now (start (read c) .args .rows)) (left (read c)) (c .before .behind .given .0 .0)
+    (withdrawn-as (read c) _ (c .before .behind .given .1))
 
--- behind the transition lines: their answer, and the table that they leave
-abbrev told : tie.After-read-transitions → tie.After-known-told2
-told c = c .before .before
-
-abbrev transitions : tie.After-known-told2 → Phase (List ℕ)
-transitions c =
-    let a = start (stated c) .args in
-    transitionsAt (now (a .s)) (a .z .n) (a .z .k) (q c .line) (q c .at) 0 (replicate 128 0) (length (now (a .s)) + 1)
-
-abbrev left : tie.After-read-transitions → List ℕ
-left c = c .read-transitions .last .1 .1 .1 .1 .1 .0
-
-filled : (c : tie.After-read-transitions) (r : End) → c .read-transitions .result ≡ r →
-    FillsTable (transitions (told c)) (now (start (stated (told c)) .args .table)) (left c) r
-filled c r e =
-    let g = start (stated (told c)) in
-    rw (sets-zero (now (g .args .table)) (g .pre .5) (g .pre .4), e) at (c .read-transitions .ensures)
-
-read-states-requires : tie.Need-read-states-requires
-read-states-requires c κs = search needs
+read-withdrawals-requires : tie.Need-read-withdrawals-requires
+read-withdrawals-requires c κs = search needs
 
 enum-known-r : tie.Need-enum-known-r
 enum-known-r c = search needs
 
-enum-known-q : tie.Need-enum-known-q
-enum-known-q c = search needs
+enum-known-behind : tie.Need-enum-known-behind
+enum-known-behind c = search needs
 
-read-transitions-requires : tie.Need-read-transitions-requires
-read-transitions-requires c κs = omega (arith, after (c .before))
-
-enum-known-r-2 : tie.Need-enum-known-r-2
-enum-known-r-2 c = search needs
-
-enum-told : tie.Need-enum-told
-enum-told c = search needs
-
-returns : tie.Need-returns
-returns c y here there =
-    let d = c .before .before .before in
-    let g = start d in
-    let t = now (g .args .table) in
-    rw (there, here)
-    (refused-by-states (states d) (afterStates (now (g .args .s)) (g .args .z) y) t t (c .before .r .given .0 .0)
-    (sym (c .before .r .given .1) ∙ d .read-states .ensures .0) (g .pre .5))
+read-graph-requires : tie.Need-read-graph-requires
+read-graph-requires c κs =
+    let known = c .before .before in
+    let d = read known in
+    let p = passes known in
+    let g = start d .pre in
+    (g .0, g .1, p .small-line, p .small-at, omega (arith, d .read-withdrawals .kept .1 .1 .1 .1 .0, g .4), g .6, g .7)
 
 same-length : tie.Need-same-length
 same-length c = search needs
 
-returns-2 : tie.Need-returns-2
-returns-2 c y here there =
+returns : tie.Need-returns
+returns c y here there =
     let d = c .before .before .before .before .before in
-    let r = c .before .r2 .given in
-    let a = start (stated (told d)) .args in
-    rw (there, here, states-passed (told d) _)
-    (refused-by-transitions (a .z) y (q (told d)) (transitions (told d)) (now (a .table)) (left d) (r .0 .0) (filled d _ (r .1)))
+    let g = start d in
+    let t = now (g .args .table) in
+    rw (there, here)
+    (refused-by-withdrawals (withdrawals d (replicate 8 0)) (afterWithdrawals (now (g .args .s)) (g .args .z) y) t t (now (g .args .rows)) (left d)
+    (c .before .r .given .0 .0) (withdrawn-as d _ (c .before .r .given .1)) (g .pre .7))
 
 same-length-2 : tie.Need-same-length-2
 same-length-2 c = search needs
 
-returns-3 : tie.Need-returns-3
-returns-3 c y here there =
-    let d = c .before .before .before .before in
-    let g = start (stated (told d)) in
-    let t = now (g .args .table) in
-    rw (there, here, states-passed (told d) _)
-    (transitions-pass (g .args .z) y (q (told d)) (transitions (told d)) t (left d) (filled d _ (c .enum-told .given .1)) (behind-zero t (g .pre .5) (g .pre .4)))
+same-length-3 : tie.Need-same-length-3
+same-length-3 c = search needs
+
+returns-2 : tie.Need-returns-2
+returns-2 c y here there =
+    let graph = c .before .before in
+    let known = graph .before .before .before in
+    let d = read known in
+    let p = passes known in
+    let w = p .superseded in
+    let g = start d in
+    let s = now (g .args .s) in
+    let z = g .args .z in
+    let next : Sets → Phase (List ℕ) = λ q. transitionsAt s (w .cells) (z .n) (z .k) (q .line) (q .at) 0 (replicate 128 0) (length s + 1) in
+    let cells : w .cells ≡ supersedingIn (left d) = sym (ap supersedingIn (p .stored) ∙ eight-stored (now (g .args .rows)) (w .cells) (p .eight) (g .pre .4)) in
+    rw (there, here, p .is)
+    (with-cells z y w (now (g .args .rows)) (left d) (p .eight) (p .stored) (statesAt s (w .line) (w .at) 0 0 0 (z .n)) next (now (g .args .table))
+    (graph .read-graph .last .1 .1 .1 .1 .0) (graph .read-graph .result) (graph .read-graph .ensures y w (p .at) (p .line) cells))
 
 pub read-numbers-spec : {M : Type 1} → statement M
 read-numbers-spec =
     tie.close
     (tie.spec
-    read-states-requires
+    read-withdrawals-requires
     enum-known-r
-    enum-known-q
-    read-transitions-requires
-    enum-known-r-2
-    enum-told
-    returns
+    enum-known-behind
+    read-graph-requires
     same-length
-    returns-2
+    returns
     same-length-2
-    returns-3)
+    same-length-3
+    returns-2)

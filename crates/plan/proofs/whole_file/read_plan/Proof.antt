@@ -8,7 +8,9 @@ use Rattle.gate.specs.GateLaws.{same-cleared}
 use Rattle.columns.specs.Pair.{wordAndPair}
 use Rattle.names.specs.Name.{compose}
 use Rattle.name_rows.specs.RowsLaws.{only-none}
+use Rattle.superseding.specs.Superseding.{supersedingIn}
 use Rattle.format.specs.Format.{Sheet}
+use Rattle.format.specs.Withdrawals.{supersedingOf}
 use Rattle.frame.specs.declared.Position.{Position}
 use Rattle.frame.specs.declared.End.{End}
 use Rattle.frame.specs.declared.End.the-variants as E
@@ -20,8 +22,9 @@ use Rattle.plan.specs.declared.Planned.the-variants as P
 use Rattle.plan.specs.Plan.{planWord, LengthsRight}
 use Rattle.plan.specs.Parse.{lengths, planBounds, planHeadOf, planOf}
 use Rattle.plan_lines.specs.LetterLines.{lettersAt, PlaceFits, LettersRead}
+use Rattle.plan_lines.specs.StepLaws.{superseding-still}
 use Rattle.plan.specs.Answers.{planned}
-use Rattle.parser.specs.LettersOf.{NamesIn}
+use Rattle.parser.specs.LettersOf.{LettersIn}
 use Rattle.plan.specs.Read.{ReadsPlan}
 use Rattle.plan.specs.ReadLaws.{reads}
 use Rattle.plan.specs.FileLaws.{EndLeaves, letters-refused, plan-ended}
@@ -57,19 +60,27 @@ read c =
 abbrev headed : tie.After-read-letters → tie.After-known-told2
 headed c = c .before .before .before
 
+abbrev Lettered-as : tie.After-read-letters → Sheet → List ℕ → Letters → Type 0
+Lettered-as c σ cells w =
+    let h = headed c in
+    let a = start (lined h) .args in
+    LettersRead (lettersAt (map compose (σ .names)) cells (a .p .now) 2 11 [] (lead h + cycle h)) (lead h + cycle h) (a .letters .now) (c .read-letters .last .1 .1 .1 .1 .0) w
+
 lettered-as : (c : tie.After-read-letters) (w : Letters) → c .read-letters .result ≡ w →
-    let h = headed c in
-    let a = start (lined h) .args in
-    (σ : Sheet) → NamesIn σ (a .k) (a .rows .now) →
-    NamesIn σ (a .k) (c .read-letters .last .1 .0)
-    × LettersRead (lettersAt (map compose (σ .names)) (a .p .now) 2 11 [] (lead h + cycle h)) (lead h + cycle h) (a .letters .now) (c .read-letters .last .1 .1 .1 .1 .0) w
+    let a = start (lined (headed c)) .args in
+    (σ : Sheet) → LettersIn σ (a .k) (a .rows .now) →
+    LettersIn σ (a .k) (c .read-letters .last .1 .0) × Lettered-as c σ (supersedingOf (σ .withdrawals)) w
 lettered-as c w e σ g =
-    let h = headed c in
-    let a = start (lined h) .args in
-    let names = map compose (σ .names) in
-    let (held, answer) = c .read-letters .ensures .1 names (length-map (σ .names) compose ∙ g .all-names) (g .holds) in (
-      record { letters = g .letters; all-names = g .all-names; holds = held },
-      subst (LettersRead (lettersAt names (a .p .now) 2 11 [] (lead h + cycle h)) (lead h + cycle h) (a .letters .now) (c .read-letters .last .1 .1 .1 .1 .0)) e answer,
+    let first = start (lined (headed c)) in
+    let (held, answer) = c .read-letters .ensures .1 (map compose (σ .names)) (length-map (σ .names) compose ∙ g .all-names) (g .holds) in (
+      record {
+        letters = g .letters;
+        all-names = g .all-names;
+        holds = held;
+        withdrawals = g .withdrawals;
+        superseding = superseding-still (first .pre .1) (c .read-letters .ensures .2) ∙ g .superseding;
+      },
+      subst (λ (cells : List ℕ). Lettered-as c σ cells w) (g .superseding) (subst (Lettered-as c σ (supersedingIn (first .args .rows .now))) e answer),
     )
 
 -- behind the last line: its answer, and what the buffer holds then
@@ -84,8 +95,8 @@ ended : (c : tie.After-end-line) (r : End) → c .end-line .result ≡ r →
     let h = headed d in
     let a = start (lined h) .args in
     (v : List ℕ) → EndLeaves (a .letters .now) (d .read-letters .last .1 .1 .1 .1 .0) v r →
-    (σ : Sheet) → NamesIn σ (a .k) (a .rows .now) →
-    NamesIn σ (a .k) (d .read-letters .last .1 .0) × ReadsPlan σ (a .p .now) (a .letters .now) v (planned (lengths (lead h) (cycle h)) r)
+    (σ : Sheet) → LettersIn σ (a .k) (a .rows .now) →
+    LettersIn σ (a .k) (d .read-letters .last .1 .0) × ReadsPlan σ (a .p .now) (a .letters .now) v (planned (lengths (lead h) (cycle h)) r)
 unfolding planOf
 ended c r e v left σ g =
     let d = letters c in
@@ -96,10 +107,11 @@ ended c r e v left σ g =
     let t = first .args .letters .now in
     let u = d .read-letters .last .1 .1 .1 .1 .0 in
     let names = map compose (σ .names) in
+    let cells = supersedingOf (σ .withdrawals) in
     let (held, answer) = lettered-as d _ (c .before .before .place .given .1) σ g in (
       held,
-      reads σ (g .all-names ∙ sym (g .letters)) p t v (first .pre .0) (planned z r)
-          (rw (read h) (plan-ended p t u z v (lettersAt names p 2 11 [] (lead h + cycle h)) (place c) r answer (sym e ∙ c .end-line .ensures) left)),
+      reads g (first .pre .1) p t v (first .pre .0) (planned z r)
+          (rw (read h) (plan-ended p t u z v (lettersAt names cells p 2 11 [] (lead h + cycle h)) (place c) r answer (sym e ∙ c .end-line .ensures) left)),
     )
 
 slice-aggregate-first-line : tie.Need-slice-aggregate-first-line
@@ -159,7 +171,7 @@ returns c =
     let (number, line, e, f) = first-refused planBounds lengths 12 13 (wordAndPair (a .p .now) planWord) r (sym (told .r .given .1) ∙ l .first-line .ensures .0) in (
       tt,
       λ σ g.
-          (g, reads σ (g .all-names ∙ sym (g .letters)) (a .p .now) (a .letters .now) (clear .last .0) (start l .pre .0) (P.Refused r) (rw f (ap P.Refused e, clear .ensures))),
+          (g, reads g (start l .pre .1) (a .p .now) (a .letters .now) (clear .last .0) (start l .pre .0) (P.Refused r) (rw f (ap P.Refused e, clear .ensures))),
       only-none _ _,
     )
 
@@ -183,10 +195,11 @@ returns-2 c =
       tt,
       λ σ g.
           (let names = map compose (σ .names) in
+          let cells = supersedingOf (σ .withdrawals) in
           let (held, answer) = lettered-as d _ (told .r2 .given .1) σ g in (
             held,
-            reads σ (g .all-names ∙ sym (g .letters)) p t u (first .pre .0) (P.Refused r)
-                (rw (read h) (letters-refused p t u (lengths (lead h) (cycle h)) (lettersAt names p 2 11 [] (lead h + cycle h)) r answer)),
+            reads g (first .pre .1) p t u (first .pre .0) (P.Refused r)
+                (rw (read h) (letters-refused p t u (lengths (lead h) (cycle h)) (lettersAt names cells p 2 11 [] (lead h + cycle h)) r answer)),
           )),
       d .read-letters .ensures .2,
     )

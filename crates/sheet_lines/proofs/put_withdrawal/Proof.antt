@@ -1,0 +1,28 @@
+-- `sheet_lines::put_withdrawal` meets its contract: the parts are stored one behind the other. Assumes nothing.
+use native.Mathlib.Omega.{arith}
+use borrow.Author.Needs.{needs}
+use lib.ListN.{length-set}
+use Rattle.sheet_lines.specs.LineLaws.{withdrawal-stored}
+use Rattle.sheet_lines.proofs.put_withdrawal.Statement.{statement}
+use Rattle.sheet_lines.proofs.put_withdrawal.Tie as tie
+
+slice-write-out : tie.Need-slice-write-out
+slice-write-out c = search needs
+
+add-put-last : tie.Need-add-put-last
+add-put-last c = search needs
+
+put-last-requires : tie.Need-put-last-requires
+put-last-requires c κs = simp length-set (omega arith)
+
+same-length : tie.Need-same-length
+same-length c = simp length-set at (c .before .before .put-last .kept .0)
+
+returns : tie.Need-returns
+returns c =
+    let a = c .before .before .before .before .before .args in
+    withdrawal-stored (a .out .now) (a .at) (a .letter) (a .by) (c .before .before .put-last .ensures)
+
+pub put-withdrawal-spec : {M : Type 1} → statement M
+put-withdrawal-spec =
+    tie.close (tie.spec slice-write-out add-put-last put-last-requires same-length returns)

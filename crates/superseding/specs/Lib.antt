@@ -1,0 +1,3 @@
+pub mod Superseding
+pub mod SupersedingLaws
+pub mod Unfold

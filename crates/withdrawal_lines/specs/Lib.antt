@@ -1,0 +1,5 @@
+pub mod WithdrawalLines
+pub mod WithdrawalLaws
+pub mod WithdrawalUniqueLaws
+pub mod WithdrawalStepLaws
+pub mod Unfold
