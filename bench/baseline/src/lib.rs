@@ -31,6 +31,8 @@ pub struct Sheet {
     pub recurring: u16,
     pub next: [u16; 128],
     pub names: Vec<Vec<u8>>,
+    /// The letter that finally stands for each letter.
+    pub standing: [usize; 8],
 }
 
 fn number(b: &[u8]) -> Option<usize> {
@@ -113,6 +115,26 @@ pub fn read_sheet(s: &[u8]) -> Result<Sheet, No> {
         at += 6 + end;
         line += 1;
     }
+    let mut by = [0usize; 8];
+    let mut free = 0;
+    while at < s.len() && s[at] == b'W' {
+        if s.len() < at + 8 || s[at + 7] != b'\n' {
+            return Err((15, line));
+        }
+        let (l, m) = (number(&s[at + 1..at + 4]).ok_or((15, line))?, number(&s[at + 4..at + 7]).ok_or((15, line))?);
+        if l < free || m <= l || m >= k {
+            return Err((15, line));
+        }
+        by[l] = m;
+        free = l + 1;
+        at += 8;
+        line += 1;
+    }
+    // A superseding letter is the larger one, so it is settled before.
+    let mut standing = [0usize; 8];
+    for l in (0..k).rev() {
+        standing[l] = if by[l] == 0 { l } else { standing[by[l]] };
+    }
     let (mut initial, mut recurring) = (0u16, 0u16);
     for q in 0..n {
         let good = s.len() >= at + 11 && s[at] == b'S' && s[at + 10] == b'\n' && number(&s[at + 1..at + 4]) == Some(q);
@@ -138,6 +160,9 @@ pub fn read_sheet(s: &[u8]) -> Result<Sheet, No> {
         if q >= n || l >= k || r >= n || place < least {
             return Err((8, line));
         }
+        if by[l] != 0 {
+            return Err((16, line));
+        }
         next[8 * q + l] |= 1 << r;
         least = place + 1;
         at += 11;
@@ -149,7 +174,7 @@ pub fn read_sheet(s: &[u8]) -> Result<Sheet, No> {
     if s.len() > at + 4 {
         return Err((9, line + 1));
     }
-    Ok(Sheet { n, k, initial, recurring, next, names })
+    Ok(Sheet { n, k, initial, recurring, next, names, standing })
 }
 
 /// Is there a word with two different walks to one state? Pairs of states reached together, layer by layer.
@@ -325,7 +350,7 @@ pub fn read_plan(p: &[u8], s: &Sheet) -> Result<(Vec<usize>, usize), No> {
     for i in 0..lead + cycle {
         let end = p[at..].iter().take(25).position(|b| *b == b'\n').ok_or((12, i + 2))?;
         let name = composed(&p[at..at + end]).ok_or((12, i + 2))?;
-        letters.push(s.names.iter().position(|x| *x == name).ok_or((14, i + 2))?);
+        letters.push(s.standing[s.names.iter().position(|x| *x == name).ok_or((14, i + 2))?]);
         at += end + 1;
     }
     if !p[at..].starts_with(b"END\n") {

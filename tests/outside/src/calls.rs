@@ -13,18 +13,20 @@ mod scenario;
 
 use crate::bench::Bench;
 use crate::random::Random;
-use call::{Call, ALL, LATE};
+use call::{Call, ALL, BY_FILE, LATE};
 use scenario::Scenario;
 
 /// How many sheets, with their numbers and plans, the calls are tried on.
 const SCENARIOS: u64 = 4000;
+/// How many more of them there are with withdrawn letters.
+const WITHDRAWN: u64 = 2000;
 /// How often each call is tried on each of them.
 const TIMES: usize = 4;
 
 pub fn run(b: &mut Bench) {
-    for seed in 0..SCENARIOS {
+    for seed in 0..SCENARIOS + WITHDRAWN {
         let mut r = Random::new(seed << 20 | 0xca11);
-        let s = Scenario::new(&mut r, seed);
+        let s = Scenario::new(&mut r, seed, seed >= SCENARIOS);
         for call in ALL {
             // The listing program clears 149,525 bytes each time.
             let times = if call == Call::Track { 1 } else { TIMES };
@@ -49,8 +51,11 @@ fn one(b: &mut Bench, r: &mut Random, s: &Scenario, call: Call) {
     let (mut after, mut used) = (before.clone(), a.clone());
     let returned = foreign::call(call, &mut used, &mut after);
     let difference = compare::difference(&want, returned, &after).or_else(|| (used != a).then(|| "an argument that is only read".to_string()));
-    if difference.is_none() {
-        b.refused.insert((call.name(), if want.late { LATE } else { want.number }));
+    // A short table for the answer may not tell which refusal it was.
+    let told = call.program().is_some() || after.answer.len() >= 4;
+    if difference.is_none() && told {
+        let kind = if want.late { LATE } else if want.by_file { BY_FILE } else { want.number };
+        b.refused.insert((call.name(), kind));
     }
     let text = difference.as_ref().map_or(String::new(), |what| format!("{what}\n{a:?}\n{}", before.lengths()));
     b.count(call.name(), want.number, difference.is_none(), text.as_bytes());

@@ -45,6 +45,7 @@ pub fn sheet_of(n: usize, k: usize, initial: &[usize], recurring: &[usize], edge
         recurring: (0..n).map(|q| recurring.contains(&q)).collect(),
         next,
         names: (0..k).map(|l| vec![A16.as_bytes()[l]]).collect(),
+        withdrawn: Vec::new(),
     }
 }
 
@@ -207,6 +208,90 @@ impl Cases {
         self.text(b"SHEET", &long);
     }
 
+    /// Withdrawn grades: old names in plans, the withdrawal lines in every way they can be wrong, transitions on withdrawn letters.
+    fn withdrawals(&mut self, inputs: &std::path::Path) {
+        let mut s = sheet_of(2, 4, &[0], &[1], &[(0, 2, 1), (0, 3, 0), (1, 3, 0)]);
+        s.names = ["St37", "Fe360", "S235", "neutral"].map(|x| x.as_bytes().to_vec()).to_vec();
+        s.withdrawn = vec![(0, 1), (1, 2)];
+        for l in 0..4 {
+            self.judged(ROOM, &s, &[], &[l, 3]);
+            self.judged(ROOM, &s, &[l], &[3]);
+            self.judged(ROOM, &s, &[3], &[l, 2, 3]);
+        }
+        for room in [0, 1, 2, 3, 4, 5] {
+            self.judged(room, &s, &[], &[0, 3]);
+        }
+        self.judged(ROOM, &s, &[3, 0].repeat(100), &[3, 0, 3, 1, 3, 2, 3, 0].repeat(25));
+        let plan = b"PLAN  1  2\nFe360\nneutral\nSt37\nEND\n";
+        let file = String::from_utf8(write_sheet(&s, false)).unwrap();
+        self.text(file.as_bytes(), b"PLAN  0  2\nSt37\nSt52\nEND\n");
+        let with = |old: &str, new: &str| file.replacen(old, new, 1).into_bytes();
+        for line in [
+            "", "\n", "W\n", "W", "W  0\n", "W  0  1", "W  0  1 \n", "W  0  1\r\n", "W 0  1\n", "W 00  1\n", "W  0 01\n", "W000001\n", "W  x  1\n", "W  0  x\n",
+            "W     1\n", "W  0   \n", "W  0 -1\n", "W  0  1  2\n", "W  0  0\n", "W  1  0\n", "W  1  1\n", "W  0  3\n", "W  0  4\n", "W  3  4\n", "W  4  5\n", "W  0  9\n",
+            "W999999\n", "w  0  1\n", " W  0  1\n", "WW 0  1\n", "S  0  1  0\n", "T  0  2  1\n", "N  4 x\n", "END\n",
+        ] {
+            self.text(&with("W  0  1\n", line), plan);
+        }
+        for line in ["W  0  1\n", "W  0  2\n", "W  1  1\n", "W  1  3\n", "W  1  4\n", "W  2  3\n", "W  1  2\nW  2  3\n", "W  1  2\nW  1  3\n", "W  1  2\nW  3  3\n"] {
+            self.text(&with("W  1  2\n", line), plan);
+        }
+        let whole: Vec<&str> = file.split_inclusive('\n').collect();
+        for i in 0..=whole.len() {
+            self.text([&whole[..i], &["W  2  3\n"], &whole[i..]].concat().concat().as_bytes(), plan);
+            self.text(whole[..i].concat().as_bytes(), b"");
+        }
+        for (old, new) in [
+            ("T  0  2  1\n", "T  0  0  1\nT  0  2  1\n"),
+            ("T  0  2  1\n", "T  0  1  1\nT  0  2  1\n"),
+            ("T  0  2  1\nT  0  3  0\n", "T  0  1  1\nT  0  3  2\n"),
+            ("T  0  2  1\nT  0  3  0\n", "T  0  2  2\nT  1  1  0\n"),
+            ("T  0  2  1\n", "T  0  1  2\n"),
+            ("T  0  2  1\n", "T  0  1  1 \n"),
+            ("T  1  3  0\n", "T  0  1  1\n"),
+            ("T  1  3  0\n", "T  1  1  0\nx\n"),
+            ("T  1  3  0\n", "x\nT  1  1  0\n"),
+            ("T  1  3  0\nEND\n", "T  1  1  0"),
+            ("T  1  3  0\nEND\n", "T  1  1  0\n"),
+        ] {
+            self.text(&with(old, new), plan);
+        }
+        // Walks that meet on a withdrawn letter are 16, and those that meet on another are 10.
+        for letter in [0, 1] {
+            let mut meeting = sheet_of(3, 2, &[0, 1], &[], &[(0, letter, 2), (1, letter, 2)]);
+            meeting.withdrawn = vec![(0, 1)];
+            self.judged(ROOM, &meeting, &[], &[0]);
+        }
+        // An old name is spelled in two ways, one is called END, and one is that of a letter in force with a dot more.
+        s.names = ["Stück", "END", "Stuck", "Stück."].map(|x| x.as_bytes().to_vec()).to_vec();
+        let file = write_sheet(&s, false);
+        for name in ["Stück", "Stu\u{308}ck", "END", "Stuck", "Stück.", "Stu\u{308}ck."] {
+            self.text(&file, format!("PLAN  0  2\n{name}\nStück.\nEND\n").as_bytes());
+        }
+        // As many withdrawn letters as there can be: in a chain, in two, and each superseded by the last.
+        let last = |k: usize| sheet_of(2, k, &[0], &[1], &[(0, k - 1, 1), (1, k - 1, 0)]);
+        for k in [1, 2, 3, 8] {
+            let mut s = last(k);
+            let all: Vec<usize> = (0..k).collect();
+            for step in [1, 2, k] {
+                s.withdrawn = (0..k - 1).map(|l| (l, (l + step).min(k - 1))).collect();
+                self.judged(ROOM, &s, &all, &[0]);
+            }
+            s.withdrawn = vec![(k - 1, k)];
+            self.judged(ROOM, &s, &[], &[0]);
+        }
+        self.add(ROOM, std::fs::read(inputs.join("old-names.input")).unwrap());
+        let mut r = Random::new(20_261_116);
+        for _ in 0..60 {
+            let plain = families::sheet(&mut r, 16);
+            let s = families::withdrawn(&mut r, plain);
+            let file = write_sheet(&s, false);
+            let file = if r.chance(30) { families::withdrawal_damaged(&mut r, &file) } else { file };
+            let plan = write_plan(&s, &families::plan(&mut r, s.k));
+            self.text(&file, &plan);
+        }
+    }
+
     fn tuples(&mut self, inputs: &std::path::Path) {
         for (name, rooms) in [("tuples-1024.sheet", vec![1022, 1023, 1024]), ("tuples-1025.sheet", vec![1024]), ("longest.sheet", vec![1024])] {
             let file = std::fs::read(inputs.join(name)).unwrap();
@@ -237,6 +322,7 @@ pub fn write(folder: &std::path::Path, inputs: &std::path::Path) {
     c.plans();
     c.tuples(inputs);
     c.random(640);
+    c.withdrawals(inputs);
     let data = folder.join("data");
     std::fs::create_dir_all(&data).unwrap();
     let mut out = String::new();

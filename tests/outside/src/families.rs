@@ -36,6 +36,7 @@ fn empty(r: &mut Random, n: usize, k: usize) -> Sheet {
         recurring: (0..n).map(|_| r.chance(40)).collect(),
         next: vec![vec![Vec::new(); k]; n],
         names: names(r, k),
+        withdrawn: Vec::new(),
     }
 }
 
@@ -199,6 +200,25 @@ pub fn with_letters(s: &Sheet, k: usize) -> Sheet {
     out
 }
 
+/// The sheet with letters withdrawn, up to all but the last, in chains or not; their transitions go. Now and then one of them has a
+/// transition again, which is 16.
+pub fn withdrawn(r: &mut Random, mut s: Sheet) -> Sheet {
+    let often = [20, 50, 80, 100][r.below(4)];
+    let next_one = [0, 50, 100][r.below(3)];
+    for l in 0..s.k - 1 {
+        if r.chance(often) {
+            let by = if r.chance(next_one) { l + 1 } else { l + 1 + r.below(s.k - 1 - l) };
+            s.withdrawn.push((l, by));
+            s.next.iter_mut().for_each(|row| row[l].clear());
+        }
+    }
+    if !s.withdrawn.is_empty() && r.chance(12) {
+        let (q, l, t) = (r.below(s.n), s.withdrawn[r.below(s.withdrawn.len())].0, r.below(s.n));
+        add(&mut s, q, l, t);
+    }
+    s
+}
+
 /// As many transitions as give some hundred tuples.
 pub fn sparse(r: &mut Random, n: usize) -> Sheet {
     let k = 1 + r.below(8);
@@ -251,4 +271,42 @@ pub fn damaged(r: &mut Random, file: &[u8]) -> Vec<u8> {
         _ => out.extend(BYTES[r.below(BYTES.len())..].iter().take(1 + r.below(3))),
     }
     out
+}
+
+/// A file with one of its withdrawal lines changed, or with one more: mostly behind the names, now and then in another place.
+pub fn withdrawal_damaged(r: &mut Random, file: &[u8]) -> Vec<u8> {
+    let mut all: Vec<Vec<u8>> = file.split_inclusive(|b| *b == b'\n').map(|l| l.to_vec()).collect();
+    let own: Vec<usize> = (0..all.len()).filter(|i| all[*i].starts_with(b"W")).collect();
+    let old = r.below(9);
+    let new = if r.chance(50) { old + 1 + r.below(3) } else { r.below(9) };
+    let line = match r.below(12) {
+        0..=5 => format!("W{old:3}{new:3}\n"),
+        6 => format!("w{old:3}{new:3}\n"),
+        7 => format!("W{old:3}{new:3}"),
+        8 => format!("W{old:3}{new:3} \n"),
+        9 => format!("W{old:03}{new:3}\n"),
+        10 => format!("W{old:3}\n"),
+        _ => "W".to_string(),
+    };
+    if own.is_empty() || r.chance(40) {
+        let behind_names = all.iter().rposition(|l| l.starts_with(b"N")).map_or(0, |i| i + 1);
+        let at = if r.chance(50) { behind_names } else { r.below(all.len() + 1) };
+        all.insert(at, line.into_bytes());
+        return all.concat();
+    }
+    let at = own[r.below(own.len())];
+    match r.below(4) {
+        0 | 1 => all[at] = line.into_bytes(),
+        2 => {
+            let byte = r.below(all[at].len());
+            all[at][byte] = b"0123456789 WwNST\n\r"[r.below(18)];
+        }
+        _ => {
+            // The file ends in the line.
+            let left = r.below(all[at].len());
+            all[at].truncate(left);
+            all.truncate(at + 1);
+        }
+    }
+    all.concat()
 }

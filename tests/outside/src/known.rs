@@ -25,6 +25,45 @@ fn refusals() {
     assert_eq!(walks::shortest_meeting(&read_sheet(meeting.as_bytes()).unwrap()), Some(2));
 }
 
+/// Three grades, of which the second has superseded the first, and the third the second.
+const OLD_GRADES: &str =
+    "SHEET  2  4\nN  0 old\nN  1 newer\nN  2 newest\nN  3 rest\nW  0  1\nW  1  2\nS  0  1  0\nS  1  0  1\nT  0  2  1\nT  0  3  0\nT  1  3  0\nEND\n";
+
+#[test]
+fn withdrawn_grades() {
+    let s = read_sheet(OLD_GRADES.as_bytes()).unwrap();
+    assert_eq!(s.withdrawn, [(0, 1), (1, 2)]);
+    assert_eq!([0, 1, 2, 3].map(|l| s.standing(l)), [2, 2, 2, 3]);
+    assert_eq!(write_sheet(&s, true), OLD_GRADES.as_bytes());
+    let plan = sheet::read_plan(b"PLAN  1  3\nrest\nold\nrest\nnewer\nEND\n", &s).unwrap();
+    assert_eq!((plan.lead, plan.cycle), (vec![3], vec![2, 3, 2]));
+    let judged = |plan: &str| expected::verdict(format!("{OLD_GRADES}{plan}").as_bytes(), ROOM).map(|x| x[..3].to_string());
+    assert_eq!(judged("PLAN  0  2\nold\nrest\nEND\n"), Ok("YES".to_string()));
+    assert_eq!(judged("PLAN  0  3\nold\nnewest\nrest\nEND\n"), Ok(" NO".to_string()));
+    assert_eq!(judged("PLAN  0  1\nolder\nEND\n"), Err((14, 2)));
+}
+
+/// The lines of the change request: 15 straight behind 6, 16 straight behind 8, and what is due elsewhere.
+#[test]
+fn withdrawal_lines() {
+    let with = |old: &str, new: &str| read_sheet(OLD_GRADES.replacen(old, new, 1).as_bytes()).err();
+    assert_eq!(with("W  0  1\n", ""), None);
+    for line in ["W  0  0\n", "W  2  1\n", "W  0  4\n", "W  4  5\n", "W 00  1\n", "W  0\n", "W  0  1 \n", "W\n", "W  0  1"] {
+        assert_eq!(with("W  0  1\n", line), Some((15, 6)), "{line}");
+    }
+    assert_eq!(with("W  1  2\n", "W  0  2\n"), Some((15, 7)));
+    assert_eq!(read_sheet(&OLD_GRADES.as_bytes()[..58]).err(), Some((15, 6)));
+    assert_eq!(with("W  0  1\n", "w  0  1\n"), Some((7, 6)));
+    assert_eq!(with("W  0  1\n", "\nW  0  1\n"), Some((7, 6)));
+    assert_eq!(with("N  3", "W  0  1\nN  3"), Some((5, 5)));
+    assert_eq!(with("S  1", "W  2  3\nS  1"), Some((7, 9)));
+    assert_eq!(with("T  0  2", "W  2  3\nT  0  2"), Some((9, 10)));
+    assert_eq!(with("T  0  2  1", "T  0  1  1"), Some((16, 10)));
+    assert_eq!(with("T  0  2  1\nT  0  3  0", "T  0  1  1\nT  0  3  9"), Some((16, 10)));
+    assert_eq!(with("T  0  2  1", "T  0  1  2"), Some((8, 10)));
+    assert_eq!(with("T  1  3  0", "T  0  1  1"), Some((8, 12)));
+}
+
 /// Tuples, the product and Safra's automaton agree on sheets of every family.
 #[test]
 fn judges_agree() {

@@ -1,4 +1,4 @@
-//! The programs at their limits: the most tuples, the longest files, every refusal, and an input that cannot be read.
+//! The programs at their limits: the most tuples, the longest files, every withdrawal, every refusal, and an input that cannot be read.
 
 mod counts;
 mod meetings;
@@ -6,6 +6,7 @@ mod refusals;
 mod sizes;
 mod splits;
 mod unreadable;
+mod withdrawals;
 
 use crate::bench::Bench;
 use crate::random::Random;
@@ -22,6 +23,7 @@ pub fn run(b: &mut Bench) {
     counts::run(b);
     sizes::run(b);
     splits::run(b);
+    withdrawals::run(b);
     refusals::run(b);
     unreadable::run_all(b);
 }

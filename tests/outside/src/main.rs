@@ -2,7 +2,8 @@
 //! by counting, verdicts on the product of sheet and plan, tuples by the requirements' text, and Safra's construction.
 //!
 //! outside PROGRAMS [COUNT]: PROGRAMS is the folder of the built programs `track`, `verdict` and `rewrite`; COUNT (4,000) is how many
-//! sheets are made. A line tells how many comparisons of each kind there were; the last one is `outside: N passed, M failed`.
+//! sheets are made, with half as many beside them that have withdrawn letters. A line tells how many comparisons of each kind there
+//! were; the last one is `outside: N passed, M failed`.
 //! outside cases FOLDER INPUTS: writes the case files of crates/cases and their answers; INPUTS is bench/inputs.
 
 mod bench;
@@ -51,6 +52,29 @@ fn random_sheet(b: &mut Bench, r: &mut Random, most: usize) {
     }
 }
 
+/// A random sheet with withdrawn letters through every program: whole, damaged, and with damaged withdrawal lines.
+fn withdrawn_sheet(b: &mut Bench, r: &mut Random, most: usize) {
+    let plain = families::sheet(r, most);
+    let s = families::withdrawn(r, plain);
+    let file = write_sheet(&s, false);
+    b.listed("withdrawn: listing", &file);
+    b.rewritten("withdrawn: written", &file);
+    let mut plan = Vec::new();
+    for _ in 0..2 {
+        plan = write_plan(&s, &families::plan(r, s.k));
+        let input = [&file[..], &plan].concat();
+        b.judged("withdrawn: verdict", &input);
+        b.judged("withdrawn: damaged input", &families::damaged(r, &input));
+    }
+    let faulty = families::withdrawal_damaged(r, &file);
+    b.listed("withdrawn: damaged lines listed", &faulty);
+    b.rewritten("withdrawn: damaged lines written", &families::withdrawal_damaged(r, &file));
+    b.judged("withdrawn: damaged lines judged", &[families::withdrawal_damaged(r, &file), plan].concat());
+    if let Some(same) = larger::same_as_safra(&s) {
+        b.expect("withdrawn: Safra", same, &file);
+    }
+}
+
 fn main() {
     let mut args = std::env::args().skip(1).peekable();
     if args.peek().map_or(false, |x| x == "cases") {
@@ -65,9 +89,11 @@ fn main() {
     };
     let of_seeds = |b: &mut Bench, seeds: Range<usize>| {
         for seed in seeds {
-            let mut r = Random::new(seed as u64);
             let most = [3, 5, 8, 16][seed % 4];
-            random_sheet(b, &mut r, most);
+            random_sheet(b, &mut Random::new(seed as u64), most);
+            if seed % 8 < 4 {
+                withdrawn_sheet(b, &mut Random::new(1 << 32 | seed as u64), most);
+            }
         }
     };
     let first_half = |b: &mut Bench| of_seeds(b, 0..count / 2);

@@ -13,6 +13,20 @@ pub struct Sheet {
     pub next: Vec<Vec<Vec<usize>>>,
     /// Names as they are spelled.
     pub names: Vec<Vec<u8>>,
+    /// Withdrawn letters, each with its superseding letter, as their lines stand.
+    pub withdrawn: Vec<(usize, usize)>,
+}
+
+impl Sheet {
+    pub fn withdraws(&self, letter: usize) -> bool {
+        self.withdrawn.iter().any(|(old, _)| *old == letter)
+    }
+
+    /// The letter that finally stands for a letter: line by line from the top, the old one is replaced by the new one. One pass is enough,
+    /// since a superseding letter is larger and is withdrawn further down, if at all.
+    pub fn standing(&self, letter: usize) -> usize {
+        self.withdrawn.iter().fold(letter, |l, (old, new)| if l == *old { *new } else { l })
+    }
 }
 
 #[derive(Clone, Debug)]
@@ -85,6 +99,8 @@ pub fn read_sheet(bytes: &[u8]) -> Result<Sheet, No> {
     }
     let (whole, rest) = lines(bytes);
     let line = |i: usize| whole.get(i - 1).copied();
+    // Of the line behind the whole ones, too.
+    let opens = |i: usize, byte: u8| line(i).map_or(rest.first(), |t| t.first()) == Some(&byte);
     let head = line(1).filter(|l| l.len() == 11 && l.starts_with(b"SHEET")).ok_or((3, 1))?;
     let n = number(&head[5..8]).ok_or((3, 1))?;
     let k = number(&head[8..11]).ok_or((3, 1))?;
@@ -106,6 +122,16 @@ pub fn read_sheet(bytes: &[u8]) -> Result<Sheet, No> {
         names.push(text[5..].to_vec());
         at += 1;
     }
+    let mut withdrawn: Vec<(usize, usize)> = Vec::new();
+    while opens(at, b'W') {
+        let text = line(at).filter(|t| t.len() == 7).ok_or((15, at))?;
+        let (old, new) = (number(&text[1..4]).ok_or((15, at))?, number(&text[4..7]).ok_or((15, at))?);
+        if old >= k || new >= k || new <= old || withdrawn.last().map_or(false, |w| old <= w.0) {
+            return Err((15, at));
+        }
+        withdrawn.push((old, new));
+        at += 1;
+    }
     let (mut initial, mut recurring) = (Vec::new(), Vec::new());
     for q in 0..n {
         let text = line(at)
@@ -122,16 +148,15 @@ pub fn read_sheet(bytes: &[u8]) -> Result<Sheet, No> {
     }
     let mut next = vec![vec![Vec::new(); k]; n];
     let mut last: Option<(usize, usize, usize)> = None;
-    loop {
-        let first = line(at).map_or(rest.first(), |t| t.first());
-        if at > whole.len() + 1 || first != Some(&b'T') {
-            break;
-        }
+    while opens(at, b'T') {
         let text = line(at).filter(|t| t.len() == 10).ok_or((8, at))?;
         let part = |a: usize| number(&text[a..a + 3]).ok_or((8, at));
         let t = (part(1)?, part(4)?, part(7)?);
         if t.0 >= n || t.1 >= k || t.2 >= n || last.map_or(false, |u| t <= u) {
             return Err((8, at));
+        }
+        if withdrawn.iter().any(|w| w.0 == t.1) {
+            return Err((16, at));
         }
         next[t.0][t.1].push(t.2);
         last = Some(t);
@@ -143,7 +168,7 @@ pub fn read_sheet(bytes: &[u8]) -> Result<Sheet, No> {
     if at < whole.len() || !rest.is_empty() {
         return Err((9, at + 1));
     }
-    Ok(Sheet { n, k, initial, recurring, next, names })
+    Ok(Sheet { n, k, initial, recurring, next, names, withdrawn })
 }
 
 pub fn read_plan(bytes: &[u8], sheet: &Sheet) -> Result<Plan, No> {
@@ -160,7 +185,8 @@ pub fn read_plan(bytes: &[u8], sheet: &Sheet) -> Result<Plan, No> {
     for i in 0..lead + cycle {
         let at = i + 2;
         let chars = line(at).and_then(characters).ok_or((12, at))?;
-        letters.push(known.iter().position(|x| x.as_ref() == Some(&chars)).ok_or((14, at))?);
+        let named = known.iter().position(|x| x.as_ref() == Some(&chars)).ok_or((14, at))?;
+        letters.push(sheet.standing(named));
     }
     let at = lead + cycle + 2;
     if line(at) != Some(b"END") {
@@ -185,6 +211,9 @@ pub fn write_sheet(s: &Sheet, composed: bool) -> Vec<u8> {
         }
         out.push(b'\n');
     }
+    for (old, new) in &s.withdrawn {
+        out.extend(format!("W{old:3}{new:3}\n").bytes());
+    }
     for q in 0..s.n {
         out.extend(format!("S{:3}{:3}{:3}\n", q, s.initial[q] as u8, s.recurring[q] as u8).bytes());
     }
@@ -199,6 +228,7 @@ pub fn write_sheet(s: &Sheet, composed: bool) -> Vec<u8> {
     out
 }
 
+/// The plan's file: each letter by its own name, withdrawn or not.
 pub fn write_plan(s: &Sheet, p: &Plan) -> Vec<u8> {
     let mut out = format!("PLAN{:3}{:3}\n", p.lead.len(), p.cycle.len()).into_bytes();
     for l in p.lead.iter().chain(&p.cycle) {

@@ -24,6 +24,8 @@ use Call::*;
 
 /// Stands for refusal 1 asked last of all, and for a program's buffer that is too short.
 pub const LATE: u32 = 100;
+/// Stands for refusal 16 of numbers, by the file that gives the names.
+pub const BY_FILE: u32 = 101;
 
 pub const ALL: [Call; 16] = [
     Check, ReadSheet, Write, WriteNumbers, Name, NameNumber, Find, Successors, Build, BuildNumbers, List, ListNumbers, Verdict, Track,
@@ -99,16 +101,17 @@ impl Call {
     fn numbers(self) -> Vec<u32> {
         match self {
             Check => vec![0, 1, 4, 7, 8, 10],
-            ReadSheet | Write | WriteNumbers => (0..=10).collect(),
+            ReadSheet | Write => (0..=10).chain([15, 16]).collect(),
+            WriteNumbers => (0..=10).chain([15, 16, BY_FILE]).collect(),
             Name | Successors => vec![0],
-            NameNumber => vec![0, 2, 3, 4, 5, 6, 7, 8, 9, 14],
-            Find => (0..=10).chain([14]).collect(),
-            Build | List => (0..=11).collect(),
+            NameNumber => vec![0, 2, 3, 4, 5, 6, 7, 8, 9, 14, 15, 16],
+            Find => (0..=10).chain([14, 15, 16]).collect(),
+            Build | List => (0..=11).chain([15, 16]).collect(),
             BuildNumbers | ListNumbers => vec![0, 1, 4, 7, 8, 10, 11],
-            Verdict => (0..=14).collect(),
-            Track => [0].into_iter().chain(2..=11).collect(),
-            VerdictProgram => [0].into_iter().chain(2..=14).collect(),
-            Rewrite => [0].into_iter().chain(2..=10).collect(),
+            Verdict => (0..=16).collect(),
+            Track => [0].into_iter().chain(2..=11).chain([15, 16]).collect(),
+            VerdictProgram => [0].into_iter().chain(2..=16).collect(),
+            Rewrite => [0].into_iter().chain(2..=10).chain([15, 16]).collect(),
         }
     }
 }

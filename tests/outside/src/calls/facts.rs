@@ -7,7 +7,7 @@ use crate::tuples::{self, Tracker};
 use crate::walks;
 
 pub struct Facts {
-    /// Questions 2 to 9 on a file; 4, 7 and 8 on numbers.
+    /// Questions 2 to 9, 15 and 16 on a file; 4, 7 and 8 on numbers.
     pub sheet: Result<Sheet, No>,
     /// The length of a shortest meeting word.
     pub meeting: Option<usize>,

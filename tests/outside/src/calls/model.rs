@@ -16,6 +16,8 @@ pub struct Want<'a> {
     /// The refusal, or 0; and was it a 1 asked last, or a program's buffer that is too short?
     pub number: u32,
     pub late: bool,
+    /// Was it a 16 of numbers, by the file that gives the names?
+    pub by_file: bool,
     /// With 10 the sheet and the length of its shortest words. Which word and walks stand in the tables is free.
     pub meeting: Option<(&'a Sheet, usize)>,
     /// Do the word and the walks stand in the buffer, as `rewrite` prints them?
@@ -23,7 +25,7 @@ pub struct Want<'a> {
 }
 
 pub fn want<'a>(call: Call, s: &'a Scenario, a: &Arguments, before: &Tables) -> Want<'a> {
-    let mut w = Want { tables: before.clone(), returned: 0, number: 0, late: false, meeting: None, printed: false };
+    let mut w = Want { tables: before.clone(), returned: 0, number: 0, late: false, by_file: false, meeting: None, printed: false };
     match call {
         Call::Successors => w.returned = successors(before.sets.inside(), a.letter, a.set) as usize,
         Call::Name | Call::NameNumber => about_a_letter(call, s, a, &mut w),
@@ -96,11 +98,16 @@ struct Done<'a> {
     text: Vec<u8>,
 }
 
-/// The sheet written from the numbers with the names of the file, where both are accepted.
+/// The sheet written from the numbers with the names and the withdrawals of the file, where both are accepted.
 pub fn text_from_numbers(s: &Scenario) -> Option<Vec<u8>> {
-    let names = s.of_file.accepted().ok()?.names.clone();
-    let sheet = s.of_numbers.accepted().ok().filter(|x| x.k == names.len())?;
-    Some(write_sheet(&Sheet { names, ..sheet.clone() }, true))
+    let file = s.of_file.accepted().ok()?;
+    let sheet = s.of_numbers.accepted().ok().filter(|x| x.k == file.k && !uses_withdrawn(file, x))?;
+    Some(write_sheet(&Sheet { names: file.names.clone(), withdrawn: file.withdrawn.clone(), ..sheet.clone() }, true))
+}
+
+/// Question 16 on numbers: has the sheet a successor on a letter that the file withdraws?
+fn uses_withdrawn(file: &Sheet, sheet: &Sheet) -> bool {
+    (0..sheet.k).any(|l| file.withdraws(l) && sheet.next.iter().any(|row| !row[l].is_empty()))
 }
 
 /// The questions behind 1, in their order.
@@ -110,8 +117,15 @@ fn questions<'a>(call: Call, s: &'a Scenario, a: &Arguments, t: &Tables) -> Resu
     if call == Call::Verdict && (s.file.len() > 24_576 || s.plan.len() > 12_288) {
         return Err(no(2));
     }
-    if call == Call::WriteNumbers && s.of_file.accepted()?.k != a.k {
-        return Err(no(4));
+    if call == Call::WriteNumbers {
+        let file = s.of_file.accepted()?;
+        if file.k != a.k {
+            return Err(no(4));
+        }
+        let sheet = s.of_numbers.sheet.as_ref().map_err(|no| Refusal::Plain(*no))?;
+        if uses_withdrawn(file, sheet) {
+            return Err(no(16));
+        }
     }
     let facts: &Facts = if call.takes_numbers() { &s.of_numbers } else { &s.of_file };
     let sheet = facts.accepted()?;
@@ -127,8 +141,8 @@ fn questions<'a>(call: Call, s: &'a Scenario, a: &Arguments, t: &Tables) -> Resu
         Call::Check => done.cells = vec![1],
         Call::Find => {
             let wanted = characters(&a.name);
-            let letter = sheet.names.iter().position(|x| wanted.is_some() && characters(x) == wanted).ok_or(no(14))?;
-            done.cells = vec![1, letter];
+            let named = sheet.names.iter().position(|x| wanted.is_some() && characters(x) == wanted).ok_or(no(14))?;
+            done.cells = vec![1, sheet.standing(named)];
         }
         Call::Verdict => {
             let plan = read_plan(&s.plan, sheet).map_err(Refusal::Plain)?;
@@ -167,6 +181,7 @@ fn whole_sheet<'a>(call: Call, s: &'a Scenario, a: &Arguments, w: &mut Want<'a>)
         Err(Refusal::Plain((number, line))) => {
             w.number = number;
             w.late = number == 1;
+            w.by_file = (number, line) == (16, 0);
             w.tables.answer.set(&[0, number as usize, line, 0]);
         }
         Err(Refusal::Meeting(sheet, length)) => {

@@ -32,7 +32,7 @@ impl Numbers {
         Numbers { n: s.n, k: s.k, initial: set(&s.initial), recurring: set(&s.recurring), sets }
     }
 
-    /// Questions 4, 7 and 8. The names are left out.
+    /// Questions 4, 7 and 8. The names and the withdrawals are left out.
     pub fn sheet(&self) -> Result<Sheet, No> {
         let (n, k) = (self.n, self.k);
         if n < 1 || n > 16 || k < 1 || k > 8 {
@@ -50,6 +50,7 @@ impl Numbers {
         }
         let flags = |set: u16| (0..n).map(|q| members(set).contains(&q)).collect();
         let next = (0..n).map(|q| (0..k).map(|l| members(self.sets[8 * q + l])).collect()).collect();
-        Ok(Sheet { n, k, initial: flags(self.initial), recurring: flags(self.recurring), next, names: Vec::new() })
+        let (initial, recurring) = (flags(self.initial), flags(self.recurring));
+        Ok(Sheet { n, k, initial, recurring, next, names: Vec::new(), withdrawn: Vec::new() })
     }
 }

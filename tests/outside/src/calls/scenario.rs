@@ -19,9 +19,15 @@ pub struct Scenario {
 }
 
 impl Scenario {
-    pub fn new(r: &mut Random, seed: u64) -> Self {
-        let s = if seed % 64 == 0 { limits::many_tuples(r) } else { families::sheet(r, [3, 5, 8, 16][seed as usize % 4]) };
-        let file = sheet_file(r, &s);
+    pub fn new(r: &mut Random, seed: u64, withdrawn: bool) -> Self {
+        let mut s = if seed % 64 == 0 { limits::many_tuples(r) } else { families::sheet(r, [3, 5, 8, 16][seed as usize % 4]) };
+        if withdrawn {
+            s = families::withdrawn(r, s);
+        }
+        let mut file = sheet_file(r, &s);
+        if withdrawn && r.chance(20) {
+            file = families::withdrawal_damaged(r, &file);
+        }
         let of_file = Facts::of_file(&file);
         let mut numbers = Numbers::of(&s);
         if r.chance(40) {

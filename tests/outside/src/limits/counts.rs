@@ -49,7 +49,7 @@ pub fn sheet(seed: u64) -> Sheet {
         }
     }
     let names = (0..k).map(|l| vec![b'a' + l as u8]).collect();
-    Sheet { n, k, initial, recurring, next, names }
+    Sheet { n, k, initial, recurring, next, names, withdrawn: Vec::new() }
 }
 
 /// A sheet with one tuple too many.

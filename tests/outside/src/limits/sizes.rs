@@ -24,6 +24,7 @@ pub fn longest_sheet(initial: bool) -> Sheet {
         recurring: vec![true; n],
         next: vec![vec![(0..n).collect(); k]; n],
         names: (0..k).map(|l| format!("{l}.................ENDß~").into_bytes()).collect(),
+        withdrawn: Vec::new(),
     }
 }
 
@@ -46,7 +47,7 @@ fn ended(start: &[u8], fill: u8, size: usize) -> Vec<u8> {
     out
 }
 
-/// Beginnings of sheet files that are at fault in different questions (3, 4, 5, 7, 8 and 9) once they are filled.
+/// Beginnings of sheet files that are at fault in different questions (3, 4, 5, 15, 7, 8 and 9) once they are filled.
 fn starts() -> Vec<(Vec<u8>, u8)> {
     let b = write_sheet(&sheet_b(), false);
     let longest = write_sheet(&longest_sheet(false), false);
@@ -56,6 +57,7 @@ fn starts() -> Vec<(Vec<u8>, u8)> {
         (b"SHEET 17  1\n".to_vec(), b'\n'),
         (b"SHEET  2  2\nN  0 a\nN  1 ".to_vec(), b'b'),
         (b"SHEET  1  1\nN  0 a\nS  0".to_vec(), b' '),
+        (b"SHEET  1  2\nN  0 a\nN  1 b\nW  0".to_vec(), b' '),
         (without_end(&b), b'T'),
         (without_end(&b), b'E'),
         (without_end(&longest), b'T'),
