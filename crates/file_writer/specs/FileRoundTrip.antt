@@ -5,7 +5,7 @@ use mathlib.Core.List.{List}
 use native.Mathlib.Omega.{arith}
 use lib.ListN.{length}
 use Rattle.automaton.specs.Automaton.{Automaton, graphOf, Fits}
-use Rattle.automaton.specs.Meeting.{Free, Everywhere}
+use Rattle.automaton.specs.Endless.{MeetingFree}
 use Rattle.format.specs.Format.{Withdrawal, Sheet, FileIs}
 use Rattle.format.specs.Numbers.{numbers}
 use Rattle.format.specs.Written.{writtenSheet, written}
@@ -44,7 +44,7 @@ module _ (s : List ℕ) (σ : Sheet) (file : FileIs s σ) where
   writing-file = written-file (numbers σ) fits (σ .names) (σ .withdrawals) right
 
   -- and is accepted if the file was
-  pub accepted-back : Free (graphOf (numbers σ)) Everywhere → Accepted (writing σ) (writtenSheet (numbers σ) (σ .names) (σ .withdrawals))
+  pub accepted-back : MeetingFree (graphOf (numbers σ)) → Accepted (writing σ) (writtenSheet (numbers σ) (σ .names) (σ .withdrawals))
   accepted-back free = numbers-accepted (numbers σ) fits long (σ .names) (σ .withdrawals) right free
 
   module _ (τ : Sheet) (back : FileIs (writing σ) τ) where

@@ -6,7 +6,7 @@ use lib.ListN.{length}
 use Rattle.gate.specs.Gate.{refusal}
 use Rattle.gate.specs.declared.Refusal.{Refusal}
 use Rattle.automaton.specs.Automaton.{graphOf}
-use Rattle.automaton.specs.Meeting.{Everywhere, Witness}
+use Rattle.automaton.specs.Endless.{MeetingWitness}
 use Rattle.format.specs.Format.{Sheet, FileIs}
 use Rattle.format.specs.Numbers.{numbers}
 use Rattle.tuple.specs.Step.{Tuple}
@@ -49,7 +49,7 @@ pub record Tracked (s : List ℕ) (before after : TrackerTables) (colours : List
 pub record Shortest (s word one other : List ℕ) : Type 0 where
   pub sheet : Sheet
   pub file : FileIs s sheet
-  pub witness : Witness (graphOf (numbers sheet)) Everywhere (length word) word one other
+  pub witness : MeetingWitness (graphOf (numbers sheet)) (length word) word one other
 
 -- refusal 10 with a word of so many letters
 abbrev pub met : ℕ → Refusal

@@ -55,8 +55,9 @@ cases =
     -- "State 0 initial; 0 to 0 on a and b, 0 to 1 on a, 1 to 1 on a: 10, word a a, walks 0 0 1 and 0 1 1."
     ∷ case (bytes "SHEET  2  2\nN  0 a\nN  1 b\nS  0  1  0\nS  1  0  0\nT  0  0  0\nT  0  0  1\nT  0  1  0\nT  1  0  1\nEND\n") onlyA 1
     (meeting (0 ∷ 0 ∷ []) (0 ∷ 0 ∷ 1 ∷ []) (0 ∷ 1 ∷ 1 ∷ []))
-    -- "States 0 and 1 initial, each to 2 on a: 10, word a."
-    ∷ case (bytes "SHEET  3  1\nN  0 a\nS  0  1  0\nS  1  1  0\nS  2  0  0\nT  0  0  2\nT  1  0  2\nEND\n") onlyA 1
+    -- "States 0 and 1 initial, each to 2 on a": by R-4 "now accepted if 2 stops there, and refused if 2 has a loop", with 10, word a
+    ∷ case (bytes "SHEET  3  1\nN  0 a\nS  0  1  0\nS  1  1  0\nS  2  0  0\nT  0  0  2\nT  1  0  2\nEND\n") onlyA 3 (judged (verdict No 1 3) (7 ∷ 7 ∷ 1 ∷ []))
+    ∷ case (bytes "SHEET  3  1\nN  0 a\nS  0  1  0\nS  1  1  0\nS  2  0  0\nT  0  0  2\nT  1  0  2\nT  2  0  2\nEND\n") onlyA 3
     (meeting (0 ∷ []) (0 ∷ 2 ∷ []) (1 ∷ 2 ∷ []))
     -- "Names `Stück` composed and decomposed: 6."
     ∷ case (bytes "SHEET  1  2\nN  0 " ++ (composed ++ (bytes "\nN  1 " ++ (decomposed ++ bytes "\nS  0  1  0\nEND\n")))) onlyA 1 (refused 6 3)

@@ -8,7 +8,7 @@ use lib.ListN.{length}
 use Rattle.gate.specs.Gate.{refusal}
 use Rattle.gate.specs.declared.Refusal.{Refusal}
 use Rattle.automaton.specs.Automaton.{graphOf}
-use Rattle.automaton.specs.Meeting.{Everywhere, Witness}
+use Rattle.automaton.specs.Endless.{MeetingWitness}
 use Rattle.format.specs.Format.{Sheet, FileIs, Faulty}
 use Rattle.format.specs.Numbers.{numbers}
 use Rattle.reading.specs.Read.{Accepted, Refuses}
@@ -35,7 +35,7 @@ pub data Cause (s : List ℕ) (room : ℕ) (Outcomes : Type 0) (refuse : Refusal
   -- 2 to 9, 15 and 16
   sheet-fault : (number line : ℕ) → Faulty s number line → o ≡ refuse (refusal number line) → Cause s room Outcomes refuse Then o
   -- 10
-  meeting-walks : (σ : Sheet) → FileIs s σ → (t : ℕ) (word one other : List ℕ) → Witness (graphOf (numbers σ)) Everywhere t word one other
+  meeting-walks : (σ : Sheet) → FileIs s σ → (t : ℕ) (word one other : List ℕ) → MeetingWitness (graphOf (numbers σ)) t word one other
       → o ≡ refuse (met t) → Cause s room Outcomes refuse Then o
   -- 11
   no-room : (σ : Sheet) → Accepted s σ → MoreThan (numbers σ) room → o ≡ refuse (refusal 11 0) → Cause s room Outcomes refuse Then o

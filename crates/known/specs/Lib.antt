@@ -3,6 +3,7 @@ pub mod Cases
 pub mod Below
 pub mod BelowLaws
 pub mod MeetingTest
+pub mod EndlessTestLaws
 pub mod MeetingTestLaws
 pub mod VerdictTest
 pub mod VerdictTestLaws

@@ -1,6 +1,6 @@
--- Document 01, "Meeting walks", as tests that compute.
+-- Document 01, "Meeting walks", with the states that count by R-4, as tests that compute.
 use Prim.Native.Nat.{ℕ, zero, suc, _+_, _*_, _/_, _-_}
-use mathlib.Core.Bool.{Bool, not, _&&_}
+use mathlib.Core.Bool.{Bool, true, not, _&&_}
 use mathlib.Core.List.{List}
 use lib.Dec.{eqb, ltb}
 use lib.ListN.{length, getD}
@@ -16,16 +16,25 @@ isMember x q = eqb (bit x q) 1
 unfoldable pub isEdge : Graph → ℕ → ℕ → ℕ → Bool
 isEdge G l q r = ltb l (G .k) && (ltb q (G .n) && isMember (successorSet (G .table) q l) r)
 
+-- q begins a path of d transitions
+unfoldable pub hasPath : Graph → ℕ → ℕ → Bool
+hasPath G zero q = true
+hasPath G (suc d) q = any (G .k) (λ l. any (G .n) (λ r. isEdge G l q r && hasPath G d r))
+
+-- and so an endless one: of n transitions some state comes twice
+unfoldable pub isEndless : Graph → ℕ → Bool
+isEndless G q = hasPath G (G .n) q
+
 -- two walks on one word of t letters end in q and r
 unfoldable pub pairReached : Graph → ℕ → ℕ → ℕ → Bool
 pairReached G zero q r = isMember (G .initial) q && isMember (G .initial) r
 pairReached G (suc t) q r = any (G .n) (λ x. any (G .n) (λ y. any (G .k) (λ l. isEdge G l x q && isEdge G l y r) && pairReached G t x y))
 
--- one letter brings two states to one
+-- one letter brings two states to one that begins an endless path
 unfoldable pub together : Graph → ℕ → ℕ → Bool
-together G q r = any (G .k) (λ l. any (G .n) (λ z. isEdge G l q z && isEdge G l r z))
+together G q r = any (G .k) (λ l. any (G .n) (λ z. isEdge G l q z && (isEdge G l r z && isEndless G z)))
 
--- two walks on one word of t letters end in two states, and one letter brings these to one
+-- two walks on one word of t letters end in two states, and one letter brings these to one that begins an endless path
 unfoldable pub joinAt : Graph → ℕ → Bool
 joinAt G t = any (G .n) (λ q. any (G .n) (λ r. not (eqb q r) && (together G q r && pairReached G t q r)))
 
@@ -44,13 +53,14 @@ isWalk G word x =
     && (isMember (G .initial) (getD x 0 0)
     && all (length word) (λ s. isEdge G (getD word s 0) (getD x s 0) (getD x (suc s) 0)))
 
--- two walks on a word differ somewhere and end in one state
+-- two walks on a word differ somewhere and end in one state, which begins an endless path
 unfoldable pub doMeet : Graph → List ℕ → List ℕ → List ℕ → Bool
 doMeet G word one other =
     isWalk G word one
     && (isWalk G word other
     && (any (suc (length word)) (λ s. not (eqb (getD one s 0) (getD other s 0)))
-    && eqb (getD one (length word) 0) (getD other (length word) 0)))
+    && (eqb (getD one (length word) 0) (getD other (length word) 0)
+    && isEndless G (getD one (length word) 0))))
 
 -- two walks meet, and on no shorter word do two
 unfoldable pub isShortest : Graph → List ℕ → List ℕ → List ℕ → Bool

@@ -11,7 +11,7 @@ use Rattle.lists.specs.Choice.{choose}
 use Rattle.gate.specs.Gate.{refusal}
 use Rattle.gate.specs.declared.Refusal.{Refusal}
 use Rattle.automaton.specs.Automaton.{Automaton, graphOf, Fits}
-use Rattle.automaton.specs.Meeting.{Everywhere, Witness}
+use Rattle.automaton.specs.Endless.{MeetingWitness}
 use Rattle.automaton.specs.MeetingLaws.{one-length}
 use Rattle.automaton.specs.QuestionLaws.{fits-graph}
 use Rattle.format.specs.Format.{Sheet, FileIs, Faulty}
@@ -85,9 +85,9 @@ module _ (s p : List ℕ) (room : ℕ) (Outcomes : Type 0) (refuse : Refusal →
 
     -- QUESTION 10 answered no
     module _ (word one other : List ℕ) (test : isShortest (graphOf A) word one other ≡ true) where
-      witness : (σ : Sheet) → FileIs s σ → Witness (graphOf (numbers σ)) Everywhere (length word) word one other
+      witness : (σ : Sheet) → FileIs s σ → MeetingWitness (graphOf (numbers σ)) (length word) word one other
       witness σ file =
-          subst (λ (B : Automaton). Witness (graphOf B) Everywhere (length word) word one other) (sym (same-numbers σ file))
+          subst (λ (B : Automaton). MeetingWitness (graphOf B) (length word) word one other) (sym (same-numbers σ file))
           (shortest-is (graphOf A) (fits-graph (fits σ file)) word one other test)
 
       not-free : (σ : Sheet) → Accepted s σ → ⊥
@@ -103,10 +103,10 @@ module _ (s p : List ℕ) (room : ℕ) (Outcomes : Type 0) (refuse : Refusal →
 
     -- QUESTION 10 answered yes
     module _ (free : isFree (graphOf A) ≡ true) where
-      no-walks : (σ : Sheet) → FileIs s σ → (m : ℕ) (word one other : List ℕ) → Witness (graphOf (numbers σ)) Everywhere m word one other → ⊥
+      no-walks : (σ : Sheet) → FileIs s σ → (m : ℕ) (word one other : List ℕ) → MeetingWitness (graphOf (numbers σ)) m word one other → ⊥
       no-walks σ file m word one other h =
           free-is (graphOf A) (fits-graph (fits σ file)) free _ _ _ _
-          (subst (λ (B : Automaton). Witness (graphOf B) Everywhere m word one other) (same-numbers σ file) h .meets)
+          (subst (λ (B : Automaton). MeetingWitness (graphOf B) m word one other) (same-numbers σ file) h .meets)
 
       renumbered : (σ : Sheet) → FileIs s σ → (ts : List Tuple) → Numbering (numbers σ) ts → Numbering A ts
       renumbered σ file ts n = subst (λ (B : Automaton). Numbering B ts) (same-numbers σ file) n

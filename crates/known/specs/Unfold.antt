@@ -10,7 +10,7 @@ use Rattle.known.specs.VerdictTest
 
 unfoldable pub known·unfold : Unit {0}
 unfolding finite·unfold plan·unfold numbering·unfold passes·unfold Below.all Below.any CaseTest.isRefused CaseTest.rightPlan CaseTest.rightColours
-    CaseTest.rightRoom CaseTest.rightWalks CaseTest.rightFile CaseTest.right CaseTest.allRight MeetingTest.isEdge MeetingTest.pairReached
+    CaseTest.rightRoom CaseTest.rightWalks CaseTest.rightFile CaseTest.right CaseTest.allRight MeetingTest.isEdge MeetingTest.hasPath MeetingTest.isEndless MeetingTest.pairReached
     MeetingTest.together MeetingTest.joinAt MeetingTest.noneUpTo MeetingTest.isFree MeetingTest.isWalk MeetingTest.doMeet MeetingTest.isShortest
     VerdictTest.ends VerdictTest.earlierOf VerdictTest.isRepeat VerdictTest.leastEntered VerdictTest.isAnswer VerdictTest.isLeast
     VerdictTest.isVerdict

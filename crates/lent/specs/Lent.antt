@@ -7,7 +7,7 @@ use Rattle.gate.specs.Gate.{refusal, cleared}
 use Rattle.gate.specs.declared.Refusal.{Refusal}
 use Rattle.automaton.specs.Automaton.{Automaton, graphOf, Fits, FirstNo}
 use Rattle.automaton.specs.Graph.{Graph}
-use Rattle.automaton.specs.Meeting.{Everywhere, Witness}
+use Rattle.automaton.specs.Endless.{MeetingWitness}
 
 -- a word and two walks
 pub record WitnessTables : Type 0 where
@@ -48,7 +48,7 @@ pub record Meets (G : Graph) (before after : WitnessTables) (r : Refusal) : Type
   pub number : r .number ≡ 10
   pub line : r .line ≡ 0
   pub some : 0 < r .length
-  pub witness : Witness G Everywhere (r .length) (after .word) (after .one) (after .other)
+  pub witness : MeetingWitness G (r .length) (after .word) (after .one) (after .other)
   pub lengths : SameLengths before after
 
 -- QUESTIONS 4, 7, 8 AND 10 on a sheet handed over as numbers: the first that is answered no refuses with r

@@ -8,6 +8,8 @@ use Rattle.gate.specs.GateLaws.{length-cleared, cleared-twice}
 use Rattle.gate.specs.declared.Refusal.{Refusal}
 use Rattle.automaton.specs.Automaton.{Automaton}
 use Rattle.automaton.specs.Graph.{Graph}
+use Rattle.automaton.specs.Meeting.{Free, Everywhere}
+use Rattle.automaton.specs.EndlessLaws.{free-everywhere}
 use Rattle.automaton.specs.QuestionLaws.{first-no-number}
 use Rattle.lent.specs.Lent.{WitnessTables, witnessTables, EnoughForWitness, EnoughForSheet, clearedWitness, Meets, NumbersRefuse}
 
@@ -48,3 +50,7 @@ refuse-cleared v (NumbersRefuse.meeting fits m) = NumbersRefuse.meeting fits (me
 pub numbers-number : {A : Automaton} {v w : WitnessTables} {r : Refusal} → NumbersRefuse A v w r → r .number ≡ 1 → ⊥
 numbers-number (NumbersRefuse.unfit x f e z) h = omega (arith, first-no-number f, ap (λ (r : Refusal). r .number) e)
 numbers-number (NumbersRefuse.meeting f m) h = omega (arith, m .number)
+
+-- a sheet without walks that meet anywhere is never refused with 10
+pub never-ten : {G : Graph} {v w : WitnessTables} {r : Refusal} → Free G Everywhere → Meets G v w r → ⊥
+never-ten free m = free-everywhere free _ _ _ _ (m .witness .meets)

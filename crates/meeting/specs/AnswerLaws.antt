@@ -1,14 +1,13 @@
--- From the searches to the answers; where all states of a set of sixteen count, a meeting counts everywhere. Assumes nothing.
+-- From the searches to the answers, and from one way to say which states count to another. Assumes nothing.
 use Prim.Native.Nat.{ℕ, _<_}
 use mathlib.Core.Path.{refl}
+use mathlib.Core.Logic.{_↔_}
 use native.Mathlib.Omega.{arith}
-use Rattle.sets.specs.Sets.{Member}
-use Rattle.sets.specs.SetLaws.{all-members}
-use Rattle.automaton.specs.Graph.{Graph, GraphFits}
-use Rattle.automaton.specs.Meeting.{Meet, Everywhere, Free, Witness}
+use Rattle.automaton.specs.Graph.{Graph}
+use Rattle.automaton.specs.Meeting.{Free, Witness}
+use Rattle.automaton.specs.MeetingLaws.{free-fewer, witness-same}
 use Rattle.lent.specs.Lent.{WitnessTables, SameLengths}
 use Rattle.pairs.specs.Joining.{Backwards}
-use Rattle.automaton.specs.EdgeLaws.{walk-in}
 use Rattle.meeting.specs.Answer.{Answered}
 
 -- The two answers
@@ -23,33 +22,16 @@ pub answer-witness : {G : Graph} {Counts : ℕ → Type 0} {v w : WitnessTables}
     → SameLengths v w → Answered G Counts v w r
 answer-witness l x s = record { free = λ e. absurd (omega arith); kept = λ e. absurd (omega arith); witness = λ m. x; lengths = s }
 
--- Every state counts
+-- The same states count, said in two ways
 
-module _ {G : Graph} (fits : GraphFits G) where
-  pub all-backwards : Backwards G (Member 65535)
-  all-backwards l q r e m = let h = e .from in let n = fits .range .1 in all-members q (omega arith)
+module _ {G : Graph} {Counts Others : ℕ → Type 0} (same : (q : ℕ) → Counts q ↔ Others q) where
+  pub backwards-same : Backwards G Others → Backwards G Counts
+  backwards-same back l q r e c = same q .1 (back l q r e (same r .0 c))
 
-  meet-all : {w : ℕ → ℕ} {t : ℕ} {x y : ℕ → ℕ} → Meet G Everywhere w t x y → Meet G (Member 65535) w t x y
-  meet-all {w} {t} {x} m =
-      let h = walk-in G fits w t x (m .one) t (omega arith) in
-      let n = fits .range .1 in
-      record { one = m .one; other = m .other; differ = m .differ; shared = m .shared; counts = all-members (x t) (omega arith) }
-
-  meet-any : {Counts : ℕ → Type 0} {w : ℕ → ℕ} {t : ℕ} {x y : ℕ → ℕ} → Meet G Counts w t x y → Meet G Everywhere w t x y
-  meet-any m = record { one = m .one; other = m .other; differ = m .differ; shared = m .shared; counts = tt }
-
-  pub answer-everywhere : {v w : WitnessTables} {r : ℕ} → Answered G (Member 65535) v w r → Answered G Everywhere v w r
-  answer-everywhere a = record {
-    free = λ e u t x y m. a .free e u t x y (meet-all m);
+  pub answer-same : {v w : WitnessTables} {r : ℕ} → Answered G Counts v w r → Answered G Others v w r
+  answer-same a = record {
+    free = λ e. free-fewer (λ q. same q .1) (a .free e);
     kept = a .kept;
-    witness = λ l. (let b = a .witness l in
-        record {
-          meets = meet-any (b .meets);
-          shortest = λ u t x y k m. b .shortest u t x y k (meet-all m);
-          most = b .most;
-          behind-word = b .behind-word;
-          behind-one = b .behind-one;
-          behind-other = b .behind-other;
-        });
+    witness = λ l. witness-same same (a .witness l);
     lengths = a .lengths;
   }

@@ -5,7 +5,7 @@ use mathlib.Core.List.{List}
 use Rattle.gate.specs.Gate.{refusal}
 use Rattle.gate.specs.declared.Refusal.{Refusal}
 use Rattle.automaton.specs.Automaton.{Automaton, graphOf, Fits, FirstNo}
-use Rattle.automaton.specs.Meeting.{Free, Everywhere}
+use Rattle.automaton.specs.Endless.{MeetingFree}
 use Rattle.lent.specs.Lent.{WitnessTables, clearedWitness, Meets}
 use Rattle.walks.specs.declared.Checked.{Checked}
 use Rattle.walks.specs.declared.Checked.the-variants as K
@@ -24,7 +24,7 @@ pub data NamedNumbersRefuse (A : Automaton) (ws : List Withdrawal) (before after
 -- the same, or all answered yes
 abbrev pub ChecksNamed : Automaton → List Withdrawal → WitnessTables → WitnessTables → Checked → Type 0
 ChecksNamed A ws before after (K.Refused x) = NamedNumbersRefuse A ws before after x
-ChecksNamed A ws before after K.Accepted = Fits A × EdgesInForce (graphOf A) ws × Free (graphOf A) Everywhere × (after ≡ clearedWitness before)
+ChecksNamed A ws before after K.Accepted = Fits A × EdgesInForce (graphOf A) ws × MeetingFree (graphOf A) × (after ≡ clearedWitness before)
 
 -- NUMBERS A with a file s for the names. Questions 2 to 10; the tables are the witness:
 -- "that file's questions come first, then a differing k is 4, line 0, then the questions on the numbers"
@@ -39,7 +39,7 @@ pub record NamedAccepted (A : Automaton) (s : List ℕ) (σ : Sheet) : Type 0 wh
   pub letters : σ .k ≡ A .k
   pub fits : Fits A
   pub in-force : EdgesInForce (graphOf A) (σ .withdrawals)
-  pub free : Free (graphOf A) Everywhere
+  pub free : MeetingFree (graphOf A)
 
 -- on numbers with the names' file s: refused, or all answered yes, with the file's letters in rows. The other tables are the witness.
 abbrev pub Asks : Automaton → List ℕ → List ℕ → WitnessTables → WitnessTables → Checked → Type 0

@@ -7,6 +7,8 @@ use native.Mathlib.Decide.{decLe}
 use Rattle.finite.specs.Finite.{pigeon}
 use Rattle.automaton.specs.Graph.{Graph, GraphFits}
 use Rattle.automaton.specs.Meeting.{Walk, Meet, NoneShorter}
+use Rattle.automaton.specs.Endless.{EndlessFrom}
+use Rattle.automaton.specs.EndlessLaws.{endless-back}
 use Rattle.automaton.specs.EdgeLaws.{walk-in}
 use Rattle.pairs.specs.Triangle.{triangle, triangle-is, triangle-most, pairNumber, pair-lt, pair-same}
 use Rattle.pairs.specs.Joining.{Backwards, Joins, shorter, joins-meet, meet-joins}
@@ -55,3 +57,7 @@ module _ (G : Graph) (fits : GraphFits G) (Counts : ℕ → Type 0) (back : Back
   -- for sixteen states
   pub shortest-136 : t ≤ 136
   shortest-136 = let h = within-triangle in omega (arith, triangle-most (G .n) (fits .range .1))
+
+-- QUESTION 10: a shortest word whose two walks meet at a state that begins an endless path
+pub shortest-ten : (G : Graph) → GraphFits G → (w : ℕ → ℕ) (t : ℕ) (x y : ℕ → ℕ) → Meet G (EndlessFrom G) w t x y → NoneShorter G (EndlessFrom G) t → t ≤ 136
+shortest-ten G fits w t x y m none = shortest-136 G fits (EndlessFrom G) endless-back w t x y m none

@@ -7,7 +7,7 @@ use native.Mathlib.Omega.{arith}
 use native.Mathlib.Nat.{add-mul, mul-le-mul-right}
 use lib.ListN.{length}
 use Rattle.automaton.specs.Automaton.{Automaton, graphOf, Fits}
-use Rattle.automaton.specs.Meeting.{Free, Everywhere}
+use Rattle.automaton.specs.Endless.{MeetingFree}
 use Rattle.automaton.specs.Reading.{Passes}
 use Rattle.tuple.specs.Step.{run, colourEntered}
 use Rattle.tuple.specs.Demand.{demand}
@@ -23,7 +23,7 @@ by-parity : (A : Automaton) (w : ℕ → ℕ) (least : ℕ) → (least % 2 ≡ 0
 by-parity A w least h Yes e = h .0 e
 by-parity A w least h No e = λ p. (let z = h .1 p in omega arith)
 
-pub sound : {A : Automaton} → Fits A → Free (graphOf A) Everywhere → (lead cycle : List ℕ) → 0 < length cycle → ((t : ℕ) → letterAt lead cycle t < A .k)
+pub sound : {A : Automaton} → Fits A → MeetingFree (graphOf A) → (lead cycle : List ℕ) → 0 < length cycle → ((t : ℕ) → letterAt lead cycle t < A .k)
     → (z : Verdict) → Judges A (letterAt lead cycle) (length lead) (length cycle) z → Sound A (letterAt lead cycle) (z .answer)
 sound {A} fits free lead cycle some letters z h = by-parity A w (z .least) parity (z .answer) (h .answer)
   where

@@ -6,7 +6,7 @@ use Rattle.gate.specs.Gate.{refusal, cleared}
 use Rattle.gate.specs.declared.Refusal.{Refusal}
 use Rattle.automaton.specs.declared.Numbers.{Numbers}
 use Rattle.automaton.specs.Automaton.{graphOf, AreNumbers}
-use Rattle.automaton.specs.Meeting.{Free, Everywhere}
+use Rattle.automaton.specs.Endless.{MeetingFree}
 use Rattle.lent.specs.Lent.{WitnessTables, clearedWitness, lentTable, Meets}
 use Rattle.reading.specs.declared.Read.{Read}
 use Rattle.reading.specs.declared.Read.the-variants.{Refused, Is}
@@ -14,10 +14,10 @@ use Rattle.format.specs.Format.{Sheet, FileIs, Faulty}
 use Rattle.format.specs.Numbers.{numbers}
 use Rattle.parser.specs.LettersOf.{LettersIn, BehindNames}
 
--- QUESTIONS 2 TO 10 on a sheet file: s is the file of σ, and no two walks meet
+-- QUESTIONS 2 TO 10 on a sheet file: s is the file of σ, which is free of meeting walks
 pub record Accepted (s : List ℕ) (σ : Sheet) : Type 0 where
   pub file : FileIs s σ
-  pub free : Free (graphOf (numbers σ)) Everywhere
+  pub free : MeetingFree (graphOf (numbers σ))
 
 -- or the first that is answered no refuses with r. The tables are the witness.
 pub data Refuses (s : List ℕ) (before after : WitnessTables) (r : Refusal) : Type 0 where

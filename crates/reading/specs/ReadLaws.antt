@@ -12,10 +12,10 @@ use Rattle.automaton.specs.Graph.{Graph, graph, GraphFits}
 use Rattle.automaton.specs.QuestionLaws.{same-graph, fits-graph}
 use Rattle.automaton.specs.declared.GraphNumbers.{GraphNumbers}
 use Rattle.automaton.specs.declared.Numbers.{Numbers}
-use Rattle.automaton.specs.Meeting.{Everywhere}
 use Rattle.lent.specs.Lent.{WitnessTables, EnoughForWitness, clearedWitness, EnoughForSheet}
 use Rattle.lent.specs.LentLaws.{tables-twice, long-cleared, meets-cleared}
-use Rattle.meeting.specs.Answer.{Asked, Answered}
+use Rattle.meeting.specs.Answer.{Asked}
+use Rattle.walks.specs.Check.{AnsweredTen}
 use Rattle.walks.specs.CheckLaws.{meets-answered}
 use Rattle.format.specs.FormatLaws.{fault-number}
 use Rattle.format.specs.Numbers.{numbers}
@@ -50,9 +50,9 @@ module _ {s t u old rows : List ℕ} {a : Numbers} (h : FileAccepted s t u old r
       zeros = zeros;
     }
 
-    module _ {after : WitnessTables} {r : ℕ} (answer : Answered (graph g (take 128 u)) Everywhere before after r) where
-      answered : Answered (graphOf (numbers (h .letters .sheet))) Everywhere before after r
-      answered = subst (λ (G : Graph). Answered G Everywhere before after r) sheet-graph answer
+    module _ {after : WitnessTables} {r : ℕ} (answer : AnsweredTen (graph g (take 128 u)) before after r) where
+      answered : AnsweredTen (graphOf (numbers (h .letters .sheet))) before after r
+      answered = subst (λ (G : Graph). AnsweredTen G before after r) sheet-graph answer
 
       pub free-accepts : r ≡ 0 → SheetRead s (readTables t old before) (readTables u rows after) a
       free-accepts e = record {

@@ -5,7 +5,7 @@ use mathlib.Core.List.{List}
 use Rattle.gate.specs.Gate.{refusal, cleared}
 use Rattle.gate.specs.declared.Refusal.{Refusal}
 use Rattle.automaton.specs.Automaton.{Automaton, graphOf, Fits, AreNumbers}
-use Rattle.automaton.specs.Meeting.{Free, Everywhere}
+use Rattle.automaton.specs.Endless.{MeetingFree}
 use Rattle.lent.specs.Lent.{WitnessTables, EnoughForSheet, clearedWitness, NumbersRefuse}
 use Rattle.numbering.specs.Numbering.{MoreThan}
 use Rattle.filling.specs.TrackerTables.{TrackerTables, clearedTracker, EnoughForTracker, Fitted}
@@ -61,5 +61,5 @@ pub data BuildsNumbers (A : Automaton) (room : ℕ) (before after : BuildNumbers
   refused : EnoughToBuildNumbers A room before → (r : Refusal) → NumbersRefuse A (before .witness) (after .witness) r → b ≡ Refused r
       → after .tracker ≡ clearedTracker (before .tracker) → BuildsNumbers A room before after b
   -- 11, or the tracker
-  asked : EnoughToBuildNumbers A room before → Fits A → Free (graphOf A) Everywhere → after .witness ≡ clearedWitness (before .witness)
+  asked : EnoughToBuildNumbers A room before → Fits A → MeetingFree (graphOf A) → after .witness ≡ clearedWitness (before .witness)
       → Tracks A room (before .tracker) (after .tracker) b → BuildsNumbers A room before after b

@@ -8,7 +8,9 @@ use Rattle.sets.specs.Sets.{Member}
 use Rattle.sets.specs.SetLaws.{member-dec}
 use Rattle.automaton.specs.Automaton.{Automaton, graphOf, Fits}
 use Rattle.automaton.specs.Graph.{Edge}
-use Rattle.automaton.specs.Meeting.{Walk, Meet, Free, Everywhere}
+use Rattle.automaton.specs.Meeting.{Walk, Meet, Free}
+use Rattle.automaton.specs.Endless.{EndlessFrom, MeetingFree}
+use Rattle.automaton.specs.EndlessLaws.{reading-endless, reading-walk}
 use Rattle.automaton.specs.Reading.{Reading, Recurs, Passes}
 use Rattle.automaton.specs.EdgeLaws.{edge-dec}
 use Rattle.finite.specs.Paths.{glue, glue-lt, glue-ge, extend}
@@ -67,7 +69,7 @@ module _ {A : Automaton} (fits : Fits A) (Counts : ℕ → Type 0) (count : (w x
           let last : Edge (graphOf A) (w t) (x t) (ξ (suc t)) = subst (λ (z : ℕ). Edge (graphOf A) (w t) z (ξ (suc t))) (sym end) e in
           let y-end : y (suc t) ≡ ξ (suc t) = glue-ge x (λ s. ξ (suc t)) (suc t) (suc t) (omega arith) in
           record {
-            one = record { starts = h .starts; goes = λ s l. h .goes s };
+            one = reading-walk h (suc t);
             other = record {
               starts = subst (λ (z : ℕ). Member (A .initial) z) (sym y-first) (walk .starts);
               goes = λ s l. extend (λ t. Edge (graphOf A) (w t)) 0 t (ξ (suc t)) x (λ s b l. walk .goes s l) last s (omega arith) l;
@@ -110,8 +112,8 @@ module _ {A : Automaton} (fits : Fits A) (Counts : ℕ → Type 0) (count : (w x
       let p = passes-both A w in
       (λ e. p .0 (r .0 e), λ h. r .1 (p .1 h))
 
--- Demand 3: an accepted sheet has no meeting walks at all.
-pub demand : {A : Automaton} → Fits A → Free (graphOf A) Everywhere → (w : ℕ → ℕ) → ((t : ℕ) → w t < A .k)
+-- Demand 3: an accepted sheet has no walks that meet at a state that begins an endless path, and every state of a reading begins one.
+pub demand : {A : Automaton} → Fits A → MeetingFree (graphOf A) → (w : ℕ → ℕ) → ((t : ℕ) → w t < A .k)
     → (T d : ℕ) → ((t : ℕ) → T ≤ t → w (t + suc d) ≡ w t) → run A w (T + suc d) ≡ run A w T
     → (lowest (colourEntered A w) T d % 2 ≡ 0) ↔ Passes A w
-demand fits free = demand-counts fits Everywhere (λ w x h t. tt) free
+demand {A} fits free = demand-counts fits (EndlessFrom (graphOf A)) reading-endless free

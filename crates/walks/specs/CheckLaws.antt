@@ -8,11 +8,9 @@ use Rattle.automaton.specs.Automaton.{Automaton, graphOf, Fits}
 use Rattle.automaton.specs.Graph.{Graph}
 use Rattle.lent.specs.Lent.{WitnessTables, EnoughForSheet, clearedWitness, Meets}
 use Rattle.lent.specs.LentLaws.{lengths-cleared, tables-twice, refuse-cleared}
-use Rattle.automaton.specs.Meeting.{Everywhere}
-use Rattle.meeting.specs.Answer.{Answered}
 use Rattle.walks.specs.declared.Checked.{Checked}
 use Rattle.walks.specs.declared.Checked.the-variants.{Refused, Accepted}
-use Rattle.walks.specs.Check.{Checks, ChecksLong}
+use Rattle.walks.specs.Check.{Checks, ChecksLong, AnsweredTen}
 
 -- question 1 is asked first, and answered yes
 pub checks-asked : (A : Automaton) (before after : WitnessTables) (c : Checked) → EnoughForSheet (A .table) before → ChecksLong A before after c → Checks A before after c
@@ -33,9 +31,9 @@ module _ (before : WitnessTables) {zeroed : WitnessTables} (e : zeroed ≡ clear
 
 -- question 10 answered
 module _ {before after : WitnessTables} {r : ℕ} where
-  pub meets-answered : {G : Graph} → Answered G Everywhere before after r → (r ≡ 0 → ⊥) → Meets G before after (record { number = 10; line = 0; length = r })
+  pub meets-answered : {G : Graph} → AnsweredTen G before after r → (r ≡ 0 → ⊥) → Meets G before after (record { number = 10; line = 0; length = r })
   meets-answered a e = record { number = refl; line = refl; some = omega arith; witness = a .witness (omega arith); lengths = a .lengths }
 
-  pub free-answered : {A : Automaton} → Fits A → Answered (graphOf A) Everywhere before after r → before ≡ clearedWitness before → r ≡ 0
+  pub free-answered : {A : Automaton} → Fits A → AnsweredTen (graphOf A) before after r → before ≡ clearedWitness before → r ≡ 0
       → ChecksLong A before after Accepted
   free-answered f a zeros e = (f, a .free e, a .kept e ∙ zeros)

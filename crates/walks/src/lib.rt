@@ -2,10 +2,9 @@
 ghost use mathlib.Core.Path.{_≡_};
 ghost use Rattle.automaton.specs.Automaton.{automaton};
 ghost use Rattle.automaton.specs.Graph.{graph};
-ghost use Rattle.automaton.specs.Meeting.{Everywhere};
 ghost use Rattle.lent.specs.Lent.{witnessTables, EnoughForSheet, clearedWitness};
-ghost use Rattle.meeting.specs.Answer.{Asked, Answered};
-ghost use Rattle.walks.specs.Check.{Checks, ChecksLong};
+ghost use Rattle.meeting.specs.Answer.{Asked};
+ghost use Rattle.walks.specs.Check.{Checks, ChecksLong, AnsweredTen};
 use automaton::GraphNumbers;
 use automaton::Numbers;
 use gate::Refusal;
@@ -16,8 +15,8 @@ pub enum Checked {
     Accepted,
 }
 
-// Question 10, for callers that have asked the questions before it and cleared the tables:
-// 0 for yes, or the length of a shortest word with meeting walks, with the word and two such walks in the tables.
+// Question 10, for callers that have asked the questions before it and cleared the tables: 0 for yes, or the length of a shortest word with
+// walks that meet at a state that begins an endless path, with the word and two such walks in the tables.
 pub fn ask(
     g: GraphNumbers,
     table: &[u16],
@@ -26,10 +25,11 @@ pub fn ask(
     other: &mut [u16],
 ) -> usize
     requires { ⌜ Asked (graph g (now table)) (witnessTables (now word) (now one) (now other)) ⌝ }
-    ensures { λ r. ⌜ Answered (graph g (now (table .entry))) Everywhere (witnessTables (now (word .entry)) (now (one .entry)) (now (other .entry)))
+    ensures { λ r. ⌜ AnsweredTen (graph g (now (table .entry))) (witnessTables (now (word .entry)) (now (one .entry)) (now (other .entry)))
         (witnessTables (now (word .exit)) (now (one .exit)) (now (other .exit))) r ⌝ }
 {
-    meeting::search(g, table, 65535, word, one, other)
+    let counts = endless::states(g, table);
+    meeting::search(g, table, counts, word, one, other)
 }
 
 // Questions 4, 7, 8 and 10, in tables that are long enough and all zero.

@@ -6,7 +6,7 @@ use lib.ListN.{length}
 use Rattle.names.specs.Name.{compose}
 use Rattle.names.specs.NameLaws.{compose-idempotent}
 use Rattle.automaton.specs.Automaton.{Automaton, graphOf, Fits}
-use Rattle.automaton.specs.Meeting.{Free, Everywhere}
+use Rattle.automaton.specs.Endless.{MeetingFree}
 use Rattle.format.specs.Format.{Withdrawal, Sheet, WithdrawalsRight, FileIs, lines, endLine}
 use Rattle.format.specs.Numbers.{numbers}
 use Rattle.format.specs.Written.{sheetOf, writtenSheet, written}
@@ -51,10 +51,10 @@ named-right {σ = σ} h =
 -- FROM NUMBERS with names and withdrawals
 module _ (A : Automaton) (fits : Fits A) (long : 128 ≤ length (A .table)) (names : List (List ℕ)) (ws : List Withdrawal) (right : LettersRight A names ws) where
   -- what is written is accepted, where no walks meet
-  pub numbers-accepted : Free (graphOf A) Everywhere → Accepted (written A names ws) (writtenSheet A names ws)
+  pub numbers-accepted : MeetingFree (graphOf A) → Accepted (written A names ws) (writtenSheet A names ws)
   numbers-accepted free = record {
     file = written-file A fits names ws right;
-    free = subst (λ (B : Automaton). Free (graphOf B) Everywhere) (sym (numbers-written A names ws fits long)) (free-trimmed A fits free);
+    free = subst (λ (B : Automaton). MeetingFree (graphOf B)) (sym (numbers-written A names ws fits long)) (free-trimmed A fits free);
   }
 
   module _ (τ : Sheet) (file : FileIs (written A names ws) τ) where

@@ -9,7 +9,8 @@ use Rattle.names.specs.Name.{compose}
 use Rattle.sets.specs.Sets.{bit, Member}
 use Rattle.automaton.specs.Automaton.{Automaton, graphOf, Fits}
 use Rattle.automaton.specs.Graph.{Edge}
-use Rattle.automaton.specs.Meeting.{Walk, Free, Everywhere}
+use Rattle.automaton.specs.Meeting.{Walk}
+use Rattle.automaton.specs.Endless.{EndlessFrom, MeetingFree}
 use Rattle.format.specs.Format.{Withdrawal, Sheet, lines, endLine}
 use Rattle.format.specs.Numbers.{numbers}
 use Rattle.format.specs.Written.{mostTransitions, whereMember, placed, transitionsOf, sheetOf, writtenSheet, written}
@@ -32,13 +33,16 @@ edge-trimmed A fits l q r e = record {
 walk-trimmed : (A : Automaton) → Fits A → (w : ℕ → ℕ) (t : ℕ) (x : ℕ → ℕ) → Walk (graphOf (trimmed A)) w t x → Walk (graphOf A) w t x
 walk-trimmed A fits w t x h = record { starts = h .starts; goes = λ s l. edge-trimmed A fits (w s) (x s) (x (suc s)) (h .goes s l) }
 
-pub free-trimmed : (A : Automaton) → Fits A → Free (graphOf A) Everywhere → Free (graphOf (trimmed A)) Everywhere
+endless-trimmed : (A : Automaton) → Fits A → (q : ℕ) → EndlessFrom (graphOf (trimmed A)) q → EndlessFrom (graphOf A) q
+endless-trimmed A fits q (x, e, path) = (x, e, λ t. (let (l, h) = path t in (l, edge-trimmed A fits l (x t) (x (suc t)) h)))
+
+pub free-trimmed : (A : Automaton) → Fits A → MeetingFree (graphOf A) → MeetingFree (graphOf (trimmed A))
 free-trimmed A fits free w t x y m = free w t x y (record {
   one = walk-trimmed A fits w t x (m .one);
   other = walk-trimmed A fits w t y (m .other);
   differ = m .differ;
   shared = m .shared;
-  counts = m .counts;
+  counts = endless-trimmed A fits (x t) (m .counts);
 })
 
 sheet-trimmed : (A : Automaton) (names : List (List ℕ)) (ws : List Withdrawal) → sheetOf (trimmed A) names ws ≡ sheetOf A names ws

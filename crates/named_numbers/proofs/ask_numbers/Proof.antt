@@ -5,9 +5,9 @@ use borrow.Author.Tests.{not-true, not-false}
 use Rattle.automaton.specs.Automaton.{Automaton, automaton, graphOf, Fits}
 use Rattle.automaton.specs.Graph.{Graph, graph}
 use Rattle.automaton.specs.QuestionLaws.{same-graph, fits-graph}
-use Rattle.automaton.specs.Meeting.{Everywhere}
 use Rattle.lent.specs.Lent.{WitnessTables, witnessTables}
-use Rattle.meeting.specs.Answer.{Asked, Answered}
+use Rattle.meeting.specs.Answer.{Asked}
+use Rattle.walks.specs.Check.{AnsweredTen}
 use Rattle.walks.specs.CheckLaws.{free-answered, meets-answered}
 use Rattle.superseding.specs.Superseding.{supersedingIn}
 use Rattle.format.specs.Format.{Withdrawal}
@@ -58,11 +58,11 @@ before-it c = c .before .before .before .before .before
 answer : (c : tie.After-ask) →
     let s = start (passed (before-it c) .before) in
     let l = c .ask .last .1 .1 in
-    Answered (graphOf (given s)) Everywhere (lent s) (witnessTables (l .0) (l .1 .0) (l .1 .1 .0)) (c .ask .result)
+    AnsweredTen (graphOf (given s)) (lent s) (witnessTables (l .0) (l .1 .0) (l .1 .1 .0)) (c .ask .result)
 answer c =
     let s = start (passed (before-it c) .before) in
     let l = c .ask .last .1 .1 in
-    subst (λ (G : Graph). Answered G Everywhere (lent s) (witnessTables (l .0) (l .1 .0) (l .1 .1 .0)) (c .ask .result))
+    subst (λ (G : Graph). AnsweredTen G (lent s) (witnessTables (l .0) (l .1 .0) (l .1 .1 .0)) (c .ask .result))
     (same (c .before .before .before .before)) (c .ask .ensures)
 
 first-no-requires : tie.Need-first-no-requires

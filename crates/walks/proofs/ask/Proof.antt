@@ -1,13 +1,18 @@
--- Of sixteen states all count, so a meeting counts everywhere. Assumes nothing.
-use Rattle.meeting.specs.AnswerLaws.{all-backwards, answer-everywhere}
+-- The states that count are those that begin an endless path, and a transition into one of these leaves one of these. Assumes nothing.
+use Rattle.automaton.specs.EndlessLaws.{endless-back}
+use Rattle.meeting.specs.AnswerLaws.{backwards-same, answer-same}
 use borrow.Author.Needs.{needs}
 use Rattle.walks.proofs.ask.Statement.{statement}
 use Rattle.walks.proofs.ask.Tie as tie
 
+states-requires : tie.Need-states-requires
+states-requires c κs =
+    let p = c .before .before .before .before .pre in
+    (p .fits, p .lengths .cells)
+
 search-requires : tie.Need-search-requires
 search-requires c κs =
-    let p = c .before .before .before .before .before .before .before .pre in
-    (p, all-backwards (p .fits))
+    (c .before .before .before .before .before .before .before .before .pre, backwards-same (c .before .before .before .states .ensures) endless-back)
 
 same-length : tie.Need-same-length
 same-length c = search needs
@@ -21,7 +26,7 @@ same-length-3 c = search needs
 returns : tie.Need-returns
 returns c =
     let g = c .before .before .before .before .before .before in
-    answer-everywhere (g .before .before .before .before .before .before .before .before .pre .fits) (g .search .ensures)
+    answer-same (g .before .before .before .before .states .ensures) (g .search .ensures)
 
 pub ask-spec : {M : Type 1} → statement M
-ask-spec = tie.close (tie.spec search-requires same-length same-length-2 same-length-3 returns)
+ask-spec = tie.close (tie.spec states-requires search-requires same-length same-length-2 same-length-3 returns)

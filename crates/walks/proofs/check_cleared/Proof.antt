@@ -3,9 +3,9 @@ use mathlib.Core.Path.{_≡_, refl, sym, subst}
 use Rattle.automaton.specs.Automaton.{automaton, graphOf, Fits}
 use Rattle.automaton.specs.Graph.{Graph, graph}
 use Rattle.automaton.specs.QuestionLaws.{same-graph, fits-graph}
-use Rattle.automaton.specs.Meeting.{Everywhere}
 use Rattle.lent.specs.Lent.{WitnessTables, witnessTables, NumbersRefuse}
-use Rattle.meeting.specs.Answer.{Asked, Answered}
+use Rattle.meeting.specs.Answer.{Asked}
+use Rattle.walks.specs.Check.{AnsweredTen}
 use Rattle.walks.specs.CheckLaws.{free-answered, meets-answered}
 use borrow.Author.Needs.{needs}
 use Rattle.walks.proofs.check_cleared.Statement.{statement}
@@ -37,11 +37,11 @@ same c = let a = start (c .before .before) .args in same-graph (a .a) (a .table 
 answer : (c : tie.After-ask) →
     let s = start (c .before .before .before .before .before .before) in
     let l = c .ask .last .1 .1 in
-    Answered (graphOf (automaton (s .args .a) (s .args .table .now))) Everywhere (lent s) (witnessTables (l .0) (l .1 .0) (l .1 .1 .0)) (c .ask .result)
+    AnsweredTen (graphOf (automaton (s .args .a) (s .args .table .now))) (lent s) (witnessTables (l .0) (l .1 .0) (l .1 .1 .0)) (c .ask .result)
 answer c =
     let s = start (c .before .before .before .before .before .before) in
     let l = c .ask .last .1 .1 in
-    subst (λ (G : Graph). Answered G Everywhere (lent s) (witnessTables (l .0) (l .1 .0) (l .1 .1 .0)) (c .ask .result))
+    subst (λ (G : Graph). AnsweredTen G (lent s) (witnessTables (l .0) (l .1 .0) (l .1 .1 .0)) (c .ask .result))
     (same (c .before .before .before .before)) (c .ask .ensures)
 
 first-no-requires : tie.Need-first-no-requires

@@ -1,0 +1,20 @@
+-- All sixteen numbers, moved down by 16 - n. Assumes nothing.
+use borrow.Author.Needs.{needs}
+use Rattle.sets.specs.OrderLaws.{below-members}
+use Rattle.sets.proofs.below.Statement.{statement}
+use Rattle.sets.proofs.below.Tie as tie
+
+sub-result : tie.Need-sub-result
+sub-result c = search needs
+
+cast-result : tie.Need-cast-result
+cast-result c = search needs
+
+shr-result : tie.Need-shr-result
+shr-result c = search needs
+
+returns : tie.Need-returns
+returns c = below-members (c .args .n) (c .pre .1)
+
+pub below-spec : {M : Type 1} → statement M
+below-spec = tie.close (tie.spec sub-result cast-result shr-result returns)
