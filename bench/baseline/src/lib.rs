@@ -177,8 +177,30 @@ pub fn read_sheet(s: &[u8]) -> Result<Sheet, No> {
     Ok(Sheet { n, k, initial, recurring, next, names, standing })
 }
 
-/// Is there a word with two different walks to one state? Pairs of states reached together, layer by layer.
+/// The states from which transitions go on without end: the others fall away, those first that have no successor left.
+fn endless(s: &Sheet) -> u16 {
+    let mut after = [0u16; 16];
+    for q in 0..s.n {
+        after[q] = s.next[8 * q..8 * q + s.k].iter().fold(0, |a, b| a | b);
+    }
+    let mut left = u16::MAX >> (16 - s.n);
+    loop {
+        let mut kept = left;
+        for q in 0..s.n {
+            if after[q] & kept == 0 {
+                kept &= !(1 << q);
+            }
+        }
+        if kept == left {
+            return left;
+        }
+        left = kept;
+    }
+}
+
+/// Is there a word with two different walks to one state that goes on without end? Pairs of states reached together, layer by layer.
 pub fn meets(s: &Sheet) -> bool {
+    let endless = endless(s);
     let mut seen = [0u16; 16];
     let mut layer = [0u16; 16];
     for q in 0..16 {
@@ -197,7 +219,7 @@ pub fn meets(s: &Sheet) -> bool {
                 rest &= rest - 1;
                 for l in 0..s.k {
                     let (x, y) = (s.next[8 * p + l], s.next[8 * q + l]);
-                    if p != q && x & y != 0 {
+                    if p != q && x & y & endless != 0 {
                         return true;
                     }
                     let mut a = x;

@@ -53,8 +53,7 @@ pub fn sheet_b() -> Sheet {
     sheet_of(2, 2, &[0, 1], &[1], &[(0, 0, 0), (0, 1, 0), (0, 1, 1), (1, 0, 1)])
 }
 
-/// The sheet whose shortest meeting word has n(n+1)/2 letters.
-pub fn longest_word(n: usize) -> Sheet {
+fn longest_word_edges(n: usize) -> Vec<(usize, usize, usize)> {
     let mut edges = Vec::new();
     for q in 0..n {
         edges.push((q, 0, (q + 1) % n));
@@ -62,7 +61,19 @@ pub fn longest_word(n: usize) -> Sheet {
     }
     edges.push((n - 1, 2, 0));
     edges.push((n - 1, 2, n / 2));
-    sheet_of(n, 3, &[0], &[0], &edges)
+    edges
+}
+
+/// The sheet whose shortest meeting word has n(n+1)/2 letters.
+pub fn longest_word(n: usize) -> Sheet {
+    sheet_of(n, 3, &[0], &[0], &longest_word_edges(n))
+}
+
+/// The same with a dead end, to which every state goes on a letter of its own: any two walks come together there.
+pub fn with_early_dead_end(going: usize) -> Sheet {
+    let mut edges = longest_word_edges(going);
+    edges.extend((0..going).map(|q| (q, 3, going)));
+    sheet_of(going + 1, 4, &[0], &[0], &edges)
 }
 
 /// A counter of n states: as many tuples, and a cycle of one letter needs as many passes.
@@ -256,7 +267,7 @@ impl Cases {
         ] {
             self.text(&with(old, new), plan);
         }
-        // Walks that meet on a withdrawn letter are 16, and those that meet on another are 10.
+        // Walks that come together on a withdrawn letter are 16, and on another they are harmless where they stop.
         for letter in [0, 1] {
             let mut meeting = sheet_of(3, 2, &[0, 1], &[], &[(0, letter, 2), (1, letter, 2)]);
             meeting.withdrawn = vec![(0, 1)];
@@ -292,6 +303,53 @@ impl Cases {
         }
     }
 
+    /// Walks that come together in dead ends, in states that go on, and in both.
+    fn dead_ends(&mut self) {
+        let two_to_one = [(0, 0, 2), (1, 0, 2)];
+        let with = |more: &[(usize, usize, usize)]| [&two_to_one[..], more].concat();
+        for room in [0, 2, 3, ROOM] {
+            self.judged(room, &sheet_of(3, 1, &[0, 1], &[2], &two_to_one), &[], &[0]);
+        }
+        for room in [0, 1, ROOM] {
+            self.judged(room, &sheet_of(3, 1, &[0, 1], &[2], &with(&[(2, 0, 2)])), &[], &[0]);
+        }
+        // State 2 goes on by another letter, by way of another state, or back to where it was entered from.
+        for more in [&[(2, 1, 2)][..], &[(2, 1, 3), (3, 0, 3)], &[(2, 0, 3), (3, 1, 3)], &[(2, 1, 0)]] {
+            self.judged(ROOM, &sheet_of(4, 2, &[0, 1], &[2, 3], &with(more)), &[0], &[0, 1]);
+        }
+        // It stops one state later, or another state goes on that it does not lead to.
+        for more in [&[(2, 1, 3)][..], &[(2, 0, 3), (2, 1, 3)], &[(3, 0, 3)], &[(3, 0, 2), (3, 1, 3)]] {
+            self.judged(ROOM, &sheet_of(4, 2, &[0, 1], &[2, 3], &with(more)), &[0], &[0, 1]);
+        }
+        // Beside it 0 and 1 go on by themselves, and a plan passes that stays with 0; or they meet, but on a longer word.
+        for cycle in [0, 1] {
+            self.judged(ROOM, &sheet_of(3, 2, &[0, 1], &[0], &with(&[(0, 1, 0), (1, 1, 1)])), &[], &[cycle]);
+        }
+        self.judged(ROOM, &sheet_of(4, 2, &[0, 1], &[3], &with(&[(0, 1, 1), (1, 1, 3), (3, 1, 3)])), &[], &[1]);
+        for going in [3, 4, 15] {
+            self.judged(ROOM, &with_early_dead_end(going), &[], &[0]);
+        }
+        // A withdrawn letter is 16 before walks are asked for: where they come together on it, and where the state goes on by it.
+        for (meeting, going_on) in [(0, 1), (1, 0), (1, 1)] {
+            let mut s = sheet_of(3, 2, &[0, 1], &[], &[(0, meeting, 2), (1, meeting, 2), (2, going_on, 2)]);
+            s.withdrawn = vec![(0, 1)];
+            self.judged(ROOM, &s, &[], &[0]);
+        }
+        // Sheets that dead ends change something for, with a plan that passes where one of some does.
+        let mut r = Random::new(20_261_117);
+        let mut count = 0;
+        while count < 24 {
+            let s = families::with_dead_ends(&mut r, 12);
+            if Effect::of(&s) == Effect::Nothing {
+                continue;
+            }
+            let plans: Vec<Plan> = (0..30).map(|_| families::plan(&mut r, s.k)).collect();
+            let plan = plans.iter().find(|p| product::passes(&s, p)).unwrap_or(&plans[0]);
+            self.judged(ROOM, &s, &plan.lead, &plan.cycle);
+            count += 1;
+        }
+    }
+
     fn tuples(&mut self, inputs: &std::path::Path) {
         for (name, rooms) in [("tuples-1024.sheet", vec![1022, 1023, 1024]), ("tuples-1025.sheet", vec![1024]), ("longest.sheet", vec![1024])] {
             let file = std::fs::read(inputs.join(name)).unwrap();
@@ -323,6 +381,7 @@ pub fn write(folder: &std::path::Path, inputs: &std::path::Path) {
     c.tuples(inputs);
     c.random(640);
     c.withdrawals(inputs);
+    c.dead_ends();
     let data = folder.join("data");
     std::fs::create_dir_all(&data).unwrap();
     let mut out = String::new();

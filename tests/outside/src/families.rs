@@ -1,7 +1,10 @@
 //! Sheets of many families. Most have no meeting walks, by the way they are made; some are then perturbed.
 
+mod dead_ends;
+
 use crate::random::Random;
 use crate::sheet::{Plan, Sheet};
+pub use dead_ends::with_dead_ends;
 
 fn names(r: &mut Random, k: usize) -> Vec<Vec<u8>> {
     const PARTS: [&str; 12] = ["a", "B", "7", "~", "ä", "Ö", "ß", "u\u{308}", "A\u{308}", "o\u{308}", "-", "x"];

@@ -25,6 +25,90 @@ fn refusals() {
     assert_eq!(walks::shortest_meeting(&read_sheet(meeting.as_bytes()).unwrap()), Some(2));
 }
 
+const TWO_TO_ONE: &str = "SHEET  3  1\nN  0 a\nS  0  1  0\nS  1  1  0\nS  2  0  0\nT  0  0  2\nT  1  0  2\nEND\n";
+
+/// States 0 and 1 both move to 2: accepted if 2 stops there, and refused if it has a loop.
+#[test]
+fn dead_ends() {
+    let listing = "TRACK  3  1    3\nQ    0  7     3     0     0    1\nQ    1  7     4     0     0    2\nQ    2  1     0     0     0    2\nEND\n";
+    assert_eq!(expected::listing(TWO_TO_ONE.as_bytes(), ROOM), Ok(listing.to_string()));
+    let stops = read_sheet(TWO_TO_ONE.as_bytes()).unwrap();
+    assert_eq!(walks::endless(&stops), [false; 3]);
+    assert_eq!((walks::shortest_meeting(&stops), walks::shortest_meeting_anywhere(&stops)), (None, Some(1)));
+    assert!(!walks::meets(&stops, &[0], &[0, 2], &[1, 2]));
+    let looped = TWO_TO_ONE.replacen("END", "T  2  0  2\nEND", 1);
+    assert_eq!(expected::listing(looped.as_bytes(), ROOM), Err((10, 0)));
+    let loops = read_sheet(looped.as_bytes()).unwrap();
+    assert_eq!(walks::endless(&loops), [true; 3]);
+    assert_eq!(walks::shortest_meeting(&loops), Some(1));
+    assert!(walks::meets(&loops, &[0], &[0, 2], &[1, 2]));
+    assert_eq!([&stops, &loops].map(Effect::of), [Effect::Accepted, Effect::Nothing]);
+}
+
+/// All walks on a word, state by state.
+fn all_walks(s: &sheet::Sheet, word: &[usize]) -> Vec<Vec<usize>> {
+    let mut walks: Vec<Vec<usize>> = (0..s.n).filter(|q| s.initial[*q]).map(|q| vec![q]).collect();
+    for l in word {
+        walks = walks.iter().flat_map(|w| s.next[w[w.len() - 1]][*l].iter().map(move |t| [&w[..], &[*t]].concat())).collect();
+    }
+    walks
+}
+
+/// A finite run into a dead end may stay in set 0 from one mark to the next and visit no must-recur state on the way (docs/THEORY.md, section 6).
+#[test]
+fn run_into_a_dead_end() {
+    let s = cases::sheet_of(4, 2, &[0], &[0], &[(0, 0, 0), (0, 0, 3), (0, 1, 0), (0, 1, 1), (1, 1, 2), (2, 0, 3)]);
+    assert_eq!((walks::endless(&s), walks::shortest_meeting(&s)), (vec![true, false, false, false], None));
+    let (word, run) = ([0, 1, 1, 0], [0, 0, 1, 2, 3]);
+    assert!(all_walks(&s, &word).contains(&run.to_vec()));
+    let mut passed = vec![tuples::first(&s)];
+    for l in word {
+        passed.push(tuples::step(&s, &passed[passed.len() - 1], l));
+    }
+    assert_eq!(passed.iter().map(|u| u.colour).collect::<Vec<_>>(), [9, 9, 2, 9, 2]);
+    assert!((2..5).all(|t| passed[t].sets[0].contains(&run[t]) && !s.recurring[run[t]]));
+}
+
+/// Is there a path of so many transitions from a state? As many as there are states pass through one of them twice.
+fn goes_on(s: &sheet::Sheet, q: usize, transitions: usize) -> bool {
+    transitions == 0 || s.next[q].iter().flatten().any(|t| goes_on(s, *t, transitions - 1))
+}
+
+/// Counting walks against a list of all of them, and circles against long paths, on small sheets with dead ends.
+#[test]
+fn walks_listed() {
+    let mut seen = [0; 3];
+    for seed in 0..6000 {
+        let s = families::with_dead_ends(&mut Random::new(seed), 4);
+        // Of the others there are too many words.
+        if s.k > 2 || s.k == 2 && s.n > 4 {
+            continue;
+        }
+        let endless: Vec<bool> = (0..s.n).map(|q| goes_on(&s, q, s.n)).collect();
+        assert_eq!(walks::endless(&s), endless);
+        let meets_on = |word: &[usize]| {
+            let all = all_walks(&s, word);
+            let two = |one: &Vec<usize>| all.iter().any(|other| walks::meets(&s, word, one, other));
+            let ends = |q: usize| all.iter().filter(|w| w[word.len()] == q).count();
+            let met = (0..s.n).any(|q| endless[q] && ends(q) > 1);
+            assert_eq!(all.iter().any(two), met);
+            met
+        };
+        let mut layer = vec![Vec::new()];
+        let mut shortest = None;
+        for length in 1..=s.n * (s.n + 1) / 2 {
+            layer = layer.iter().flat_map(|w: &Vec<usize>| (0..s.k).map(move |l| [&w[..], &[l]].concat())).collect();
+            if layer.iter().any(|word| meets_on(word)) {
+                shortest = Some(length);
+                break;
+            }
+        }
+        assert_eq!(walks::shortest_meeting(&s), shortest);
+        seen[Effect::of(&s) as usize] += 1;
+    }
+    assert!(seen.iter().all(|count| *count >= 10), "{seen:?}");
+}
+
 /// Three grades, of which the second has superseded the first, and the third the second.
 const OLD_GRADES: &str =
     "SHEET  2  4\nN  0 old\nN  1 newer\nN  2 newest\nN  3 rest\nW  0  1\nW  1  2\nS  0  1  0\nS  1  0  1\nT  0  2  1\nT  0  3  0\nT  1  3  0\nEND\n";
@@ -64,13 +148,13 @@ fn withdrawal_lines() {
     assert_eq!(with("T  1  3  0", "T  0  1  1"), Some((8, 12)));
 }
 
-/// Tuples, the product and Safra's automaton agree on sheets of every family.
+/// Tuples, the product and Safra's automaton agree on sheets of every family, those with harmless dead ends among them.
 #[test]
 fn judges_agree() {
-    let mut compared = 0;
-    for seed in 0..1500 {
+    let (mut compared, mut harmless) = (0, 0);
+    for seed in 0..2500 {
         let mut r = Random::new(seed);
-        let s = families::sheet(&mut r, 6);
+        let s = if seed < 1500 { families::sheet(&mut r, 6) } else { families::with_dead_ends(&mut r, 6) };
         if walks::shortest_meeting(&s).is_some() {
             continue;
         }
@@ -85,11 +169,12 @@ fn judges_agree() {
         if let Some(same) = safra::rabin(&s, 2000).and_then(|d| equal::same_sequences(&t, &d, 200_000)) {
             assert!(same, "{}", String::from_utf8_lossy(&write_sheet(&s, false)));
             compared += 1;
+            harmless += (Effect::of(&s) == Effect::Accepted) as usize;
             // Where every verdict is the other one, the comparison sees it.
             t.tuples.iter_mut().for_each(|u| u.colour += 1);
             let d = safra::rabin(&s, 2000).unwrap();
             assert_eq!(equal::same_sequences(&t, &d, 200_000), Some(false));
         }
     }
-    assert!(compared > 500, "{compared}");
+    assert!(compared > 1000 && harmless > 200, "{compared}, {harmless}");
 }

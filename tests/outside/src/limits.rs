@@ -1,6 +1,8 @@
-//! The programs at their limits: the most tuples, the longest files, every withdrawal, every refusal, and an input that cannot be read.
+//! The programs at their limits: the most tuples, the longest files, the longest witness, every withdrawal, every refusal, and an input that
+//! cannot be read.
 
 mod counts;
+mod dead_ends;
 mod meetings;
 mod refusals;
 mod sizes;
@@ -20,6 +22,7 @@ pub fn many_tuples(r: &mut Random) -> Sheet {
 
 pub fn run(b: &mut Bench) {
     meetings::run(b);
+    dead_ends::run(b);
     counts::run(b);
     sizes::run(b);
     splits::run(b);

@@ -2,13 +2,14 @@
 //! by counting, verdicts on the product of sheet and plan, tuples by the requirements' text, and Safra's construction.
 //!
 //! outside PROGRAMS [COUNT]: PROGRAMS is the folder of the built programs `track`, `verdict` and `rewrite`; COUNT (4,000) is how many
-//! sheets are made, with half as many beside them that have withdrawn letters. A line tells how many comparisons of each kind there
-//! were; the last one is `outside: N passed, M failed`.
+//! sheets are made, with half as many beside them that have withdrawn letters, and half as many that have dead ends. A line tells how many
+//! comparisons of each kind there were; the last one is `outside: N passed, M failed`.
 //! outside cases FOLDER INPUTS: writes the case files of crates/cases and their answers; INPUTS is bench/inputs.
 
 mod bench;
 mod calls;
 mod cases;
+mod effect;
 mod equal;
 mod expected;
 mod families;
@@ -25,6 +26,7 @@ mod tuples;
 mod walks;
 
 use bench::Bench;
+use effect::Effect;
 use expected::ROOM;
 use random::Random;
 use sheet::{write_plan, write_sheet};
@@ -75,6 +77,29 @@ fn withdrawn_sheet(b: &mut Bench, r: &mut Random, most: usize) {
     }
 }
 
+/// A random sheet with dead ends through every program, whole and damaged; the kinds of comparisons tell what its dead ends change.
+fn dead_end_sheet(b: &mut Bench, r: &mut Random, most: usize) {
+    let s = families::with_dead_ends(r, most);
+    let file = write_sheet(&s, false);
+    let effect = Effect::of(&s);
+    let kind = |what: &str| dead_end_kind(effect, what);
+    b.listed(&kind("listing"), &file);
+    b.rewritten(&kind("written"), &file);
+    for _ in 0..2 {
+        let plan = write_plan(&s, &families::plan(r, s.k));
+        b.judged(&kind("verdict"), &[&file[..], &plan].concat());
+    }
+    b.listed(&kind("damaged sheet"), &families::damaged(r, &file));
+    b.rewritten(&kind("damaged sheet written"), &families::damaged(r, &file));
+    if let Some(same) = larger::same_as_safra(&s) {
+        b.expect(&kind("Safra"), same, &file);
+    }
+}
+
+fn dead_end_kind(effect: Effect, what: &str) -> String {
+    format!("dead ends, {}: {what}", effect.name())
+}
+
 fn main() {
     let mut args = std::env::args().skip(1).peekable();
     if args.peek().map_or(false, |x| x == "cases") {
@@ -93,12 +118,17 @@ fn main() {
             random_sheet(b, &mut Random::new(seed as u64), most);
             if seed % 8 < 4 {
                 withdrawn_sheet(b, &mut Random::new(1 << 32 | seed as u64), most);
+            } else {
+                dead_end_sheet(b, &mut Random::new(1 << 33 | seed as u64), most);
             }
         }
     };
     let first_half = |b: &mut Bench| of_seeds(b, 0..count / 2);
     let second_half = |b: &mut Bench| of_seeds(b, count / 2..count);
-    let b = Bench::side_by_side(programs, &[&of_limits, &calls::run, &first_half, &second_half]);
+    let mut b = Bench::side_by_side(programs, &[&of_limits, &calls::run, &calls::small_sheets::run, &first_half, &second_half]);
+    // Random sheets come upon what harmless dead ends change.
+    b.at_least(count / 20, &dead_end_kind(Effect::Accepted, "listing"));
+    b.at_least(count / 40, &dead_end_kind(Effect::LongerWord, "listing"));
     b.report();
     println!("outside: {} passed, {} failed", b.passed, b.failed);
     if b.failed > 0 {

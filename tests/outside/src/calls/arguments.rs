@@ -135,8 +135,7 @@ fn out_length(r: &mut Random, call: Call, s: &Scenario) -> usize {
 }
 
 pub fn of(r: &mut Random, s: &Scenario, call: Call) -> (Arguments, Tables) {
-    let facts = if call.takes_numbers() { &s.of_numbers } else { &s.of_file };
-    let count = facts.tracker.as_ref().map_or(1024, |t| t.tuples.len());
+    let count = s.facts(call).tracker.as_ref().map_or(1024, |t| t.tuples.len());
     let room = if call.lends_room() { room(r, count) } else { 0 };
     let a = Arguments {
         file: if call == Call::VerdictProgram { s.input.clone() } else { s.file.clone() },

@@ -26,6 +26,10 @@ use Call::*;
 pub const LATE: u32 = 100;
 /// Stands for refusal 16 of numbers, by the file that gives the names.
 pub const BY_FILE: u32 = 101;
+/// Stands for no refusal where walks come together, but in dead ends only.
+pub const HARMLESS: u32 = 102;
+/// Stands for refusal 10 with a word that is longer than one to a dead end.
+pub const LONGER: u32 = 103;
 
 pub const ALL: [Call; 16] = [
     Check, ReadSheet, Write, WriteNumbers, Name, NameNumber, Find, Successors, Build, BuildNumbers, List, ListNumbers, Verdict, Track,
@@ -94,6 +98,12 @@ impl Call {
         let mut out = self.numbers();
         if self.writes() || self.program().is_some() {
             out.push(LATE);
+        }
+        if out.contains(&10) {
+            out.push(HARMLESS);
+        }
+        if self.lends_witness() || self == Rewrite {
+            out.push(LONGER);
         }
         out
     }

@@ -1,6 +1,7 @@
 //! What the questions say of a sheet, and what follows from it: found once for all calls on it.
 
 use super::numbers::Numbers;
+use crate::effect::Effect;
 use crate::expected::ROOM;
 use crate::sheet::{read_sheet, No, Sheet};
 use crate::tuples::{self, Tracker};
@@ -11,6 +12,8 @@ pub struct Facts {
     pub sheet: Result<Sheet, No>,
     /// The length of a shortest meeting word.
     pub meeting: Option<usize>,
+    /// What harmless dead ends change.
+    pub effect: Effect,
     /// The tracker, where there are at most 1,024 tuples.
     pub tracker: Option<Tracker>,
     pub listing: String,
@@ -23,11 +26,18 @@ pub enum Refusal<'a> {
 }
 
 impl Facts {
-    pub fn new(sheet: Result<Sheet, No>) -> Self {
+    /// Where no tracker is asked for.
+    pub fn of_walks(sheet: Result<Sheet, No>) -> Self {
         let meeting = sheet.as_ref().ok().and_then(walks::shortest_meeting);
-        let tracker = sheet.as_ref().ok().filter(|_| meeting.is_none()).and_then(|s| tuples::build(s, ROOM));
-        let listing = tracker.as_ref().map_or(String::new(), |t| tuples::listing(sheet.as_ref().unwrap(), t));
-        Facts { sheet, meeting, tracker, listing }
+        let effect = sheet.as_ref().map_or(Effect::Nothing, |s| Effect::on(s, meeting));
+        Facts { sheet, meeting, effect, tracker: None, listing: String::new() }
+    }
+
+    pub fn new(sheet: Result<Sheet, No>) -> Self {
+        let facts = Facts::of_walks(sheet);
+        let tracker = facts.accepted().ok().and_then(|s| tuples::build(s, ROOM));
+        let listing = tracker.as_ref().map_or(String::new(), |t| tuples::listing(facts.sheet.as_ref().unwrap(), t));
+        Facts { tracker, listing, ..facts }
     }
 
     pub fn of_file(file: &[u8]) -> Self {

@@ -2,7 +2,7 @@
 
 use super::arguments::Arguments;
 use super::call::Call;
-use super::facts::{Facts, Refusal};
+use super::facts::Refusal;
 use super::lent::Tables;
 use super::numbers::{mask, Numbers};
 use super::scenario::{print, Scenario};
@@ -127,7 +127,7 @@ fn questions<'a>(call: Call, s: &'a Scenario, a: &Arguments, t: &Tables) -> Resu
             return Err(no(16));
         }
     }
-    let facts: &Facts = if call.takes_numbers() { &s.of_numbers } else { &s.of_file };
+    let facts = s.facts(call);
     let sheet = facts.accepted()?;
     let numbers = Numbers::of(sheet);
     done.sheet = Some(sheet);

@@ -1,5 +1,6 @@
 //! A sheet file, a sheet as numbers and a plan file: right, damaged or extreme, with what the questions say of them.
 
+use super::call::Call;
 use super::facts::Facts;
 use super::numbers::Numbers;
 use crate::expected::{self, refusal, ROOM};
@@ -18,9 +19,36 @@ pub struct Scenario {
     pub printed: Result<String, No>,
 }
 
+/// Of which family a sheet is made.
+#[derive(Clone, Copy, PartialEq)]
+pub enum Family {
+    Any,
+    Withdrawn,
+    DeadEnds,
+}
+
+impl Family {
+    fn sheet(self, r: &mut Random, most: usize) -> Sheet {
+        match self {
+            Family::DeadEnds => families::with_dead_ends(r, most),
+            _ => families::sheet(r, most),
+        }
+    }
+
+    fn withdraws(self, r: &mut Random) -> bool {
+        match self {
+            Family::Any => false,
+            Family::Withdrawn => true,
+            Family::DeadEnds => r.chance(15),
+        }
+    }
+}
+
 impl Scenario {
-    pub fn new(r: &mut Random, seed: u64, withdrawn: bool) -> Self {
-        let mut s = if seed % 64 == 0 { limits::many_tuples(r) } else { families::sheet(r, [3, 5, 8, 16][seed as usize % 4]) };
+    pub fn new(r: &mut Random, seed: u64, family: Family) -> Self {
+        let large = seed % 64 == 0 && family != Family::DeadEnds;
+        let mut s = if large { limits::many_tuples(r) } else { family.sheet(r, [3, 5, 8, 16][seed as usize % 4]) };
+        let withdrawn = family.withdraws(r);
         if withdrawn {
             s = families::withdrawn(r, s);
         }
@@ -28,18 +56,42 @@ impl Scenario {
         if withdrawn && r.chance(20) {
             file = families::withdrawal_damaged(r, &file);
         }
-        let of_file = Facts::of_file(&file);
         let mut numbers = Numbers::of(&s);
         if r.chance(40) {
-            let other = families::sheet(r, [3, 5, 8][seed as usize % 3]);
+            let other = family.sheet(r, [3, 5, 8][seed as usize % 3]);
             numbers = Numbers::of(&if r.chance(70) { families::with_letters(&other, s.k) } else { other });
         }
         damage_numbers(r, &mut numbers);
-        let of_numbers = Facts::of_numbers(&numbers);
         let plan = plan_file(r, &s);
-        let input = [&file[..], &plan].concat();
-        let printed = printed(&input, &file, &of_file);
-        Scenario { file, of_file, numbers, of_numbers, plan, input, printed }
+        Scenario::of(file, numbers, plan)
+    }
+
+    pub fn of(file: Vec<u8>, numbers: Numbers, plan: Vec<u8>) -> Self {
+        let (of_file, of_numbers) = (Facts::of_file(&file), Facts::of_numbers(&numbers));
+        Scenario { file, of_file, numbers, of_numbers, plan: Vec::new(), input: Vec::new(), printed: Err((3, 1)) }.with_plan(plan)
+    }
+
+    /// Numbers that no more than question 10 is asked of; file and plan are empty.
+    pub fn of_walks(numbers: Numbers) -> Self {
+        let of_numbers = Facts::of_walks(numbers.sheet());
+        let of_file = Facts::of_file(&[]);
+        Scenario { file: Vec::new(), of_file, numbers, of_numbers, plan: Vec::new(), input: Vec::new(), printed: Err((3, 1)) }
+    }
+
+    /// The same sheet with another plan.
+    pub fn with_plan(self, plan: Vec<u8>) -> Self {
+        let input = [&self.file[..], &plan].concat();
+        let printed = printed(&input, &self.file, &self.of_file);
+        Scenario { plan, input, printed, ..self }
+    }
+
+    /// What is known of the sheet that a call is about.
+    pub fn facts(&self, call: Call) -> &Facts {
+        if call.takes_numbers() {
+            &self.of_numbers
+        } else {
+            &self.of_file
+        }
     }
 }
 

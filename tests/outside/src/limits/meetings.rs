@@ -1,7 +1,8 @@
-//! The longest witness: the bound n(n+1)/2 on a shortest meeting word is reached for every n.
+//! The longest witness: the bound n(n+1)/2 on a shortest meeting word is reached for every n, and with a dead end that walks come together in
+//! much earlier, for as many states as go on.
 
 use crate::bench::Bench;
-use crate::cases::longest_word;
+use crate::cases::{longest_word, with_early_dead_end};
 use crate::sheet::write_sheet;
 use crate::walks;
 
@@ -11,5 +12,12 @@ pub fn run(b: &mut Bench) {
         let file = write_sheet(&s, false);
         b.expect("bound reached", walks::shortest_meeting(&s) == Some(n * (n + 1) / 2), &file);
         b.rewritten("longest word", &file);
+    }
+    for going in 3..=15 {
+        let s = with_early_dead_end(going);
+        let file = write_sheet(&s, false);
+        b.expect("bound reached: dead end", walks::shortest_meeting_anywhere(&s) == Some(going + 1), &file);
+        b.expect("bound reached: dead end", walks::shortest_meeting(&s) == Some(going * (going + 1) / 2), &file);
+        b.rewritten("longest word: dead end", &file);
     }
 }

@@ -12,7 +12,7 @@ const VERDICT: &[u32] = &[2, 3, 4, 5, 6, 7, 8, 9, 10, 11, 12, 13, 14, 15, 16];
 fn sheets() -> Vec<Vec<u8>> {
     let file = String::from_utf8(write_sheet(&sheet_b(), false)).unwrap();
     let with = |old: &str, new: &str| file.replacen(old, new, 1).into_bytes();
-    let meeting = sheet_of(3, 1, &[0, 1], &[], &[(0, 0, 2), (1, 0, 2)]);
+    let meeting = sheet_of(3, 1, &[0, 1], &[], &[(0, 0, 2), (1, 0, 2), (2, 0, 2)]);
     vec![
         vec![b'x'; 24_577],
         with("SHEET", "SHEEP"),
