@@ -14,6 +14,8 @@ use Rattle.letter_search.specs.declared.Found.{Found}
 use Rattle.letter_search.specs.declared.Found.the-variants.{Refused as FindRefused, Letter}
 use Rattle.tracker.specs.declared.Built.{Built}
 use Rattle.tracker.specs.declared.Built.the-variants.{Refused as BuildRefused, Is as BuildIs}
+use Rattle.file_way.specs.declared.Way.{Way}
+use Rattle.file_way.specs.declared.Way.the-variants.{Refused as WayRefused, NoSuchTuple, Letters}
 use Rattle.passes.specs.declared.Answer.{Answer}
 use Rattle.passes.specs.declared.Answer.the-variants.{Yes, No}
 use Rattle.plan_verdict.specs.declared.Outcome.{Outcome}
@@ -43,6 +45,12 @@ foundCells (Letter l) = 1 ∷ l ∷ []
 abbrev pub builtCells : Built → List ℕ
 builtCells (BuildRefused r) = refusalCells r
 builtCells (BuildIs x) = 1 ∷ x .numbers .n ∷ x .numbers .k ∷ x .numbers .initial ∷ x .numbers .recurring ∷ x .tuples ∷ []
+
+-- the way to a tuple: 1 and the word's length, or 2 where there is no such tuple
+abbrev pub wayCells : Way → List ℕ
+wayCells (WayRefused r) = refusalCells r
+wayCells NoSuchTuple = 2 ∷ []
+wayCells (Letters size) = 1 ∷ size ∷ []
 
 -- a judged plan: 1 for yes, 2 for no
 abbrev pub answerCell : Answer → ℕ

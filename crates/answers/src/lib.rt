@@ -1,7 +1,8 @@
 // The answers of the public calls in numbers: each by its cells, in a lent table.
 ghost use mathlib.Core.Path.{_≡_};
 ghost use Rattle.cells.specs.Cells.{into};
-ghost use Rattle.answers.specs.Answer.{checkedCells, readCells, foundCells, builtCells, answerCell, outcomeCells};
+ghost use Rattle.answers.specs.Answer.{checkedCells, readCells, foundCells, builtCells, wayCells, answerCell, outcomeCells};
+use file_way::Way;
 use letter_search::Found;
 use passes::Answer;
 use plan_verdict::Outcome;
@@ -64,6 +65,23 @@ pub fn put_built(r: Built, answer: &mut [usize])
                 a.recurring as usize,
                 x.tuples,
             ];
+            cells::copy_numbers(&cells, answer);
+        }
+    }
+}
+
+// What the question for the way to a tuple answers.
+pub fn put_way(r: Way, answer: &mut [usize])
+    ensures { λ _. ⌜ now (answer .exit) ≡ into (now (answer .entry)) (wayCells r) ⌝ }
+{
+    match r {
+        Way::Refused(x) => cells::put_refused(x, answer),
+        Way::NoSuchTuple => {
+            let cells = [2];
+            cells::copy_numbers(&cells, answer);
+        }
+        Way::Letters(size) => {
+            let cells = [1, size];
             cells::copy_numbers(&cells, answer);
         }
     }

@@ -1,7 +1,8 @@
 // Runs the library on each case: the files 000, 001, .. of data/, up to the first that is not there. Each gets a line: the verdict, the
-// listing's length and sum, and the length and sum of the sheet written out; or refusals in their places.
+// listing's length and sum, the length and sum of the sheet written out, and those of a word to one of the tuples; or refusals in their places.
 ghost use Prim.Native.Nat.{_<_, _≤_};
 ghost use lib.ListN.{length};
+use file_way::Way;
 use gate::Written;
 use libc::STDOUT_FILENO;
 use passes::Verdict;
@@ -37,9 +38,17 @@ fn say_verdict(v: Verdict) {
     say_line(report::verdict_line(passes::is_yes(answer), v.least as usize, v.passes));
 }
 
-// One more byte of a sum that tells a text from its neighbours.
-fn add(sum: usize, b: u8) -> usize {
+// One more byte, or letter, of a sum that tells a text, or a word, from its neighbours.
+fn add(sum: usize, b: u16) -> usize {
     (sum % 65521 * 31 + b as usize) % 65521
+}
+
+// A length and a sum.
+fn say_counted(name: &[u8], n: usize, sum: usize) {
+    say(name);
+    say(b" ");
+    say_column(6, n);
+    say_column(6, sum);
 }
 
 // The length of the first n bytes of a text, and their sum.
@@ -47,18 +56,26 @@ fn say_text(name: &[u8], out: &[u8], n: usize) {
     let mut sum = 0;
     for i in 0..n {
         if i < out.len() {
-            sum = add(sum, out[i]);
+            sum = add(sum, out[i] as u16);
         }
     }
-    say(name);
-    say(b" ");
-    say_column(6, n);
-    say_column(6, sum);
+    say_counted(name, n, sum);
+}
+
+// The same of a word's first n letters.
+fn say_word(letters: &[u16], n: usize) {
+    let mut sum = 0;
+    for i in 0..n {
+        if i < letters.len() {
+            sum = add(sum, letters[i]);
+        }
+    }
+    say_counted(b"WAY ", n, sum);
 }
 
 fn say_listing(sheet: &[u8], room: usize) {
     let mut table = [0u16; 128];
-    let mut tuples = [0u16; 17408];
+    let mut tuples = [0u16; 1024 * tuple_record::RECORD];
     let mut nexts = [0u16; 8192];
     let mut word = [0u16; 136];
     let mut one = [0u16; 137];
@@ -91,9 +108,35 @@ fn say_copy(sheet: &[u8]) {
     }
 }
 
+fn say_way(sheet: &[u8], room: usize, t: usize) {
+    let mut table = [0u16; 128];
+    let mut tuples = [0u16; 1024 * tuple_record::RECORD];
+    let mut nexts = [0u16; 8192];
+    let mut word = [0u16; 136];
+    let mut one = [0u16; 137];
+    let mut other = [0u16; 137];
+    let mut letters = [0u16; 1024];
+    match file_way::way_to(
+        sheet,
+        room,
+        t,
+        &mut table,
+        &mut tuples,
+        &mut nexts,
+        &mut word,
+        &mut one,
+        &mut other,
+        &mut letters,
+    ) {
+        Way::Letters(n) => say_word(&letters, n),
+        Way::NoSuchTuple => say(b"NONE"),
+        Way::Refused(r) => say_line(report::refusal_line(r)),
+    }
+}
+
 fn say_judgement(sheet: &[u8], plan: &[u8], room: usize) {
     let mut table = [0u16; 128];
-    let mut tuples = [0u16; 17408];
+    let mut tuples = [0u16; 1024 * tuple_record::RECORD];
     let mut nexts = [0u16; 8192];
     let mut word = [0u16; 136];
     let mut one = [0u16; 137];
@@ -131,28 +174,30 @@ fn room_of(case: &[u8]) -> usize
         + digit(case[8])
 }
 
-// The three answers on a sheet and a plan, in a room.
-fn say_answers(sheet: &[u8], plan: &[u8], room: usize) {
+// The four answers on a sheet and a plan, in a room, and for a tuple's number.
+fn say_answers(sheet: &[u8], plan: &[u8], room: usize, t: usize) {
     say_judgement(sheet, plan, room);
     say(b" ");
     say_listing(sheet, room);
     say(b" ");
     say_copy(sheet);
+    say(b" ");
+    say_way(sheet, room, t);
     say(b"\n");
 }
 
 // The sheet, and behind its END the plan.
-fn answer_in(input: &[u8], room: usize) {
+fn answer_in(input: &[u8], room: usize, t: usize) {
     let e = sheet_end::sheet_end(input);
-    say_answers(&input[..e], &input[e..], room);
+    say_answers(&input[..e], &input[e..], room, t);
 }
 
-// A case: ROOM and five digits, then sheet and plan.
-fn answer(case: &[u8]) {
+// A case: ROOM and five digits, then sheet and plan. The tuple is one of the first 16, by the case's number.
+fn answer(case: &[u8], number: usize) {
     if case.len() < 10 {
         return;
     }
-    answer_in(&case[10..], room_of(case));
+    answer_in(&case[10..], room_of(case), number % 16);
 }
 
 // One case: the file of that number is read and answered. False where there is no such file.
@@ -171,7 +216,7 @@ fn run(number: usize) -> bool {
     libc::close(fd);
     say(&name);
     say(b" ");
-    answer(&buf[..n]);
+    answer(&buf[..n], number);
     true
 }
 

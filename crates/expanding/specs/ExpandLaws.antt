@@ -1,25 +1,28 @@
 -- The lent tables from step to step. Assumes nothing.
-use Prim.Native.Nat.{ℕ, _+_, _-_, _*_, _/_, _%_, _≤_, _<_}
+use Prim.Native.Nat.{ℕ, _+_, _/_, _%_, _≤_, _<_}
 use mathlib.Core.Path.{_≡_, refl, sym, ap, subst, _∙_}
 use mathlib.Core.List.{List, [], _∷_, _++_}
 use native.Mathlib.Decide.{ℕ-discrete}
 use native.Mathlib.Numerals.{add-one}
 use native.Mathlib.Omega.{arith}
-use lib.ListN.{length, getD, set, replicate, length-set}
-use lib.Seq.{sets, length-sets, getD-set-same, getD-set-other}
+use lib.ListN.{length, getD, set, length-set}
+use lib.Seq.{getD-set-same, getD-set-other}
 use Rattle.lists.specs.AppendLaws.{length-more}
-use Rattle.row_index.specs.Index.{rowAt, Indexed, Added}
+use Rattle.tuple_record.specs.declared.WayBack.{WayBack}
+use Rattle.tuple_record.specs.Record.{recordStart, rowAt, fromIn, letterIn}
+use Rattle.tuple_record.specs.RecordLaws.{record-length, row-kept, from-kept, letter-kept, behind-kept, stored-row, stored-from, stored-letter}
+use Rattle.row_index.specs.Index.{Indexed, Added}
 use Rattle.rows.specs.Rows.{FoundOrAdded}
 use Rattle.automaton.specs.Automaton.{Automaton, Fits}
 use Rattle.tuple.specs.Step.{Tuple, first, next, Formed}
 use Rattle.tuple.specs.Row.{row, tupleOf, Steps}
 use Rattle.tuple.specs.TupleLaws.{next-formed}
-use Rattle.tuple.specs.RowLaws.{formed-length, formed-row, row-injective, formed-steps}
-use Rattle.numbering.specs.Numbering.{tupleAt, entered, rows}
+use Rattle.tuple.specs.RowLaws.{formed-row, row-injective, formed-steps}
+use Rattle.numbering.specs.Numbering.{tupleAt, entered, FoundBy, FirstFound, TupleCells}
 use Rattle.numbering.specs.Explore.{step, found}
-use Rattle.numbering.specs.ExploreLaws.{Listed, Agree, step-skips, step-keeps, step-finds, agree-more, last-is, enters-alike}
+use Rattle.numbering.specs.ExploreLaws.{Listed, Agree, step-skips, step-keeps, step-finds, step-is-finding, explored, agree-more, last-is, enters-alike, way-alike}
 use Rattle.numbering.specs.NumberingLaws.{found-reachable}
-use Rattle.expanding.specs.RowsLaws.{Whole, row-is, row-written, reachable-formed, reachable-whole}
+use Rattle.expanding.specs.FormedLaws.{reachable-formed}
 use Rattle.expanding.specs.TablesLaws.{room-alike}
 use Rattle.expanding.specs.Expand.{NextsBefore, Filled, Taken, Goes}
 
@@ -28,9 +31,6 @@ use Rattle.expanding.specs.Expand.{NextsBefore, Filled, Taken, Goes}
 module _ (A : Automaton) (fits : Fits A) where
   found-formed : (c i : ℕ) → i < length (found A c) → Formed A (tupleAt A (found A c) i)
   found-formed c i h = reachable-formed fits (tupleAt A (found A c) i) (found-reachable A c i h)
-
-  found-whole : (c : ℕ) → Whole (found A c)
-  found-whole c = reachable-whole fits (found A c) (found-reachable A c)
 
 -- ONE STEP
 
@@ -41,7 +41,7 @@ module _ {A : Automaton} {room c m : ℕ} {tuples nexts head link : List ℕ} (f
   row-of : (t : ℕ) → t < m → rowAt tuples t ≡ row (tupleAt A ts t)
   row-of t h =
       let e = f .count in
-      ap (λ (l : List ℕ). rowAt l t) (f .tuples-are) ∙ row-is ts (first A) (replicate (length tuples - 17 * m) 0) t (found-whole A (f .fits) c) (omega arith)
+      f .tuples-are .row t (omega arith)
 
   -- what the step asks of a row
   pub fill-steps : Taken A c m → Steps A (c % 8) (rowAt tuples (c / 8))
@@ -68,9 +68,6 @@ module _ {A : Automaton} {room c m : ℕ} {tuples nexts head link : List ℕ} (f
 
   entered-formed : Taken A c m → Formed A (entered A ts c)
   entered-formed s = next-formed (f .fits) (c % 8) (s .letter) (tupleAt A ts (c / 8))
-
-  entered-cells : Taken A c m → length (row (entered A ts c)) ≡ 17
-  entered-cells s = formed-length (f .fits) (entered-formed s)
 
   found-suc : found A (c + 1) ≡ step A c ts
   unfolding found
@@ -169,20 +166,48 @@ module _ {A : Automaton} {room c m : ℕ} {tuples nexts head link : List ℕ} (f
         let p = f .count in
         nexts-more s us (agree-more A ts (entered A ts c)) (omega (arith, us-length)) m (omega (arith, us-length)) last-enters
 
-    module _ (h : m < room) (tuples' head' link' : List ℕ) (a : Added tuples tuples' m (row (entered A ts c)) head' link') where
-      same-length : length tuples' ≡ length tuples
-      same-length = ap length (a .is) ∙ length-sets tuples (17 * m) (row (entered A ts c))
+    -- its way back is the step
+    way-new : FirstFound A us m (c / 8) (c % 8)
+    way-new =
+        let p = f .count in
+        let h = s .from in
+        let x = explored A c in
+        record {
+          first = λ e. let z = x .some in absurd (omega arith);
+          found = λ k. (c, subst (λ (i : ℕ). FoundBy A us i c) (sym p) (step-is-finding A c ts x (omega arith) (s .letter) (not-listed s none)), refl, refl);
+        }
 
-      tuples-new : tuples' ≡ rows us ++ replicate (length tuples' - 17 * (m + 1)) 0
+    module _ (h : m < room) (tuples' head' link' : List ℕ) (way : WayBack) (from : way .from ≡ c / 8) (letter : way .letter ≡ c % 8)
+        (a : Added tuples tuples' m (row (entered A ts c)) way head' link') where
+      same-length : length tuples' ≡ length tuples
+      same-length = record-length (a .is)
+
+      row-new : (t : ℕ) → t < m + 1 → Dec (t ≡ m) → rowAt tuples' t ≡ row (tupleAt A us t)
+      row-new t k (yes e) =
+          let p = f .count in
+          ap (rowAt tuples') e ∙ stored-row (a .is) ∙ ap row (sym (last-is A ts (entered A ts c)) ∙ ap (tupleAt A us) (sym (e ∙ p)))
+      row-new t k (no e) =
+          let p = f .count in
+          row-kept (a .is) t (omega arith) ∙ row-of t (omega arith) ∙ ap row (agree-more A ts (entered A ts c) t (omega arith))
+
+      ways-new : (t : ℕ) → t < m + 1 → Dec (t ≡ m) → FirstFound A us t (fromIn tuples' t) (letterIn tuples' t)
+      ways-new t k (yes e) =
+          rw (e, stored-from (a .is), stored-letter (a .is), from, letter) way-new
+      ways-new t k (no e) =
+          let p = f .count in
+          rw (from-kept (a .is) t (omega arith), letter-kept (a .is) t (omega arith))
+          (way-alike A (length ts) ts us (agree-more A ts (entered A ts c)) (omega arith) (f .tuples-are .way t (omega arith)))
+
+      tuples-new : TupleCells A us tuples'
       tuples-new =
-          let n = length tuples - 17 * m in
-          let e : 17 * m ≡ 17 * length ts = omega (arith, f .count) in
-          let p : length tuples' - 17 * (m + 1) ≡ n - 17 = omega (arith, same-length) in
-          let q = f .room-fits .tuples in
-          a .is ∙ ap (λ (l : List ℕ). sets l (17 * m) (row (entered A ts c))) (f .tuples-are)
-          ∙ ap (λ (i : ℕ). sets (rows ts ++ replicate n 0) i (row (entered A ts c))) e
-          ∙ row-written ts (entered A ts c) n (found-whole A (f .fits) c) (entered-cells s) (omega arith)
-          ∙ ap (λ (i : ℕ). rows us ++ replicate i 0) (sym p)
+          let p = f .count in
+          record {
+            row = λ t k. row-new t (omega (arith, us-length)) (ℕ-discrete t m);
+            way = λ t k. ways-new t (omega (arith, us-length)) (ℕ-discrete t m);
+            zero = λ i k.
+                (let e : recordStart (m + 1) ≤ i = omega (arith, us-length) in
+                behind-kept (a .is) i e ∙ f .tuples-are .zero i (omega arith));
+          }
 
       -- and it is added
       filled-new : Filled A room (c + 1) (m + 1) tuples' (set nexts c m) head' link'
@@ -217,14 +242,16 @@ goes-skip f h =
     let p = f .room-is in
     record { fitting = λ l. filled-skip f (λ g. omega arith); over = λ l. absurd (omega arith) }
 
--- w is the row that the step gives, and t its number; the tables are behind it as find_or_add leaves them
-pub record Looked (A : Automaton) (room c m : ℕ) (tuples nexts head link w tuples' head' link' : List ℕ) (t : ℕ) : Type 0 where
+-- w is the row that the step gives, way the step itself, and t the row's number; the tables are behind it as find_or_add leaves them
+pub record Looked (A : Automaton) (room c m : ℕ) (tuples nexts head link w : List ℕ) (way : WayBack) (tuples' head' link' : List ℕ) (t : ℕ) : Type 0 where
   pub filled : Filled A room c m tuples nexts head link
   pub taken : Taken A c m
   pub gives : w ≡ row (next A (c % 8) (tupleOf (rowAt tuples (c / 8))))
-  pub placed : FoundOrAdded tuples tuples' m room w head' link' t
+  pub from : way .from ≡ c / 8
+  pub letter : way .letter ≡ c % 8
+  pub placed : FoundOrAdded tuples tuples' m room w way head' link' t
 
-module _ {A : Automaton} {room c m t : ℕ} {tuples nexts head link w tuples' head' link' : List ℕ} (g : Looked A room c m tuples nexts head link w tuples' head' link' t) where
+module _ {A : Automaton} {room c m t : ℕ} {tuples nexts head link w tuples' head' link' : List ℕ} {way : WayBack} (g : Looked A room c m tuples nexts head link w way tuples' head' link' t) where
   is : w ≡ row (entered A (found A c) c)
   is = g .gives ∙ fill-enters (g .filled) (g .taken)
 
@@ -244,9 +271,9 @@ module _ {A : Automaton} {room c m t : ℕ} {tuples nexts head link w tuples' he
   goes-new h k =
       let p = g .placed .found .most in
       let e : t ≡ m = omega arith in
-      let a = subst (λ (x : List ℕ). Added tuples tuples' m x head' link') is (g .placed .added h (omega arith)) in
+      let a = subst (λ (x : List ℕ). Added tuples tuples' m x way head' link') is (g .placed .added h (omega arith)) in
       record {
-        fitting = λ l. rw e (filled-new (g .filled) (g .taken) (none h) (omega arith) tuples' head' link' a);
+        fitting = λ l. rw e (filled-new (g .filled) (g .taken) (none h) (omega arith) tuples' head' link' way (g .from) (g .letter) a);
         over = λ l. absurd (omega arith);
       }
 

@@ -1,5 +1,5 @@
 pub mod Tables
 pub mod Expand
 pub mod TablesLaws
-pub mod RowsLaws
+pub mod FormedLaws
 pub mod ExpandLaws

@@ -1,8 +1,9 @@
 // One step of a tracker: step c is from tuple c / 8 on letter c % 8.
 use automaton::Numbers;
+use tuple_record::WayBack;
 ghost use mathlib.Core.Path.{_≡_};
 ghost use Prim.Native.Nat.{_<_, _+_, _/_, _%_};
-ghost use Rattle.row_index.specs.Index.{rowAt};
+ghost use Rattle.tuple_record.specs.Record.{rowAt};
 ghost use Rattle.automaton.specs.Automaton.{automaton};
 ghost use Rattle.tuple.specs.Step.{next};
 ghost use Rattle.tuple.specs.Row.{row, tupleOf, Steps};
@@ -13,11 +14,11 @@ fn enter(a: Numbers, table: &[u16], tuples: &[u16], c: usize, w: &mut [u16])
     requires { ⌜ Steps (automaton a (now table)) (c % 8) (rowAt (now tuples) (c / 8)) × Entering c (now tuples) (now w) ⌝ }
     ensures { λ _. ⌜ now (w .exit) ≡ row (next (automaton a (now (table .entry))) (c % 8) (tupleOf (rowAt (now (tuples .entry)) (c / 8)))) ⌝ }
 {
-    rows::load(tuples, c / 8, w);
+    tuple_record::load(tuples, c / 8, w);
     tuple::step(a, table, c % 8, w);
 }
 
-// Step c: the number of the tuple that it enters is noted, and the tuple added where it is new and there is room.
+// Step c: the number of the tuple that it enters is noted, and the tuple added, with the step as its way back, where it is new and there is room.
 pub fn expand(
     a: Numbers,
     table: &[u16],
@@ -35,9 +36,13 @@ pub fn expand(
     if a.k <= c % 8 {
         return m;
     }
-    let mut w = [0u16; row_index::CELLS];
+    let mut w = [0u16; tuple_record::ROW];
     enter(a, table, tuples, c, &mut w);
-    let t = rows::find_or_add(tuples, m, room, &w, head, link);
+    let way = WayBack {
+        from: (c / 8) as u16,
+        letter: (c % 8) as u16,
+    };
+    let t = rows::find_or_add(tuples, m, room, &w, way, head, link);
     if room <= t {
         return m + 1;
     }

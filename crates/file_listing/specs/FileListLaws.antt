@@ -59,6 +59,6 @@ module _ {s : List ℕ} {room : ℕ} {before built : BuildTables} where
     file-finished {successors} {tracker} {old} {new} {l} {r} kept finished (same, sets) =
         let (put, left) = subst (Finishes (listingOf x (built .tracker)) (built .tracker) tracker old new) (sym same) finished in
         let (lent, (σ, y, are, i, fitted), witness) = file-built builds in
-        let zero = fitted-cleared (numbers σ) (sheet-fits s σ (y .file)) room (x .tuples) (before .tracker) (built .tracker) fitted (lent .tracker) in
+        let zero = fitted-cleared (numbers σ) (sheet-fits s σ (y .file)) room (x .tuples) (before .tracker) (built .tracker) fitted in
         let empty = subst (λ (n : ℕ). Left (replicate n 0) (built .successors) successors r) kept sets in
         Lists.asked built x builds put (left-file before built successors tracker r witness zero empty left)

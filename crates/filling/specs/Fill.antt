@@ -4,6 +4,8 @@ use mathlib.Core.Path.{_≡_}
 use mathlib.Core.List.{List}
 use lib.ListN.{set, replicate}
 use Rattle.gate.specs.Gate.{cleared}
+use Rattle.tuple_record.specs.declared.WayBack.{WayBack}
+use Rattle.tuple_record.specs.Record.{setCells, rowCells}
 use Rattle.automaton.specs.Automaton.{Automaton, Fits}
 use Rattle.colour.specs.Colour.{neutral}
 use Rattle.numbering.specs.Numbering.{MoreThan}
@@ -12,7 +14,11 @@ use Rattle.filling.specs.TrackerTables.{Fitted}
 
 -- the cells of the first tuple's row: "the initial states, then empty sets, colour 2n+1"
 unfoldable pub firstCells : ℕ → ℕ → List ℕ
-firstCells n initial = set (set (replicate 17 0) 0 initial) 16 (neutral n)
+firstCells n initial = set (set (replicate rowCells 0) 0 initial) setCells (neutral n)
+
+-- and its way back: "its own number and 0 for the first"
+abbrev pub firstWay : WayBack
+firstWay = record { from = 0; letter = 0 }
 
 -- the index before there is a row
 pub record NoRows (head link : List ℕ) : Type 0 where

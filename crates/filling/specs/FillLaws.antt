@@ -1,13 +1,14 @@
 -- The lent tables before the first step and behind the last. Assumes nothing.
-use Prim.Native.Nat.{ℕ, _+_, _-_, _*_, _≤_, _<_}
+use Prim.Native.Nat.{ℕ, _+_, _*_, _≤_, _<_}
 use mathlib.Core.Path.{_≡_, refl, sym, ap, subst, _∙_}
-use mathlib.Core.List.{List, [], _∷_, _++_}
+use mathlib.Core.List.{List, [], _∷_}
 use native.Mathlib.Decide.{ℕ-discrete}
 use native.Mathlib.Omega.{arith}
 use borrow.Author.Tests.{eq-eqb, ne-eqb}
-use lib.ListN.{length, set, replicate, length-replicate}
-use lib.Seq.{length-sets}
+use lib.ListN.{length, set, replicate}
 use Rattle.gate.specs.GateLaws.{zeros, length-cleared}
+use Rattle.tuple_record.specs.Record.{setCells, rowCells, fromIn, letterIn}
+use Rattle.tuple_record.specs.RecordLaws.{record-length, behind-kept, stored-row, stored-from, stored-letter}
 use Rattle.row_index.specs.Index.{Added}
 use Rattle.automaton.specs.Automaton.{Automaton, Fits}
 use Rattle.gate.specs.Gate.{cleared}
@@ -15,25 +16,22 @@ use Rattle.colour.specs.Colour.{neutral}
 use Rattle.sets.specs.Sets.{isEmpty}
 use Rattle.tuple.specs.Step.{Tuple, unlessEmpty, closed, first}
 use Rattle.tuple.specs.Row.{row}
-use Rattle.tuple.specs.TupleLaws.{first-formed}
-use Rattle.tuple.specs.RowLaws.{formed-length}
-use Rattle.numbering.specs.Numbering.{rows}
+use Rattle.numbering.specs.Numbering.{TupleCells}
 use Rattle.numbering.specs.Explore.{found}
 use Rattle.numbering.specs.NumberingLaws.{found-all, found-more}
 use Rattle.expanding.specs.Tables.{TrackerTables, trackerTables, EnoughForTracker}
-use Rattle.expanding.specs.RowsLaws.{row-written}
 use Rattle.expanding.specs.TablesLaws.{room-alike}
 use Rattle.expanding.specs.Expand.{Filled}
 use Rattle.filling.specs.TrackerTables.{clearedTracker, Fitted}
-use Rattle.filling.specs.Fill.{firstCells, Filling, Fills}
+use Rattle.filling.specs.Fill.{firstCells, firstWay, Filling, Fills}
 
 -- BEFORE THE FIRST STEP
 
-first-row : (n x : ℕ) → set (set (replicate 17 0) 0 x) 16 (2 * n + 1) ≡ row (record { sets = closed (x ∷ []); colour = neutral n })
+first-row : (n x : ℕ) → set (set (replicate rowCells 0) 0 x) setCells (2 * n + 1) ≡ row (record { sets = closed (x ∷ []); colour = neutral n })
 unfolding row closed unlessEmpty
 first-row n x = by (ℕ-discrete x 0)
   where
-    by : Dec (x ≡ 0) → set (set (replicate 17 0) 0 x) 16 (2 * n + 1) ≡ row (record { sets = unlessEmpty (isEmpty x) x []; colour = neutral n })
+    by : Dec (x ≡ 0) → set (set (replicate rowCells 0) 0 x) setCells (2 * n + 1) ≡ row (record { sets = unlessEmpty (isEmpty x) x []; colour = neutral n })
     by (yes e) = rw (eq-eqb x 0 e, e)
     by (no e) = rw (ne-eqb x 0 e)
 
@@ -42,17 +40,21 @@ unfolding first firstCells
 first-cells A = first-row (A .n) (A .initial)
 
 module _ (A : Automaton) (fits : Fits A) (room : ℕ) (v : TrackerTables) (r : EnoughForTracker room v) (tuples' head' link' : List ℕ)
-    (a : Added (cleared (v .tuples)) tuples' 0 (row (first A)) head' link') where
+    (a : Added (cleared (v .tuples)) tuples' 0 (row (first A)) firstWay head' link') where
   first-length : length tuples' ≡ length (v .tuples)
-  first-length = ap length (a .is) ∙ length-sets (cleared (v .tuples)) 0 (row (first A)) ∙ length-replicate {A = ℕ} (length (v .tuples)) 0
+  first-length = record-length (a .is) ∙ length-cleared (v .tuples)
 
-  first-tuples : tuples' ≡ rows (first A ∷ []) ++ replicate (length tuples' - 17) 0
-  unfolding rows
-  first-tuples =
-      let p = r .tuples in
-      let q = r .some in
-      a .is ∙ row-written [] (first A) (length (v .tuples)) tt (formed-length fits (first-formed fits)) (omega arith)
-      ∙ ap (λ (i : ℕ). rows (first A ∷ []) ++ replicate (i - 17) 0) (sym first-length)
+  first-tuples : TupleCells A (first A ∷ []) tuples'
+  first-tuples = record {
+    row = λ t h. let e : t ≡ 0 = omega arith in rw e (stored-row (a .is));
+    way = λ t h.
+        (let e : t ≡ 0 = omega arith in
+        record {
+          first = λ z. (ap (fromIn tuples') e ∙ stored-from (a .is), ap (letterIn tuples') e ∙ stored-letter (a .is));
+          found = λ k. absurd (omega arith);
+        });
+    zero = λ i h. behind-kept (a .is) i h ∙ zeros (length (v .tuples)) i;
+  }
 
   filled-first : Filled A room 0 1 tuples' (cleared (v .nexts)) head' link'
   unfolding found
@@ -72,12 +74,12 @@ module _ (A : Automaton) (fits : Fits A) (room : ℕ) (v : TrackerTables) (r : E
 
 -- the first tuple in cleared tables
 pub filled-begins : {A : Automaton} {room : ℕ} {v : TrackerTables} → Filling A room v → {tuples' head' link' : List ℕ}
-    → Added (v .tuples) tuples' 0 (firstCells (A .n) (A .initial)) head' link' → Filled A room 0 1 tuples' (v .nexts) head' link'
+    → Added (v .tuples) tuples' 0 (firstCells (A .n) (A .initial)) firstWay head' link' → Filled A room 0 1 tuples' (v .nexts) head' link'
 filled-begins {A} {room} {v} g {tuples'} {head'} {link'} a =
     rw (g .nexts)
     (filled-first A (g .fits) room v (g .room-fits) tuples' head' link'
-    (subst (λ (l : List ℕ). Added (cleared (v .tuples)) tuples' 0 l head' link') (first-cells A)
-    (subst (λ (l : List ℕ). Added l tuples' 0 (firstCells (A .n) (A .initial)) head' link') (g .tuples) a)))
+    (subst (λ (l : List ℕ). Added (cleared (v .tuples)) tuples' 0 l firstWay head' link') (first-cells A)
+    (subst (λ (l : List ℕ). Added l tuples' 0 (firstCells (A .n) (A .initial)) firstWay head' link') (g .tuples) a)))
 
 -- BEHIND THE LAST STEP
 
@@ -90,19 +92,19 @@ module _ {A : Automaton} {room c m : ℕ} {tuples nexts head link : List ℕ} (f
   filled-all v l g h =
       let p = f .count in
       let k = f .fits .range .3 in
-      let e : length tuples - 17 * m ≡ length (v .tuples) - 17 * length ts = omega arith in
       record {
         list = ts;
         count-is = p;
         room-is = f .room-is;
         holds = record {
           numbering = found-all A c k (omega arith);
-          tuples = f .tuples-are ∙ ap (λ (i : ℕ). rows ts ++ replicate i 0) e;
+          tuples = f .tuples-are;
           nexts = record {
             next = λ d j q. f .nexts-are .next d (omega arith) j q;
             zero = λ d z. f .nexts-are .zero d (λ i j q. z j q);
           };
-          same = sym g;
+          same-tuples = sym l;
+          same-nexts = sym g;
         };
       }
 
@@ -137,8 +139,9 @@ cleared-fitted A room v w m f =
       room-is = f .room-is;
       holds = record {
         numbering = h .numbering;
-        tuples = h .tuples ∙ ap (λ (n : ℕ). rows (f .list) ++ replicate (n - 17 * length (f .list)) 0) (length-cleared (v .tuples));
+        tuples = h .tuples;
         nexts = h .nexts;
-        same = h .same ∙ length-cleared (v .nexts);
+        same-tuples = h .same-tuples ∙ length-cleared (v .tuples);
+        same-nexts = h .same-nexts ∙ length-cleared (v .nexts);
       };
     }

@@ -1,25 +1,23 @@
--- The tables of a tracker that is built: the sets and the colour of each tuple, zero behind the last, next numbers below the count, and the
--- lengths. Assumes nothing.
-use Prim.Native.Nat.{ℕ, _+_, _-_, _*_, _/_, _%_, _≤_, _<_}
+-- The tables of a tracker that is built: the sets, the colour and the way back of each tuple, zero behind the last, next numbers below the count, and
+-- the lengths. Assumes nothing.
+use Prim.Native.Nat.{ℕ, _+_, _/_, _%_, _≤_, _<_}
 use mathlib.Core.Path.{_≡_, sym, ap, _∙_}
-use mathlib.Core.List.{List, _++_}
+use mathlib.Core.List.{List}
 use native.Mathlib.Decide.{decLt}
 use native.Mathlib.Omega.{arith}
-use lib.ListN.{length, getD, replicate, length-append, length-replicate}
-use lib.Seq.{getD-append-add}
-use Rattle.row_index.specs.Index.{rowAt}
+use lib.ListN.{length, getD}
+use Rattle.tuple_record.specs.Record.{setCells, rowCells, recordStart, setIn, colourIn, fromIn, letterIn}
 use Rattle.lists.specs.CellsLaws.{part-at}
 use Rattle.automaton.specs.Automaton.{Automaton, Fits}
-use Rattle.tuple.specs.Step.{Tuple, setAt, first, Formed}
+use Rattle.tuple.specs.Step.{Tuple, setAt, Formed}
 use Rattle.tuple.specs.Row.{row}
 use Rattle.tuple.specs.RowLaws.{row-set, row-colour}
-use Rattle.numbering.specs.Numbering.{Reachable, tupleAt, rows}
+use Rattle.numbering.specs.Numbering.{Reachable, tupleAt, FirstFound}
 use Rattle.numbering.specs.NumberingLaws.{numbering-reachable}
 use Rattle.filling.specs.TrackerTables.{clearedTracker, Fitted}
-use Rattle.gate.specs.GateLaws.{zeros}
 use Rattle.expanding.specs.Tables.{TrackerTables, EnoughForTracker}
 use Rattle.expanding.specs.TablesLaws.{room-alike}
-use Rattle.expanding.specs.RowsLaws.{Whole, rows-length, row-is, reachable-formed, reachable-whole}
+use Rattle.expanding.specs.FormedLaws.{reachable-formed}
 use Rattle.filling.specs.TrackerTablesLaws.{room-less, cleared-alike}
 
 module _ (A : Automaton) (fits : Fits A) (room m : ℕ) (v w : TrackerTables) (f : Fitted A room v w m) where
@@ -33,36 +31,25 @@ module _ (A : Automaton) (fits : Fits A) (room m : ℕ) (v w : TrackerTables) (f
   pub fitted-formed : (t : ℕ) → t < m → Formed A (tuple t)
   fitted-formed t h = let e = f .count-is in reachable-formed fits (tuple t) (reachable t (omega arith))
 
-  fitted-whole : Whole (f .list)
-  fitted-whole = reachable-whole fits (f .list) reachable
-
-  fitted-cell : (t j : ℕ) → t < m → j < 17 → getD (w .tuples) (17 * t + j) 0 ≡ getD (row (tuple t)) j 0
+  fitted-cell : (t j : ℕ) → t < m → j < rowCells → getD (w .tuples) (recordStart t + j) 0 ≡ getD (row (tuple t)) j 0
   fitted-cell t j h k =
       let e = f .count-is in
-      sym (part-at (w .tuples) (17 * t) 17 j k)
-      ∙ ap (λ (l : List ℕ). getD l j 0)
-      (ap (λ (l : List ℕ). rowAt l t) (f .holds .tuples) ∙ row-is (f .list) (first A) (replicate (length (v .tuples) - 17 * length (f .list)) 0) t fitted-whole (omega arith))
+      sym (part-at (w .tuples) (recordStart t) rowCells j k) ∙ ap (λ (l : List ℕ). getD l j 0) (f .holds .tuples .row t (omega arith))
 
-  few : (t : ℕ) → t < m → length (tuple t .sets) ≤ 16
+  few : (t : ℕ) → t < m → length (tuple t .sets) ≤ setCells
   few t h = let a = fitted-formed t h .few in let b = fits .range .1 in omega arith
 
-  pub fitted-set : (t i : ℕ) → t < m → i < 16 → getD (w .tuples) (17 * t + i) 0 ≡ setAt (tuple t .sets) i
+  pub fitted-set : (t i : ℕ) → t < m → i < setCells → setIn (w .tuples) t i ≡ setAt (tuple t .sets) i
   fitted-set t i h k = fitted-cell t i h (omega arith) ∙ row-set (tuple t) (few t h) i k
 
-  pub fitted-colour : (t : ℕ) → t < m → getD (w .tuples) (17 * t + 16) 0 ≡ tuple t .colour
-  fitted-colour t h = fitted-cell t 16 h (omega arith) ∙ row-colour (tuple t) (few t h)
+  pub fitted-colour : (t : ℕ) → t < m → colourIn (w .tuples) t ≡ tuple t .colour
+  fitted-colour t h = fitted-cell t setCells h (omega arith) ∙ row-colour (tuple t) (few t h)
 
-  fitted-rows : length (rows (f .list)) ≡ 17 * m
-  fitted-rows = let e = f .count-is in omega (arith, rows-length (f .list) fitted-whole)
+  pub fitted-way : (t : ℕ) → t < m → FirstFound A (f .list) t (fromIn (w .tuples) t) (letterIn (w .tuples) t)
+  fitted-way t h = let e = f .count-is in f .holds .tuples .way t (omega arith)
 
-  pub fitted-behind : (i : ℕ) → 17 * m ≤ i → getD (w .tuples) i 0 ≡ 0
-  fitted-behind i h =
-      let n = length (v .tuples) - 17 * length (f .list) in
-      let j : i ≡ length (rows (f .list)) + (i - 17 * m) = omega (arith, fitted-rows) in
-      ap (λ (l : List ℕ). getD l i 0) (f .holds .tuples)
-      ∙ ap (λ (i : ℕ). getD (rows (f .list) ++ replicate n 0) i 0) j
-      ∙ getD-append-add (rows (f .list)) (replicate n 0) (i - 17 * m) 0
-      ∙ zeros n (i - 17 * m)
+  pub fitted-behind : (i : ℕ) → recordStart m ≤ i → getD (w .tuples) i 0 ≡ 0
+  fitted-behind i h = let e = f .count-is in f .holds .tuples .zero i (omega arith)
 
   -- every next number is that of a tuple counted
   pub fitted-next : (c : ℕ) → getD (w .nexts) c 0 < m
@@ -77,21 +64,12 @@ module _ (A : Automaton) (fits : Fits A) (room m : ℕ) (v w : TrackerTables) (f
         | no x ↦ let z = f .holds .nexts .zero c (λ a b. x a) in omega arith
       ]
 
-  -- the tables are as long as they were
-  fitted-length : EnoughForTracker room v → length (w .tuples) ≡ length (v .tuples)
-  fitted-length r =
-      let n = length (v .tuples) - 17 * length (f .list) in
-      let a = f .count-is in
-      let b = f .room-is in
-      let c = r .tuples in
-      ap length (f .holds .tuples) ∙ length-append (rows (f .list)) (replicate n 0) ∙ omega (arith, fitted-rows, length-replicate {A = ℕ} n 0)
-
-  -- so they are long enough for the tuples that there are
+  -- the tables are as long as they were, so they are long enough for the tuples that there are
   pub fitted-room : EnoughForTracker room v → EnoughForTracker m w
   fitted-room r =
       let c = f .count-is in
       let some = f .holds .numbering .some in
-      room-alike (fitted-length r) (f .holds .same) (room-less (omega arith) (f .room-is) r)
+      room-alike (f .holds .same-tuples) (f .holds .same-nexts) (room-less (omega arith) (f .room-is) r)
 
-  pub fitted-cleared : EnoughForTracker room v → clearedTracker w ≡ clearedTracker v
-  fitted-cleared r = cleared-alike w v (fitted-length r) (f .holds .same)
+  pub fitted-cleared : clearedTracker w ≡ clearedTracker v
+  fitted-cleared = cleared-alike w v (f .holds .same-tuples) (f .holds .same-nexts)

@@ -3,3 +3,4 @@ pub mod TrackerTablesLaws
 pub mod Fill
 pub mod FillLaws
 pub mod FittedLaws
+pub mod FixedLaws

@@ -1,23 +1,26 @@
 // The tables of a tracker, filled step by step, and cleared.
 use automaton::Numbers;
+use tuple_record::WayBack;
 ghost use mathlib.Core.Path.{_≡_};
 ghost use Prim.Native.Nat.{_≤_};
 ghost use lib.ListN.{length};
+ghost use Rattle.tuple_record.specs.Record.{recordCells};
 ghost use Rattle.row_index.specs.Index.{Added};
 ghost use Rattle.automaton.specs.Automaton.{automaton};
 ghost use Rattle.filling.specs.TrackerTables.{trackerTables, clearedTracker};
-ghost use Rattle.filling.specs.Fill.{firstCells, NoRows, Filling, Fills};
+ghost use Rattle.filling.specs.Fill.{firstCells, firstWay, NoRows, Filling, Fills};
 
-// The first tuple becomes row 0.
+// The first tuple becomes tuple 0: its way back is its own number, and 0.
 fn begin(a: Numbers, tuples: &mut [u16], head: &mut [u16], link: &mut [u16])
-    requires { ⌜ (a .n ≤ 16) × (17 ≤ length (now tuples)) × NoRows (now head) (now link) ⌝ }
-    ensures { λ _. ⌜ Added (now (tuples .entry)) (now (tuples .exit)) 0 (firstCells (a .n) (a .initial)) (now (head .exit)) (now (link .exit)) ⌝ }
+    requires { ⌜ (a .n ≤ 16) × (recordCells ≤ length (now tuples)) × NoRows (now head) (now link) ⌝ }
+    ensures { λ _. ⌜ Added (now (tuples .entry)) (now (tuples .exit)) 0 (firstCells (a .n) (a .initial)) firstWay (now (head .exit)) (now (link .exit)) ⌝ }
 {
-    let mut w = [0u16; row_index::CELLS];
+    let mut w = [0u16; tuple_record::ROW];
     w[0] = a.initial;
     let neutral = colour::Colour::neutral(a.n);
-    w[16] = neutral.0;
-    rows::find_or_add(tuples, 0, 1, &w, head, link);
+    w[tuple_record::COLOUR] = neutral.0;
+    let way = WayBack { from: 0, letter: 0 };
+    rows::find_or_add(tuples, 0, 1, &w, way, head, link);
 }
 
 // All steps from the first tuple on, in cleared tables: the count of tuples, or a number above the room where they are too many.

@@ -22,7 +22,7 @@ fn sizes_fit(sheet: &[u8], plan: &[u8]) -> bool
 }
 
 // The verdict on a plan file, from a sheet file: all questions in their order, then the passes of the cycle on the sheet's tracker.
-// Lent are 128 successor sets, for the room R 17 * R tuple numbers and 8 * R next numbers, and a witness of 136 letters and two walks of 137 states.
+// Lent are, for the room, what building is lent: successor sets, tuple numbers, next numbers, and a witness.
 pub fn verdict(
     sheet: &[u8],
     plan: &[u8],

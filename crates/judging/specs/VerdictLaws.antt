@@ -95,7 +95,7 @@ module _ {s p : List ℕ} {room : ℕ} {before after : BuildTables} (lent : Enou
     plan-refused {r = r} same (number, line, faulty, is) e zero =
         Judgement.refused lent r (Refusing.by-plan sizes σ (accepted .0) (after .tracker) (y .tuples) (accepted .2) number line faulty is witness) refl
         (e ∙ same-cleared (before .successors) (after .successors) same)
-        (zero ∙ fitted-cleared (numbers σ) fits room (y .tuples) (before .tracker) (after .tracker) (accepted .2) (lent .tracker))
+        (zero ∙ fitted-cleared (numbers σ) fits room (y .tuples) (before .tracker) (after .tracker) (accepted .2))
 
     -- the answer
     plan-judged : {z : Verdict} → PlanJudged σ p (after .tracker .tuples) (after .tracker .nexts) (y .tuples) (Judged z) → Judgement s p room before after (Judged z)

@@ -77,4 +77,4 @@ module _ {A : Automaton} {room : ℕ} {before built : BuildNumbersTables} where
       numbers-finished {tracker} l (put, left) =
           let (lent, fits, (are, fitted), witness) = numbers-built (answered-numbers told) in
           ListsNumbers.asked built x (answered-numbers told) put
-          (left-numbers before built tracker l witness (fitted-cleared A fits room (x .tuples) (before .tracker) (built .tracker) fitted (lent .tracker)) left)
+          (left-numbers before built tracker l witness (fitted-cleared A fits room (x .tuples) (before .tracker) (built .tracker) fitted) left)

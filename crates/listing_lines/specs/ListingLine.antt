@@ -3,6 +3,7 @@ use Prim.Native.Nat.{ℕ, _+_, _*_}
 use mathlib.Core.List.{List, [], _∷_, _++_}
 use lib.ListN.{getD}
 use Rattle.text.specs.Bytes.{lf}
+use Rattle.tuple_record.specs.Record.{setIn, colourIn}
 use Rattle.columns.specs.Column.{column}
 use Rattle.text.specs.Pieces.{pieces}
 
@@ -18,6 +19,6 @@ trackLine n k count = (84 ∷ 82 ∷ 65 ∷ 67 ∷ 75 ∷ []) ++ (column 3 n ++ 
 unfoldable pub tupleLine : ℕ → ℕ → List ℕ → List ℕ → ℕ → List ℕ
 tupleLine n k tuples nexts t =
     81 ∷ (column 5 t
-    ++ (column 3 (getD tuples (17 * t + 16) 0)
-    ++ (columns 6 (λ i. getD tuples (17 * t + i) 0) n
+    ++ (column 3 (colourIn tuples t)
+    ++ (columns 6 (setIn tuples t) n
     ++ (columns 5 (λ l. getD nexts (8 * t + l) 0) k ++ (lf ∷ [])))))

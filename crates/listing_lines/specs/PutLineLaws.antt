@@ -3,9 +3,10 @@ use Prim.Native.Nat.{ℕ, _+_, _*_}
 use mathlib.Core.Path.{_≡_, refl, _∙_}
 use mathlib.Core.List.{List, [], _∷_, _++_}
 use native.Mathlib.Omega.{arith}
-use lib.ListN.{length, getD, length-append}
+use lib.ListN.{length, length-append}
 use lib.Seq.{sets}
 use Rattle.text.specs.Bytes.{lf}
+use Rattle.tuple_record.specs.Record.{setIn, colourIn}
 use Rattle.columns.specs.Column.{column}
 use Rattle.columns.specs.ColumnLaws.{column-length}
 use Rattle.lists.specs.StoreLaws.{sets-part}
@@ -44,15 +45,15 @@ pub tuple-put : (out : List ℕ) (at n k : ℕ) (tuples nexts : List ℕ) (t : �
     → sets out at (tupleLine n k tuples nexts t)
     ≡ sets
     (sets
-    (sets (sets (sets (sets out at (81 ∷ [])) (at + 1) (column 5 t)) (at + 6) (column 3 (getD tuples (17 * t + 16) 0))) (at + 9)
-    (columns 6 (cellsFrom tuples (17 * t)) n))
+    (sets (sets (sets (sets out at (81 ∷ [])) (at + 1) (column 5 t)) (at + 6) (column 3 (colourIn tuples t))) (at + 9)
+    (columns 6 (setIn tuples t) n))
     (at + 9 + 6 * n) (columns 5 (cellsFrom nexts (8 * t)) k))
     (at + 9 + 6 * n + 5 * k) (10 ∷ [])
 unfolding tupleLine
 tuple-put out at n k tuples nexts t =
     let x = column 5 t in
-    let y = column 3 (getD tuples (17 * t + 16) 0) in
-    let z = columns 6 (cellsFrom tuples (17 * t)) n in
+    let y = column 3 (colourIn tuples t) in
+    let z = columns 6 (setIn tuples t) n in
     let u = columns 5 (cellsFrom nexts (8 * t)) k in
     let a = sets out at (81 ∷ []) in
     let b = sets a (at + 1) x in
@@ -60,6 +61,6 @@ tuple-put out at n k tuples nexts t =
     let d = sets c (at + 9) z in
     sets-part (81 ∷ []) (x ++ (y ++ (z ++ (u ++ (lf ∷ []))))) out at (at + 1) refl
     ∙ sets-part x (y ++ (z ++ (u ++ (lf ∷ [])))) a (at + 1) (at + 6) (omega (arith, column-length 5 t))
-    ∙ sets-part y (z ++ (u ++ (lf ∷ []))) b (at + 6) (at + 9) (omega (arith, column-length 3 (getD tuples (17 * t + 16) 0)))
-    ∙ sets-part z (u ++ (lf ∷ [])) c (at + 9) (at + 9 + 6 * n) (omega (arith, columns-length 6 (cellsFrom tuples (17 * t)) n))
+    ∙ sets-part y (z ++ (u ++ (lf ∷ []))) b (at + 6) (at + 9) (omega (arith, column-length 3 (colourIn tuples t)))
+    ∙ sets-part z (u ++ (lf ∷ [])) c (at + 9) (at + 9 + 6 * n) (omega (arith, columns-length 6 (setIn tuples t) n))
     ∙ sets-part u (lf ∷ []) d (at + 9 + 6 * n) (at + 9 + 6 * n + 5 * k) (omega (arith, columns-length 5 (cellsFrom nexts (8 * t)) k))

@@ -48,8 +48,13 @@ pub fn put_tuple(
     let next = at + 9 + 6 * n;
     text::put_bytes(out, at, b"Q");
     columns::put_column(out, at + 1, 5, t);
-    columns::put_column(out, at + 6, 3, tuples[row_index::CELLS * t + 16] as usize);
-    put_cells(out, at + 9, 6, tuples, row_index::CELLS * t, n);
+    columns::put_column(
+        out,
+        at + 6,
+        3,
+        tuples[tuple_record::RECORD * t + tuple_record::COLOUR] as usize,
+    );
+    put_cells(out, at + 9, 6, tuples, tuple_record::RECORD * t, n);
     put_cells(out, next, 5, nexts, 8 * t, k);
     text::put_bytes(out, next + 5 * k, b"\n");
 }

@@ -16,7 +16,7 @@ use Rattle.lists.specs.SearchLaws.{same-is, same-self, Tells, first-found}
 use Rattle.lists.specs.Choice.{choose}
 use Rattle.automaton.specs.Automaton.{Automaton}
 use Rattle.tuple.specs.Step.{Tuple, first, next}
-use Rattle.numbering.specs.Numbering.{tupleAt, Distinct, entered, FoundBy}
+use Rattle.numbering.specs.Numbering.{tupleAt, Distinct, entered, FoundBy, WayFrom, FirstFound}
 use Rattle.numbering.specs.Explore.{sameTuple, tupleNumber, addNew, step, found}
 
 -- EQUAL TUPLES
@@ -101,6 +101,29 @@ step-finds A c ts h l g = by (stepped A c ts)
     by (Stepped.old j k f e) = absurd (g f)
     by (Stepped.new j k f e) = e
 
+-- a way back by other words for the same finding step
+pub way-mapped : {P Q : ℕ → Type 0} {t from letter : ℕ} → ((c : ℕ) → P c → Q c) → WayFrom P t from letter → WayFrom Q t from letter
+way-mapped f w = record {
+  first = w .first;
+  found = λ k. let (c, p, from, letter) = w .found k in (c, f c p, from, letter);
+}
+
+-- and one finding step gives one way back
+pub way-once : {P Q : ℕ → Type 0} {t from letter from' letter' : ℕ} → ((c d : ℕ) → P c → Q d → c ≡ d) → WayFrom P t from letter → WayFrom Q t from' letter'
+    → (from ≡ from') × (letter ≡ letter')
+way-once {t = t} {from} {letter} {from'} {letter'} same v w = by (ℕ-discrete t 0)
+  where
+    by : Dec (t ≡ 0) → (from ≡ from') × (letter ≡ letter')
+    by (yes e) =
+        let (a, b) = v .first e in
+        let (c, d) = w .first e in
+        (a ∙ sym c, b ∙ sym d)
+    by (no e) =
+        let (c, p, a, b) = v .found (omega arith) in
+        let (d, q, x, y) = w .found (omega arith) in
+        let z = same c d p q in
+        (a ∙ ap (λ (i : ℕ). i / 8) z ∙ sym x, b ∙ ap (λ (i : ℕ). i % 8) z ∙ sym y)
+
 -- LISTS THAT BEGIN ALIKE
 
 -- the first m tuples of ts and us are the same
@@ -128,14 +151,16 @@ module _ (A : Automaton) (m : ℕ) (ts us : List Tuple) (a : Agree A m ts us) wh
         earliest = λ d k l e. f .earliest d k l (enters-alike d (omega arith) ∙ e ∙ sym (a i h));
       }
 
+  -- and a way back
+  pub way-alike : {i from letter : ℕ} → i < m → FirstFound A ts i from letter → FirstFound A us i from letter
+  way-alike {i} h = way-mapped (λ c. found-alike i c h)
+
 -- a tuple has one finding step
-found-once : (A : Automaton) (ts : List Tuple) (i c d : ℕ) → FoundBy A ts i c → FoundBy A ts i d → c ≡ d
-found-once A ts i c d f g = by (decLt c d) (decLt d c)
-  where
-    by : Dec (c < d) → Dec (d < c) → c ≡ d
-    by (yes h) x = absurd (g .earliest c h (f .letter) (f .enters))
-    by (no h) (yes x) = absurd (f .earliest d x (g .letter) (g .enters))
-    by (no h) (no x) = omega arith
+pub found-once : (A : Automaton) (ts : List Tuple) (i c d : ℕ) → FoundBy A ts i c → FoundBy A ts i d → c ≡ d
+found-once A ts i c d f g =
+    let a : c < d → ⊥ = λ h. g .earliest c h (f .letter) (f .enters) in
+    let b : d < c → ⊥ = λ h. f .earliest d h (g .letter) (g .enters) in
+    omega arith
 
 -- THE STEPS BEFORE c
 
@@ -275,6 +300,12 @@ unfolding us
 explored-step A c ts us x (Stepped.skip f e) = subst (Explored A (suc c)) (sym e) (explored-same A c ts x (λ h l. absurd (f h l)))
 explored-step A c ts us x (Stepped.old h l g e) = subst (Explored A (suc c)) (sym e) (explored-same A c ts x (λ h l. g))
 explored-step A c ts us x (Stepped.new h l f e) = subst (Explored A (suc c)) (sym e) (explored-new A c ts x h l f)
+
+-- a step that finds a new tuple is its finding step
+pub step-is-finding : (A : Automaton) (c : ℕ) (ts : List Tuple) → Explored A c ts → c / 8 < length ts → c % 8 < A .k → (Listed A ts (entered A ts c) → ⊥)
+    → FoundBy A (ts ++ (entered A ts c ∷ [])) (length ts) c
+unfolding us m
+step-is-finding A c ts x h l f = found-new A c ts x h l f
 
 pub explored : (A : Automaton) (c : ℕ) → Explored A c (found A c)
 unfolding found

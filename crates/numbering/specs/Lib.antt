@@ -2,4 +2,5 @@ pub mod Numbering
 pub mod Explore
 pub mod ExploreLaws
 pub mod NumberingLaws
+pub mod TableLaws
 pub mod Unfold

@@ -1,10 +1,11 @@
 -- Document 01: which tuples a tracker has, and how they are numbered.
-use Prim.Native.Nat.{ℕ, suc, _/_, _%_, _<_}
+use Prim.Native.Nat.{ℕ, suc, _/_, _%_, _≤_, _<_}
 use mathlib.Core.Path.{_≡_}
-use mathlib.Core.List.{List, [], _∷_, _++_}
+use mathlib.Core.List.{List, [], _∷_}
 use lib.ListN.{length, getD}
 use Rattle.automaton.specs.Automaton.{Automaton}
 use Rattle.tuple.specs.Step.{Tuple, first, next}
+use Rattle.tuple_record.specs.Record.{recordStart, rowAt, fromIn, letterIn}
 use Rattle.tuple.specs.Row.{row}
 
 -- the tuple that a word leads to from u, letter by letter
@@ -58,10 +59,19 @@ pub record MoreThan (A : Automaton) (room : ℕ) : Type 0 where
   pub distinct : Distinct A tuples
   pub reachable : (i : ℕ) → i < length tuples → Reachable A (tupleAt A tuples i)
 
--- "Tuple t has numbers 17t to 17t+16"
-unfoldable pub rows : List Tuple → List ℕ
-rows [] = []
-rows (u ∷ ts) = row u ++ rows ts
+-- tuple t's way back: "the tuple and then the letter it was first found from (its own number and 0 for the first)", whatever the finding step goes by
+pub record WayFrom (Finds : ℕ → Type 0) (t from letter : ℕ) : Type 0 where
+  pub first : t ≡ 0 → (from ≡ 0) × (letter ≡ 0)
+  pub found : 0 < t → (c : ℕ) × Finds c × (from ≡ c / 8) × (letter ≡ c % 8)
+
+abbrev pub FirstFound : Automaton → List Tuple → ℕ → ℕ → ℕ → Type 0
+FirstFound A ts t = WayFrom (FoundBy A ts t) t
+
+-- the tuple table: of each tuple its sets and its colour, and behind them its way back; every other cell is zero
+pub record TupleCells (A : Automaton) (ts : List Tuple) (tuples : List ℕ) : Type 0 where
+  pub row : (t : ℕ) → t < length ts → rowAt tuples t ≡ row (tupleAt A ts t)
+  pub way : (t : ℕ) → t < length ts → FirstFound A ts t (fromIn tuples t) (letterIn tuples t)
+  pub zero : (i : ℕ) → recordStart (length ts) ≤ i → getD tuples i 0 ≡ 0
 
 -- "its next on letter l is number 8t+l"; every other cell is zero
 pub record NextCells (A : Automaton) (ts : List Tuple) (nexts : List ℕ) : Type 0 where

@@ -11,20 +11,24 @@ use Rattle.lists.specs.AppendLaws.{length-more}
 use Rattle.finite.specs.Finite.{pigeon-rel}
 use Rattle.automaton.specs.Automaton.{Automaton}
 use Rattle.tuple.specs.Step.{Tuple, first, next}
-use Rattle.numbering.specs.Numbering.{afterWord, Word, Reachable, tupleAt, entered, FoundBy, Numbering, MoreThan}
+use Rattle.numbering.specs.Numbering.{afterWord, Word, Reachable, tupleAt, Distinct, entered, FoundBy, Numbering, MoreThan}
 use Rattle.numbering.specs.Explore.{step, found}
 use Rattle.numbering.specs.ExploreLaws.{Listed, Agree, Stepped, Explored, stepped, explored, agree-more, last-is, enters-alike}
 
 -- REACHABLE TUPLES
 
-after-snoc : (A : Automaton) (u : Tuple) (word : List ℕ) (l : ℕ) → afterWord A u (word ++ (l ∷ [])) ≡ next A l (afterWord A u word)
+pub after-snoc : (A : Automaton) (u : Tuple) (word : List ℕ) (l : ℕ) → afterWord A u (word ++ (l ∷ [])) ≡ next A l (afterWord A u word)
 unfolding afterWord
 after-snoc A u [] l = refl
 after-snoc A u (x ∷ word) l = after-snoc A (next A x u) word l
 
-word-snoc : (A : Automaton) (word : List ℕ) (l : ℕ) → Word A word → l < A .k → Word A (word ++ (l ∷ []))
+pub word-snoc : (A : Automaton) (word : List ℕ) (l : ℕ) → Word A word → l < A .k → Word A (word ++ (l ∷ []))
 word-snoc A [] l w h = (h, tt)
 word-snoc A (x ∷ word) l (g, w) h = (g, word-snoc A word l w h)
+
+pub word-unsnoc : (A : Automaton) (word : List ℕ) (l : ℕ) → Word A (word ++ (l ∷ [])) → Word A word × (l < A .k)
+word-unsnoc A [] l (h, w) = (tt, h)
+word-unsnoc A (x ∷ word) l (g, w) = let (v, h) = word-unsnoc A word l w in ((g, v), h)
 
 reachable-first : (A : Automaton) → Reachable A (first A)
 unfolding afterWord
@@ -48,6 +52,13 @@ module _ (A : Automaton) (P : Tuple → Type 0) (begins : P (first A)) (goes : (
   reachable-all u r = subst P (r .is) (after-all (first A) (r .word) begins (r .letters))
 
 -- EACH REACHABLE TUPLE ONCE
+
+-- equal tuples have equal numbers
+pub numbers-apart : (A : Automaton) (ts : List Tuple) → Distinct A ts → (i j : ℕ) → i < length ts → j < length ts → tupleAt A ts i ≡ tupleAt A ts j → i ≡ j
+numbers-apart A ts distinct i j l m e =
+    let a : i < j → ⊥ = λ h. distinct i j h m e in
+    let b : j < i → ⊥ = λ h. distinct j i h l (sym e) in
+    omega arith
 
 -- every reachable tuple is listed
 pub reachable-listed : (A : Automaton) (ts : List Tuple) → Numbering A ts → (u : Tuple) → Reachable A u → Listed A ts u

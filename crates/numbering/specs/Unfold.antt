@@ -5,5 +5,5 @@ use Rattle.numbering.specs.Explore
 use Rattle.numbering.specs.Numbering
 
 unfoldable pub numbering·unfold : Unit {0}
-unfolding tuple·unfold lists·unfold Explore.sameTuple Explore.addNew Explore.step Explore.found Numbering.afterWord Numbering.rows
+unfolding tuple·unfold lists·unfold Explore.sameTuple Explore.addNew Explore.step Explore.found Numbering.afterWord
 numbering·unfold = tt

@@ -3,10 +3,11 @@ use Prim.Native.Nat.{ℕ, zero, suc, _+_, _*_, _/_, _%_, _<_}
 use mathlib.Core.Path.{_≡_, sym, _∙_, ap, subst}
 use mathlib.Core.List.{List}
 use native.Mathlib.Omega.{arith}
-use native.Mathlib.Decide.{decLt}
+use lib.ListN.{length}
 use Rattle.automaton.specs.Automaton.{Automaton, Fits}
 use Rattle.tuple.specs.Step.{Tuple, run, colourEntered}
 use Rattle.numbering.specs.Numbering.{tupleAt, Numbering}
+use Rattle.numbering.specs.NumberingLaws.{numbers-apart}
 use Rattle.filling.specs.TrackerTables.{TrackerTables, EnoughForTracker, Fitted}
 use Rattle.filling.specs.FittedLaws.{fitted-colour, fitted-next, fitted-room}
 use Rattle.passes.specs.declared.Verdict.{Verdict}
@@ -20,18 +21,6 @@ module _ {A : Automaton} (fits : Fits A) (room count : ℕ) (f g : TrackerTables
 
   abbrev numbering : Numbering A ts
   numbering = fitted .holds .numbering
-
-  -- equal tuples have equal numbers
-  numbers-apart : (i j : ℕ) → i < count → j < count → tupleAt A ts i ≡ tupleAt A ts j → i ≡ j
-  numbers-apart i j l m e =
-      let c = fitted .count-is in
-      elim (decLt i j) [
-        | yes x ↦ absurd (numbering .distinct i j x (omega arith) e)
-        | no x ↦ elim (decLt j i) [
-          | yes y ↦ absurd (numbering .distinct j i y (omega arith) (sym e))
-          | no y ↦ omega arith
-        ]
-      ]
 
   -- the tables are fit to be judged on
   pub tables-fit : EnoughForTracker room f → TablesFit (g .tuples) (g .nexts) count
@@ -53,13 +42,16 @@ module _ {A : Automaton} (fits : Fits A) (room count : ℕ) (f g : TrackerTables
         let (x, y) = fitted .holds .nexts .next c (omega arith) (omega arith) in
         (omega arith, y ∙ rw (r, q, e))
 
+    below : (t : ℕ) → reached (g .nexts) 0 w t < length ts
+    below t = omega (arith, follows t .0, fitted .count-is)
+
     -- so equal numbers are equal tuples
     same-tuple : (s t : ℕ) → reached (g .nexts) 0 w s ≡ reached (g .nexts) 0 w t → run A w s ≡ run A w t
     same-tuple s t e = sym (follows s .1) ∙ (ap (tupleAt A ts) e ∙ follows t .1)
 
     same-number : (s t : ℕ) → run A w s ≡ run A w t → reached (g .nexts) 0 w s ≡ reached (g .nexts) 0 w t
     same-number s t e =
-        numbers-apart (reached (g .nexts) 0 w s) (reached (g .nexts) 0 w t) (follows s .0) (follows t .0) (follows s .1 ∙ (e ∙ sym (follows t .1)))
+        numbers-apart A ts (numbering .distinct) (reached (g .nexts) 0 w s) (reached (g .nexts) 0 w t) (below s) (below t) (follows s .1 ∙ (e ∙ sym (follows t .1)))
 
     entered-colour : (t : ℕ) → enteredIn (g .tuples) (g .nexts) 0 w t ≡ colourEntered A w t
     entered-colour t =

@@ -5,6 +5,7 @@ use mathlib.Core.Path.{_≡_}
 use mathlib.Core.List.{List}
 use lib.ListN.{length, getD, take, drop}
 use Rattle.passes.specs.Letter.{letterAt}
+use Rattle.tuple_record.specs.Record.{colourIn}
 use Rattle.filling.specs.TrackerTables.{trackerTables, EnoughForTracker}
 use Rattle.passes.specs.declared.Pass.{Pass}
 use Rattle.passes.specs.declared.Verdict.{Verdict}
@@ -35,10 +36,6 @@ wordOf letters lead cycle = letterAt (take lead letters) (take cycle (drop lead 
 unfoldable pub reached : List ℕ → ℕ → (ℕ → ℕ) → ℕ → ℕ
 reached nexts at w zero = at
 reached nexts at w (suc t) = getD nexts (8 * reached nexts at w t + w t) 0
-
--- "Tuple t has numbers 17t to 17t+16, sets 0 to 15 and then the colour"
-abbrev pub colourIn : List ℕ → ℕ → ℕ
-colourIn tuples i = getD tuples (17 * i + 16) 0
 
 -- the colour entered on letter t
 abbrev pub enteredIn : List ℕ → List ℕ → ℕ → (ℕ → ℕ) → ℕ → ℕ

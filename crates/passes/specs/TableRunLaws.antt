@@ -7,10 +7,11 @@ use native.Mathlib.Nat.{add-zero, add-suc, suc-mul}
 use lib.ListN.{length, getD, take, drop, length-take, length-drop}
 use lib.Seq.{getD-take}
 use Rattle.lists.specs.CellsLaws.{part-at}
+use Rattle.tuple_record.specs.Record.{colourIn}
 use Rattle.passes.specs.LetterLaws.{letter-lead, letter-cycle}
 use Rattle.passes.specs.declared.Pass.{Pass}
 use Rattle.passes.specs.Passes.{LeastOf}
-use Rattle.passes.specs.TableRun.{AllBelow, wordOf, reached, colourIn, enteredIn, endNumber, Passing}
+use Rattle.passes.specs.TableRun.{AllBelow, wordOf, reached, enteredIn, endNumber, Passing}
 use Rattle.passes.specs.LeastLaws.{least-from}
 
 module _ (nexts : List ℕ) (at : ℕ) where

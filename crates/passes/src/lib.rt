@@ -74,7 +74,10 @@ fn follow(
     let mut i = 0;
     while i < size {
         at = next(nexts, count, at, letter(letters, from + i));
-        least = lesser(least, tuples[row_index::CELLS * at + 16]);
+        least = lesser(
+            least,
+            tuples[tuple_record::RECORD * at + tuple_record::COLOUR],
+        );
         i += 1;
     }
     Pass { at, least }

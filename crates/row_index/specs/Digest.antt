@@ -4,6 +4,7 @@ use mathlib.Core.List.{List}
 use lib.Dec.{eqb}
 use lib.ListN.{getD}
 use Rattle.lists.specs.Choice.{choose}
+use Rattle.tuple_record.specs.Record.{setCells}
 
 -- a number below 2^32 with one cell mixed in
 abbrev pub mix : ℕ → ℕ → ℕ
@@ -16,4 +17,4 @@ mixFrom row h i (suc left) = choose (eqb (getD row i 0) 0) h (mixFrom row (mix h
 
 -- a row's digest, below 1,024: the same for the same row. A tuple's empty sets need no time: they stand behind its first zero.
 unfoldable pub digestOf : List ℕ → ℕ
-digestOf row = mix (mixFrom row 0 0 16) (getD row 16 0) / 4194304
+digestOf row = mix (mixFrom row 0 0 setCells) (getD row setCells 0) / 4194304

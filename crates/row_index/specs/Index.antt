@@ -1,18 +1,11 @@
 -- Rows of numbers in one table, looked up by a digest of their cells.
-use Prim.Native.Nat.{ℕ, _+_, _*_, _≤_, _<_}
+use Prim.Native.Nat.{ℕ, _+_, _≤_, _<_}
 use mathlib.Core.Path.{_≡_}
 use mathlib.Core.List.{List}
-use lib.ListN.{length, getD, take, drop}
-use lib.Seq.{sets}
+use lib.ListN.{length, getD}
+use Rattle.tuple_record.specs.declared.WayBack.{WayBack}
+use Rattle.tuple_record.specs.Record.{rowCells, recordStart, rowAt, Stored}
 use Rattle.row_index.specs.Digest.{digestOf}
-
--- the cells of a row: document 01's "Tuple t has numbers 17t to 17t+16"
-abbrev rowCells : ℕ
-rowCells = 17
-
--- row t of a table
-abbrev pub rowAt : List ℕ → ℕ → List ℕ
-rowAt table t = take rowCells (drop (rowCells * t) table)
 
 -- The index of m rows, of which row t has digest d t. head holds for each digest one more than the last row with it, and link for each row one
 -- more than the row before it with its digest; 0 where there is none.
@@ -29,7 +22,7 @@ pub record Index (m : ℕ) (d : ℕ → ℕ) (head link : List ℕ) : Type 0 whe
 
 -- a table's first m rows with their index
 pub record Indexed (table : List ℕ) (m : ℕ) (head link : List ℕ) : Type 0 where
-  pub rows : rowCells * m ≤ length table
+  pub rows : recordStart m ≤ length table
   pub most : m ≤ 1024
   pub heads : length head ≡ 1024
   pub links : length link ≡ 1024
@@ -47,7 +40,7 @@ pub record RowFound (table : List ℕ) (m : ℕ) (row : List ℕ) (r : ℕ) : Ty
   pub is : r < m → rowAt table r ≡ row
   pub none : r ≡ m → (t : ℕ) → t < m → rowAt table t ≡ row → ⊥
 
--- the table with one row behind its m rows, and the index
-pub record Added (before after : List ℕ) (m : ℕ) (row : List ℕ) (head link : List ℕ) : Type 0 where
-  pub is : after ≡ sets before (rowCells * m) row
+-- the table with one row and its way back behind its m rows, and the index
+pub record Added (before after : List ℕ) (m : ℕ) (row : List ℕ) (way : WayBack) (head link : List ℕ) : Type 0 where
+  pub is : Stored before after m row way
   pub indexed : Indexed after (m + 1) head link

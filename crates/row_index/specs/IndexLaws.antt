@@ -1,15 +1,17 @@
 -- The index while its rows are walked, and with one row more. Assumes nothing.
-use Prim.Native.Nat.{ℕ, _+_, _*_, _≤_, _<_}
-use mathlib.Core.Path.{_≡_, refl, sym, ap, subst, _∙_}
+use Prim.Native.Nat.{ℕ, _+_, _≤_, _<_}
+use mathlib.Core.Path.{_≡_, sym, ap, subst, _∙_}
 use mathlib.Core.List.{List}
 use native.Mathlib.Decide.{ℕ-discrete}
 use native.Mathlib.Omega.{arith}
 use lib.ListN.{length, getD, set, replicate, length-set, length-replicate}
-use lib.Seq.{getD-set-same, getD-set-other, sets, length-sets}
+use lib.Seq.{getD-set-same, getD-set-other}
 use Rattle.gate.specs.GateLaws.{zeros}
-use Rattle.lists.specs.StoreLaws.{part-stored, part-kept}
+use Rattle.tuple_record.specs.declared.WayBack.{WayBack}
+use Rattle.tuple_record.specs.Record.{rowAt, Stored}
+use Rattle.tuple_record.specs.RecordLaws.{record-length, row-kept, stored-row}
 use Rattle.row_index.specs.Digest.{digestOf}
-use Rattle.row_index.specs.Index.{rowAt, Index, Indexed, Sought, RowFound, Added}
+use Rattle.row_index.specs.Index.{Index, Indexed, Sought, RowFound, Added}
 
 -- Place p of the walk: one more than a row with digest h, or 0. No row that is looked for stands at p or behind.
 pub record ChainWalk (table : List ℕ) (m : ℕ) (row : List ℕ) (h p : ℕ) : Type 0 where
@@ -147,23 +149,24 @@ module _ (m : ℕ) (d e : ℕ → ℕ) (h : ℕ) (head link : List ℕ) (i : Ind
   index-more = record { head-is = head-is; link-is = link-is; head-of = head-of; link-of = link-of; last = last; before = before }
 
 -- the table and its index with one row more
-module _ {table : List ℕ} {m : ℕ} {row : List ℕ} {h : ℕ} {head link : List ℕ} (i : Indexed table m head link) (s : Sought row h) where
-  pub added : m < 1024 → 17 * m + 17 ≤ length table → Added table (sets table (17 * m) row) m row (set head h (m + 1)) (set link m (getD head h 0))
-  added k l =
+module _ {table after : List ℕ} {m : ℕ} {row : List ℕ} {way : WayBack} {h : ℕ} {head link : List ℕ} (i : Indexed table m head link) (s : Sought row h) where
+  pub added : m < 1024 → Stored table after m row way → Added table after m row way (set head h (m + 1)) (set link m (getD head h 0))
+  added k w =
       let hs = i .heads in
       let ls = i .links in
       let g = s .small in
+      let l = w .long in
       record {
-        is = refl;
+        is = w;
         indexed = record {
-          rows = rw (length-sets table (17 * m) row) (omega arith);
+          rows = omega (arith, record-length w);
           most = omega arith;
           heads = simp length-set hs;
           links = simp length-set ls;
           index =
-              index-more m (λ t. digestOf (rowAt table t)) (λ t. digestOf (rowAt (sets table (17 * m) row) t)) h head link (i .index)
-              (λ t j. ap digestOf (part-kept 17 table row (17 * m) (17 * t) (omega arith)))
-              (ap digestOf (part-stored 17 table row (17 * m) (s .cells) l) ∙ sym (s .digest))
+              index-more m (λ t. digestOf (rowAt table t)) (λ t. digestOf (rowAt after t)) h head link (i .index)
+              (λ t j. ap digestOf (row-kept w t j))
+              (ap digestOf (stored-row w) ∙ sym (s .digest))
               (omega arith) (omega arith);
         };
       }

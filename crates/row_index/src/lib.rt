@@ -1,14 +1,13 @@
-// The index of the rows of a lent table: a row is found, and one is added, by a digest of its cells.
+// The index of the rows of a lent table: a row is found, and one is added, by a digest of its cells. The way back behind a row takes no part in it.
+use tuple_record::WayBack;
 ghost use mathlib.Core.Path.{_≡_};
-ghost use Prim.Native.Nat.{_<_, _≤_, _*_, _+_};
-ghost use lib.ListN.{length, take, drop};
-ghost use lib.Seq.{sets};
+ghost use Prim.Native.Nat.{_<_, _≤_, _+_};
+ghost use lib.ListN.{length};
 ghost use Rattle.gate.specs.Gate.{Decides};
+ghost use Rattle.tuple_record.specs.Record.{setCells, rowCells, recordCells, recordStart, rowAt};
 ghost use Rattle.row_index.specs.Digest.{mix, mixFrom, digestOf};
 ghost use Rattle.row_index.specs.Index.{Indexed, Sought, Added, RowFound};
 
-// The cells of a row.
-pub const CELLS: usize = 17;
 // How many digests there are.
 pub const DIGESTS: usize = 1024;
 // The most rows that an index takes.
@@ -24,12 +23,12 @@ fn mixed(h: usize, x: u16) -> usize
 
 // The sets of a row, mixed: those before the first empty one.
 fn mixed_sets(row: &[u16]) -> usize
-    requires { ⌜ length (now row) ≡ 17 ⌝ }
-    ensures { λ r. ⌜ (r ≡ mixFrom (now (row .entry)) 0 0 16) × (r < 4294967296) ⌝ }
+    requires { ⌜ length (now row) ≡ rowCells ⌝ }
+    ensures { λ r. ⌜ (r ≡ mixFrom (now (row .entry)) 0 0 setCells) × (r < 4294967296) ⌝ }
 {
     let mut h: usize = 0;
     let mut i: usize = 0;
-    while i < 16 {
+    while i < tuple_record::SETS {
         let x = row[i];
         if x == 0 {
             return h;
@@ -42,19 +41,20 @@ fn mixed_sets(row: &[u16]) -> usize
 
 // The digest of a row: of its sets and its colour.
 pub fn digest(row: &[u16]) -> usize
-    requires { ⌜ length (now row) ≡ 17 ⌝ }
+    requires { ⌜ length (now row) ≡ rowCells ⌝ }
     ensures { λ r. ⌜ (r ≡ digestOf (now (row .entry))) × (r < 1024) ⌝ }
 {
-    mixed(mixed_sets(row), row[16]) / 4194304
+    mixed(mixed_sets(row), row[tuple_record::COLOUR]) / 4194304
 }
 
-// Do the table's cells from `at` on hold this row?
-fn same(table: &[u16], at: usize, row: &[u16]) -> bool
-    requires { ⌜ (at + 17 ≤ length (now table)) × (length (now row) ≡ 17) ⌝ }
-    ensures { λ r. ⌜ Decides r (take 17 (drop at (now (table .entry))) ≡ now (row .entry)) ⌝ }
+// Is this the row of tuple t?
+fn same(table: &[u16], t: usize, row: &[u16]) -> bool
+    requires { ⌜ (t < 1024) × (recordStart t + recordCells ≤ length (now table)) × (length (now row) ≡ rowCells) ⌝ }
+    ensures { λ r. ⌜ Decides r (rowAt (now (table .entry)) t ≡ now (row .entry)) ⌝ }
 {
+    let at = tuple_record::RECORD * t;
     let mut i: usize = 0;
-    while i < CELLS {
+    while i < tuple_record::ROW {
         if table[at + i] != row[i] {
             return false;
         }
@@ -71,7 +71,7 @@ pub fn find(table: &[u16], m: usize, row: &[u16], h: usize, head: &[u16], link: 
     let mut p = head[h] as usize;
     while 0 < p {
         let t = p - 1;
-        if same(table, CELLS * t, row) {
+        if same(table, t, row) {
             return t;
         }
         p = link[t] as usize;
@@ -79,24 +79,20 @@ pub fn find(table: &[u16], m: usize, row: &[u16], h: usize, head: &[u16], link: 
     m
 }
 
-// A row is written into the table's cells from `at` on.
-pub fn put(table: &mut [u16], at: usize, row: &[u16])
-    requires { ⌜ (at + 17 ≤ length (now table)) × (length (now row) ≡ 17) ⌝ }
-    ensures { λ _. ⌜ now (table .exit) ≡ sets (now (table .entry)) at (now (row .entry)) ⌝ }
+// A row of digest h becomes row m of the table, behind its m rows, with its way back, and is the last of its digest.
+pub fn add(
+    table: &mut [u16],
+    m: usize,
+    row: &[u16],
+    way: WayBack,
+    h: usize,
+    head: &mut [u16],
+    link: &mut [u16],
+)
+    requires { ⌜ Indexed (now table) m (now head) (now link) × Sought (now row) h × (m < 1024) × (recordStart m + recordCells ≤ length (now table)) ⌝ }
+    ensures { λ _. ⌜ Added (now (table .entry)) (now (table .exit)) m (now (row .entry)) way (now (head .exit)) (now (link .exit)) ⌝ }
 {
-    let mut i: usize = 0;
-    while i < row.len() {
-        table[at + i] = row[i];
-        i += 1;
-    }
-}
-
-// A row of digest h becomes row m of the table, behind its m rows, and is the last of its digest.
-pub fn add(table: &mut [u16], m: usize, row: &[u16], h: usize, head: &mut [u16], link: &mut [u16])
-    requires { ⌜ Indexed (now table) m (now head) (now link) × Sought (now row) h × (m < 1024) × (17 * m + 17 ≤ length (now table)) ⌝ }
-    ensures { λ _. ⌜ Added (now (table .entry)) (now (table .exit)) m (now (row .entry)) (now (head .exit)) (now (link .exit)) ⌝ }
-{
-    put(table, CELLS * m, row);
+    tuple_record::store(table, m, row, way);
     link[m] = head[h];
     head[h] = (m + 1) as u16;
 }

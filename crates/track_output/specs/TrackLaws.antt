@@ -79,7 +79,7 @@ listed-output {s} {before} {built} x builds =
     let (lent, (σ, y, are, o, fitted), z) = file-built builds in
     let tracker = built .tracker in
     let e = same-listing x tracker σ are in
-    let shown = fitted-shown (numbers σ) (sheet-fits s σ (y .file)) programRoom (x .tuples) (before .tracker) tracker (lent .tracker) fitted in
+    let shown = fitted-shown (numbers σ) (sheet-fits s σ (y .file)) programRoom (x .tuples) (before .tracker) tracker fitted (lent .tracker) in
     let small = listing-small (σ .n) (σ .k) (x .tuples) (shown .sizes) in
     let l = listing-length (σ .n) (σ .k) (x .tuples) (tracker .tuples) (tracker .nexts) in
     (TrackOutput.listed σ y (before .tracker) tracker (x .tuples) fitted e, omega (arith, ap length e))

@@ -31,7 +31,7 @@ fn list(input: &[u8], out: &mut [u8]) -> usize
     ensures { λ r. ⌜ Prints (TrackOutput (now (input .entry))) longestTrack (now (out .entry)) (now (out .exit)) r ⌝ }
 {
     let mut table = [0u16; 128];
-    let mut tuples = [0u16; 17408];
+    let mut tuples = [0u16; 1024 * tuple_record::RECORD];
     let mut nexts = [0u16; 8192];
     let mut word = [0u16; 136];
     let mut one = [0u16; 137];

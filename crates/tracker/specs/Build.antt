@@ -38,8 +38,8 @@ clearedBuildNumbers before = buildNumbersTables (clearedWitness (before .witness
 abbrev pub clearedBuild : BuildTables → BuildTables
 clearedBuild before = buildTables (cleared (before .successors)) (clearedWitness (before .witness)) (clearedTracker (before .tracker))
 
--- QUESTION 1: "Are the lent tables long enough (128 successor sets; a witness of 136 letters and two walks of 137 states; for room R, 17·R
--- tuple numbers and 8·R next numbers ..), and is R 1 to 1,024?"
+-- QUESTION 1: "Are the lent tables long enough (128 successor sets; a witness of 136 letters and two walks of 137 states; for room R, .. tuple
+-- numbers and 8·R next numbers ..), and is R 1 to 1,024?", with R-7's 19 numbers a tuple
 pub record EnoughToBuild (room : ℕ) (before : BuildTables) : Type 0 where
   pub lengths : EnoughForSheet (before .successors) (before .witness)
   pub tracker : EnoughForTracker room (before .tracker)

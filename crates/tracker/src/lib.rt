@@ -38,7 +38,7 @@ pub fn enough(
     if 1024 < room {
         return false;
     }
-    if tuples.len() < row_index::CELLS * room {
+    if tuples.len() < tuple_record::RECORD * room {
         return false;
     }
     if nexts.len() < 8 * room {

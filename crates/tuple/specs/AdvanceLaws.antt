@@ -7,7 +7,8 @@ use native.Mathlib.Numerals.{add-one}
 use lib.ListN.{length, getD, set, take, drop, length-map}
 use lib.Seq.{take-suc, drop-cons, getD-at, set-at, length-take-le, slice, slice-empty, slice-cons}
 use Rattle.automaton.specs.Successors.{successorsOf}
-use Rattle.tuple.specs.Row.{setCells, setsOf}
+use Rattle.tuple_record.specs.Record.{setCells}
+use Rattle.tuple.specs.Row.{setsOf}
 use Rattle.lists.specs.Search.{leading}
 use Rattle.lists.specs.SearchLaws.{leading-stop, leading-more}
 use Rattle.tuple.specs.Parts.{Advanced}

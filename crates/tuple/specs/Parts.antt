@@ -10,7 +10,8 @@ use Rattle.sets.specs.Sets.{unionOf}
 use Rattle.automaton.specs.Automaton.{Automaton}
 use Rattle.automaton.specs.Successors.{successorsOf}
 use Rattle.tuple.specs.Step.{places, unionAll, least, pass, colourOf, closeUp}
-use Rattle.tuple.specs.Row.{setCells, setsOf}
+use Rattle.tuple_record.specs.Record.{setCells}
+use Rattle.tuple.specs.Row.{setsOf}
 
 -- what is removed from all later places, after the turn of a place with set x
 unfoldable pub outOf : Bool → ℕ → ℕ → ℕ

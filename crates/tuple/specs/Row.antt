@@ -1,15 +1,12 @@
--- Document 01: "Tuple t has numbers 17t to 17t+16, sets 0 to 15 and then the colour".
+-- A tuple as a row of numbers, as document 01 has it in a lent table: "sets 0 to 15 and then the colour".
 use Prim.Native.Nat.{ℕ, _-_, _<_}
 use mathlib.Core.Path.{_≡_}
 use mathlib.Core.List.{List, [], _∷_, _++_}
 use lib.ListN.{length, getD, take, replicate}
 use Rattle.automaton.specs.Automaton.{Automaton, Fits}
 use Rattle.lists.specs.Search.{leading}
+use Rattle.tuple_record.specs.Record.{setCells}
 use Rattle.tuple.specs.Step.{Tuple}
-
--- the cells of a row that hold sets; one more holds the colour
-abbrev pub setCells : ℕ
-setCells = 16
 
 -- the numbers of a tuple: its sets, then empty sets, then the colour
 unfoldable pub row : Tuple → List ℕ

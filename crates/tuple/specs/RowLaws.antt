@@ -1,5 +1,5 @@
 -- A tuple has one row, and a row one tuple. Assumes nothing.
-use Prim.Native.Nat.{ℕ, _+_, zero, suc, _-_, _≤_, _<_}
+use Prim.Native.Nat.{ℕ, zero, suc, _-_, _≤_, _<_}
 use mathlib.Core.Path.{_≡_, refl, sym, ap, _∙_}
 use mathlib.Core.List.{List, [], _∷_, _++_, append-assoc}
 use native.Mathlib.Omega.{arith}
@@ -8,8 +8,9 @@ use lib.Seq.{take-at, getD-at}
 use Rattle.automaton.specs.Automaton.{Automaton, Fits}
 use Rattle.gate.specs.GateLaws.{zeros}
 use Rattle.lists.specs.SearchLaws.{leading-padded}
+use Rattle.tuple_record.specs.Record.{setCells, rowCells}
 use Rattle.tuple.specs.Step.{Tuple, setAt, Formed}
-use Rattle.tuple.specs.Row.{setCells, setsOf, row, tupleOf, Steps}
+use Rattle.tuple.specs.Row.{setsOf, row, tupleOf, Steps}
 
 -- Rows
 
@@ -29,7 +30,7 @@ module _ (u : Tuple) (few : length (u .sets) ≤ setCells) where
   front-length : length (u .sets ++ padding) ≡ setCells
   front-length = simp (length-append, length-replicate) (omega arith)
 
-  pub row-length : length (row u) ≡ setCells + 1
+  pub row-length : length (row u) ≡ rowCells
   row-length = ap length row-split ∙ length-append (u .sets ++ padding) (u .colour ∷ []) ∙ omega (arith, front-length)
 
   pub row-colour : getD (row u) setCells 0 ≡ u .colour
@@ -56,7 +57,7 @@ module _ {A : Automaton} (fits : Fits A) where
   formed-few : {u : Tuple} → Formed A u → length (u .sets) ≤ setCells
   formed-few f = let a = f .few in let b = fits .range .1 in omega arith
 
-  pub formed-length : {u : Tuple} → Formed A u → length (row u) ≡ setCells + 1
+  pub formed-length : {u : Tuple} → Formed A u → length (row u) ≡ rowCells
   formed-length {u} f = row-length u (formed-few f)
 
   pub formed-row : {u : Tuple} → Formed A u → tupleOf (row u) ≡ u

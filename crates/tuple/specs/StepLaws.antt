@@ -16,7 +16,8 @@ use Rattle.tuple.specs.PassLaws.{turns-length}
 use Rattle.tuple.specs.CloseLaws.{closeUp-length}
 use Rattle.tuple.specs.PlaceLaws.{places-length}
 use Rattle.tuple.specs.TupleLaws.{next-formed}
-use Rattle.tuple.specs.Row.{setCells, setsOf, row, tupleOf, Steps}
+use Rattle.tuple_record.specs.Record.{setCells}
+use Rattle.tuple.specs.Row.{setsOf, row, tupleOf, Steps}
 use Rattle.tuple.specs.RowLaws.{row-length, row-set}
 use Rattle.lists.specs.SearchLaws.{leading-length}
 use Rattle.tuple.specs.Parts.{Advanced, Swept, Placed, settled}

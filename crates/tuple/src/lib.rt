@@ -1,9 +1,10 @@
-// One step of the tuple, on its row of 17 cells: 16 sets, the non-empty ones first, and the colour.
+// One step of the tuple, on its row: the sets, the non-empty ones first, and the colour.
 use automaton::Numbers;
 use colour::Colour;
 ghost use mathlib.Core.Path.{_≡_};
 ghost use Prim.Native.Nat.{_+_, _≤_, _<_};
 ghost use lib.ListN.{length};
+ghost use Rattle.tuple_record.specs.Record.{rowCells};
 ghost use Rattle.sets.specs.Sets.{interOf};
 ghost use Rattle.automaton.specs.Automaton.{automaton};
 ghost use Rattle.tuple.specs.Step.{isMarked, next};
@@ -36,11 +37,11 @@ fn recurrent_of(a: Numbers, first: u16) -> u16
 
 // Replaces each set by its successors, and gives the count of sets.
 fn advance(table: &[u16], letter: usize, w: &mut [u16]) -> usize
-    requires { ⌜ (letter < 8) × (length (now w) ≡ 17) ⌝ }
+    requires { ⌜ (letter < 8) × (length (now w) ≡ rowCells) ⌝ }
     ensures { λ r. ⌜ Advanced (now (table .entry)) letter (now (w .entry)) (now (w .exit)) r ⌝ }
 {
     let mut i: usize = 0;
-    while i < 16 {
+    while i < tuple_record::SETS {
         let x = w[i];
         if x == 0 {
             return i;
@@ -68,7 +69,7 @@ fn unions(w: &[u16], count: usize, later: &mut [u16])
 // The marking pass over the places 0 to p, closing up as it goes, and the least colour of a place. Mark and colour go by the place before closing
 // up: by i, and by x, its set.
 fn sweep(n: usize, p: usize, later: &[u16], w: &mut [u16]) -> Colour
-    requires { ⌜ (n ≤ 16) × (p ≤ 16) × (length (now w) ≡ 17) × (length (now later) ≡ 17) × Unions (p + 1) (now w) (now later) ⌝ }
+    requires { ⌜ (n ≤ 16) × (p ≤ 16) × (length (now w) ≡ rowCells) × (length (now later) ≡ rowCells) × Unions (p + 1) (now w) (now later) ⌝ }
     ensures { λ r. ⌜ Swept n p (p + 1) (now (w .entry)) (now (w .exit)) (r .0) ⌝ }
 {
     let mut colour = Colour::neutral(n);
@@ -103,14 +104,14 @@ fn place_sets(a: Numbers, table: &[u16], letter: usize, w: &mut [u16]) -> usize
 
 // Points 3 to 5 over the places 0 to p, and the colour in the last cell.
 fn settle(n: usize, p: usize, w: &mut [u16])
-    requires { ⌜ (n ≤ 16) × (p ≤ 16) × (length (now w) ≡ 17) ⌝ }
+    requires { ⌜ (n ≤ 16) × (p ≤ 16) × (length (now w) ≡ rowCells) ⌝ }
     ensures { λ _. ⌜ now (w .exit) ≡ settled n p (now (w .entry)) ⌝ }
 {
-    let mut later = [0u16; 17];
+    let mut later = [0u16; tuple_record::ROW];
     unions(w, p + 1, &mut later);
     let first = w[0];
     let colour = colour::dead_or(first, sweep(n, p, &later, w));
-    w[16] = colour.0;
+    w[tuple_record::COLOUR] = colour.0;
 }
 
 // The step on a letter from the tuple whose row is given. The colour's cell serves as the spare place until the colour is known.

@@ -37,7 +37,7 @@ fn judge_input(input: &[u8]) -> Outcome
 {
     let e = sheet_end::sheet_end(input);
     let mut table = [0u16; 128];
-    let mut tuples = [0u16; 17408];
+    let mut tuples = [0u16; 1024 * tuple_record::RECORD];
     let mut nexts = [0u16; 8192];
     let mut word = [0u16; 136];
     let mut one = [0u16; 137];

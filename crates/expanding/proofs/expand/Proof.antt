@@ -1,5 +1,6 @@
 -- Each way through the step answers as the laws of the tables say. Assumes nothing.
 use mathlib.Core.Path.{refl}
+use Prim.Native.Nat.{_/_, _%_}
 use native.Mathlib.Omega.{arith}
 use Rattle.automaton.specs.Automaton.{Automaton, automaton}
 use Rattle.expanding.specs.Expand.{Taken}
@@ -30,8 +31,8 @@ looked : (c : tie.After-find-or-add) →
     let a = s .args in
     let d = c .find-or-add in
     Looked (given s) (a .room) (a .c) (a .m) (a .tuples .now) (a .nexts .now) (a .head .now) (a .link .now) (entered c .enter .last .1 .1 .1 .1 .0)
-    (d .last .0) (d .last .1 .1 .1 .1 .0) (d .last .1 .1 .1 .1 .1 .0) (d .result)
-looked c = record { filled = start (passed c) .pre .0; taken = taken (passed c); gives = entered c .enter .ensures; placed = c .find-or-add .ensures }
+    (record { from = a .c / 8; letter = a .c % 8 }) (d .last .0) (d .last .1 .1 .1 .1 .1 .0) (d .last .1 .1 .1 .1 .1 .1 .0) (d .result)
+looked c = record { filled = start (passed c) .pre .0; taken = taken (passed c); gives = entered c .enter .ensures; from = refl; letter = refl; placed = c .find-or-add .ensures }
 
 returns : tie.Need-returns
 returns c = goes-skip (c .before .before .before .before .before .before .before .pre .0) (c .if1 .taken)
@@ -48,6 +49,18 @@ enter-requires c κs =
     let r = f .room-fits .most in
     let t = f .room-fits .tuples in
     (fill-steps f (taken tested), record { small = omega arith; row = omega arith; cells = refl })
+
+cast-t20 : tie.Need-cast-t20
+cast-t20 c =
+    let s = start (c .before .before .before .before) in
+    let f = s .pre .0 in
+    let p = s .pre .1 in
+    let q = f .room-is in
+    let r = f .room-fits .most in
+    omega arith
+
+cast-nexts : tie.Need-cast-nexts
+cast-nexts c = omega arith
 
 slice-aggregate-find-or-add : tie.Need-slice-aggregate-find-or-add
 slice-aggregate-find-or-add c = search needs
@@ -70,8 +83,8 @@ same-length-3 c = search needs
 returns-2 : tie.Need-returns-2
 returns-2 c = goes-over (looked (c .before .before .before .before .before .before .before)) (c .if2 .taken)
 
-cast-nexts : tie.Need-cast-nexts
-cast-nexts c = search needs
+cast-nexts-2 : tie.Need-cast-nexts-2
+cast-nexts-2 c = search needs
 
 mul-nexts : tie.Need-mul-nexts
 mul-nexts c = search needs
@@ -119,6 +132,8 @@ expand-spec =
     returns
     slice-aggregate-enter
     enter-requires
+    cast-t20
+    cast-nexts
     slice-aggregate-find-or-add
     find-or-add-requires
     add-result
@@ -126,7 +141,7 @@ expand-spec =
     same-length-2
     same-length-3
     returns-2
-    cast-nexts
+    cast-nexts-2
     mul-nexts
     slice-write-nexts
     same-length-4

@@ -3,9 +3,10 @@ use Prim.Native.Nat.{ℕ}
 use mathlib.Core.Path.{refl, subst}
 use native.Mathlib.Omega.{arith}
 use lib.ListN.{set, replicate}
+use Rattle.tuple_record.specs.Record.{setCells, rowCells}
 use Rattle.row_index.specs.Index.{Indexed, Added}
 use Rattle.row_index.specs.IndexLaws.{indexed-none}
-use Rattle.filling.specs.Fill.{firstCells}
+use Rattle.filling.specs.Fill.{firstCells, firstWay}
 use borrow.Author.Needs.{needs}
 use Rattle.filling.proofs.begin.Statement.{statement}
 use Rattle.filling.proofs.begin.Tie as tie
@@ -47,7 +48,7 @@ returns c =
     let a = coloured .before .before .before .before .args in
     let d = added .find-or-add in
     subst
-    (λ (x : ℕ). Added (a .tuples .now) (d .last .0) 0 (set (set (replicate 17 0) 0 (a .a .initial)) 16 x) (d .last .1 .1 .1 .1 .0) (d .last .1 .1 .1 .1 .1 .0))
+    (λ (x : ℕ). Added (a .tuples .now) (d .last .0) 0 (set (set (replicate rowCells 0) 0 (a .a .initial)) setCells x) firstWay (d .last .1 .1 .1 .1 .1 .0) (d .last .1 .1 .1 .1 .1 .1 .0))
     (coloured .neutral .ensures) (d .ensures .added (omega arith) (omega arith))
 
 pub begin-spec : {M : Type 1} → statement M

@@ -1,7 +1,8 @@
 -- The parts of the line follow one another. Assumes nothing.
-use Prim.Native.Nat.{_+_, _*_}
+use Prim.Native.Nat.{_+_}
 use mathlib.Core.Path.{sym}
 use native.Mathlib.Omega.{arith}
+use Rattle.tuple_record.specs.Record.{setCells, recordStart}
 use Rattle.listing_lines.specs.PutLineLaws.{tuple-put}
 use borrow.Author.Needs.{needs}
 use Rattle.listing_lines.proofs.put_tuple.Statement.{statement}
@@ -44,7 +45,7 @@ shared-slice-read-put-column : tie.Need-shared-slice-read-put-column
 shared-slice-read-put-column c = search needs
 
 cast-put-column : tie.Need-cast-put-column
-cast-put-column c = omega (arith, c .shared-slice-known3 .given (17 * c .before .before .before .before .before .before .before .before .before .before .before .before .before .before .args .t + 16))
+cast-put-column c = omega (arith, c .shared-slice-known3 .given (recordStart (c .before .before .before .before .before .before .before .before .before .before .before .before .before .before .args .t) + setCells))
 
 put-column-requires-2 : tie.Need-put-column-requires-2
 put-column-requires-2 c κs = search needs

@@ -4,6 +4,7 @@ use mathlib.Core.Path.{_≡_, refl, sym, _∙_, ap}
 use native.Mathlib.Omega.{arith}
 use native.Mathlib.Numerals.{add-one}
 use lib.ListN.{getD}
+use Rattle.tuple_record.specs.Record.{setCells, recordStart, colourIn}
 use Rattle.passes.specs.TableRun.{reached, enteredIn}
 use Rattle.passes.specs.LeastLaws.{LeastSoFar, so-far-more}
 use Rattle.passes.specs.TableRunLaws.{reached-none, reached-more}
@@ -64,9 +65,9 @@ loop-again c =
     n .ensures .0
     ∙ (ap (λ (x : ℕ). getD (a .nexts .now) (8 * v .at + x) 0) (c .before .before .before .letter .ensures .0)
     ∙ (ap (λ (x : ℕ). getD (a .nexts .now) (8 * x + w (v .i)) 0) (v .inv .2) ∙ reached-more (a .nexts .now) (a .start) w (v .i))) in
-    let f : enteredIn (a .tuples .now) (a .nexts .now) (a .start) w (v .i) ≡ getD (a .tuples .now) (17 * n .result + 16) 0 =
-    ap (λ (x : ℕ). getD (a .tuples .now) (17 * x + 16) 0) (sym e) in
-    let small = c .before .shared-slice-known4 .given (17 * n .result + 16) in
+    let f : enteredIn (a .tuples .now) (a .nexts .now) (a .start) w (v .i) ≡ colourIn (a .tuples .now) (n .result) =
+    ap (colourIn (a .tuples .now)) (sym e) in
+    let small = c .before .shared-slice-known4 .given (recordStart (n .result) + setCells) in
     let l = so-far-more (enteredIn (a .tuples .now) (a .nexts .now) (a .start) w) (v .i) (v .least) (v .inv .3) (omega arith) in
     (search needs, n .ensures .1, rw add-one e, rw (c .lesser .ensures, ← f) l)
 

@@ -4,11 +4,8 @@ use borrow.Author.Needs.{needs}
 use Rattle.row_index.proofs.add.Statement.{statement}
 use Rattle.row_index.proofs.add.Tie as tie
 
-mul-put : tie.Need-mul-put
-mul-put c = search needs
-
-put-requires : tie.Need-put-requires
-put-requires c κs = search needs
+store-requires : tie.Need-store-requires
+store-requires c κs = search needs
 
 mul-link : tie.Need-mul-link
 mul-link c = search needs
@@ -46,14 +43,13 @@ same-length-3 c = search needs
 returns : tie.Need-returns
 returns c =
     let p = c .before .before .before .before .before .before .before .before .before .pre in
-    rw (c .before .before .before .put .ensures) (added (p .0) (p .1) (p .2) (p .3))
+    added (p .0) (p .1) (p .2) (c .before .before .before .store .ensures)
 
 pub add-spec : {M : Type 1} → statement M
 add-spec =
     tie.close
     (tie.spec
-    mul-put
-    put-requires
+    store-requires
     mul-link
     slice-read-link
     mul-link-2

@@ -3,6 +3,7 @@ use Prim.Native.Nat.{ℕ, _/_}
 use mathlib.Core.Path.{ap, _∙_}
 use native.Mathlib.Omega.{arith}
 use lib.ListN.{getD}
+use Rattle.tuple_record.specs.Record.{setCells}
 use Rattle.row_index.specs.Digest.{mix, digestOf}
 use borrow.Author.Needs.{needs}
 use Rattle.row_index.proofs.digest.Statement.{statement}
@@ -21,7 +22,7 @@ returns : tie.Need-returns
 unfolding digestOf
 returns c =
     let row = c .before .before .before .before .args .row .now in (
-      ap (λ (x : ℕ). x / 4194304) (c .mixed .ensures .0 ∙ ap (λ (h : ℕ). mix h (getD row 16 0)) (c .before .before .mixed-sets .ensures .0)),
+      ap (λ (x : ℕ). x / 4194304) (c .mixed .ensures .0 ∙ ap (λ (h : ℕ). mix h (getD row setCells 0)) (c .before .before .mixed-sets .ensures .0)),
       omega (arith, c .mixed .ensures .1),
     )
 

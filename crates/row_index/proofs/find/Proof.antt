@@ -30,9 +30,6 @@ loop-holds c =
 sub-t : tie.Need-sub-t Inv-loop μ-loop
 sub-t c = search needs
 
-mul-same : tie.Need-mul-same Inv-loop μ-loop
-mul-same c = search needs
-
 same-requires : tie.Need-same-requires Inv-loop μ-loop
 same-requires c κs = search needs
 
@@ -81,7 +78,6 @@ find-spec =
     cast-p
     loop-holds
     sub-t
-    mul-same
     same-requires
     returns
     mul-p-2

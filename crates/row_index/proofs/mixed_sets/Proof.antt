@@ -2,6 +2,7 @@
 use Prim.Native.Nat.{ℕ, _+_, _-_, _≤_, _<_}
 use mathlib.Core.Path.{_≡_, sym, ap, _∙_}
 use native.Mathlib.Omega.{arith}
+use Rattle.tuple_record.specs.Record.{setCells}
 use Rattle.row_index.specs.Digest.{mixFrom}
 use Rattle.row_index.specs.DigestLaws.{mix-stops, mix-more}
 use borrow.Author.Needs.{needs}
@@ -9,10 +10,10 @@ use Rattle.row_index.proofs.mixed_sets.Statement.{statement}
 use Rattle.row_index.proofs.mixed_sets.Tie as tie
 
 abbrev Inv-loop : tie.InvT-loop
-Inv-loop row h₀ i₀ h i = (i ≤ 16) × (h < 4294967296) × (mixFrom row h i (16 - i) ≡ mixFrom row 0 0 16)
+Inv-loop row h₀ i₀ h i = (i ≤ setCells) × (h < 4294967296) × (mixFrom row h i (setCells - i) ≡ mixFrom row 0 0 setCells)
 
 abbrev μ-loop : tie.MeasureT-loop
-μ-loop row h₀ i₀ h i = 16 - i
+μ-loop row h₀ i₀ h i = setCells - i
 
 loop-holds : tie.Need-loop-holds Inv-loop μ-loop
 loop-holds c = search needs
@@ -43,7 +44,7 @@ loop-again c =
     let row = c .before .before .before .before .before .before .args .row .now in (
       omega arith,
       c .mixed .ensures .1,
-      ap (λ (h : ℕ). mixFrom row h (l .i + 1) (16 - (l .i + 1))) (c .mixed .ensures .0)
+      ap (λ (h : ℕ). mixFrom row h (l .i + 1) (setCells - (l .i + 1))) (c .mixed .ensures .0)
           ∙ sym (mix-more row (l .h) (l .i) (c .before .before .before .loop-test .taken) (c .before .if1 .left))
           ∙ l .inv .2,
     )
@@ -52,7 +53,7 @@ returns-2 : tie.Need-returns-2 Inv-loop μ-loop
 unfolding mixFrom
 returns-2 c =
     let l = c .before .loop in
-    let k : 16 - l .i ≡ 0 = omega arith in
+    let k : setCells - l .i ≡ 0 = omega arith in
     (rw k at (l .inv .2), l .inv .1)
 
 pub mixed-sets-spec : {M : Type 1} → statement M

@@ -2,16 +2,20 @@
 use Prim.Native.Nat.{_-_}
 use native.Mathlib.Omega.{arith}
 use Rattle.gate.specs.GateLaws.{decides-yes, decides-no}
+use Rattle.tuple_record.specs.Record.{rowCells, recordStart}
 use Rattle.lists.specs.CellsLaws.{SameUpTo, same-none, same-more, same-all, same-cell}
 use borrow.Author.Needs.{needs}
 use Rattle.row_index.proofs.same.Statement.{statement}
 use Rattle.row_index.proofs.same.Tie as tie
 
 abbrev Inv-loop : tie.InvT-loop
-Inv-loop table at row i₀ i = SameUpTo table at 17 row i
+Inv-loop table t row at i₀ i = SameUpTo table at rowCells row i
 
 abbrev μ-loop : tie.MeasureT-loop
-μ-loop table at row i₀ i = 17 - i
+μ-loop table t row at i₀ i = rowCells - i
+
+mul-at : tie.Need-mul-at Inv-loop μ-loop
+mul-at c = search needs
 
 loop-holds : tie.Need-loop-holds Inv-loop μ-loop
 loop-holds c = same-none _ _ _ _
@@ -35,7 +39,7 @@ returns : tie.Need-returns Inv-loop μ-loop
 returns c =
     let i = c .before .before .before .before .loop .i in
     let a = c .before .before .before .before .before .args in
-    decides-no (λ e. c .if1 .taken (same-cell (a .table .now) (a .at) 17 (a .row .now) e i (omega arith)))
+    decides-no (λ e. c .if1 .taken (same-cell (a .table .now) (recordStart (a .t)) rowCells (a .row .now) e i (omega arith)))
 
 add-i : tie.Need-add-i Inv-loop μ-loop
 add-i c = search needs
@@ -55,6 +59,7 @@ same-spec =
     (tie.spec
     Inv-loop
     μ-loop
+    mul-at
     loop-holds
     add-if1
     mul-if1

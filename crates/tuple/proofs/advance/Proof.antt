@@ -4,6 +4,7 @@ use mathlib.Core.Path.{_≡_}
 use native.Mathlib.Omega.{arith}
 use denote.Ref.{now}
 use lib.ListN.{length, length-set}
+use Rattle.tuple_record.specs.Record.{setCells, rowCells}
 use Rattle.automaton.specs.SuccessorLaws.{successors-are}
 use Rattle.tuple.specs.AdvanceLaws.{Advancing, advance-none, advance-stop, advance-end, advance-more}
 use borrow.Author.Needs.{needs}
@@ -11,10 +12,10 @@ use Rattle.tuple.proofs.advance.Statement.{statement}
 use Rattle.tuple.proofs.advance.Tie as tie
 
 abbrev Inv-loop : tie.InvT-loop
-Inv-loop table letter w₀ i₀ w i = (i ≤ 16) × (length w ≡ 17) × (length w₀ ≡ 17) × Advancing table letter w₀ w i
+Inv-loop table letter w₀ i₀ w i = (i ≤ setCells) × (length w ≡ rowCells) × (length w₀ ≡ rowCells) × Advancing table letter w₀ w i
 
 abbrev μ-loop : tie.MeasureT-loop
-μ-loop table letter w₀ i₀ w i = 16 - i
+μ-loop table letter w₀ i₀ w i = setCells - i
 
 loop-holds : tie.Need-loop-holds Inv-loop μ-loop
 loop-holds c =

@@ -5,6 +5,7 @@ use mathlib.Core.Logic.{inl, inr, ⊎-elim}
 use native.Mathlib.Omega.{arith}
 use denote.Ref.{now}
 use lib.ListN.{length, length-set}
+use Rattle.tuple_record.specs.Record.{rowCells}
 use Rattle.tuple.specs.SweepLaws.{Sweeping, sweep-none, sweep-turn, sweep-length, sweep-end}
 use borrow.Author.Needs.{needs}
 use Rattle.tuple.proofs.sweep.Statement.{statement}
@@ -12,7 +13,7 @@ use Rattle.tuple.proofs.sweep.Tie as tie
 
 abbrev Inv-loop : tie.InvT-loop
 Inv-loop n p later w₀ colour₀ out₀ j₀ i₀ w colour out j i =
-    (i ≤ p + 1) × (j ≤ i) × (length w ≡ 17) × Sweeping n p (p + 1) w₀ w (colour .0) out j i
+    (i ≤ p + 1) × (j ≤ i) × (length w ≡ rowCells) × Sweeping n p (p + 1) w₀ w (colour .0) out j i
 
 abbrev μ-loop : tie.MeasureT-loop
 μ-loop n p later w₀ colour₀ out₀ j₀ i₀ w colour out j i = p + 1 - i

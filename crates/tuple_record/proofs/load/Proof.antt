@@ -1,13 +1,13 @@
 -- The row of the table, stored over the other: `sets-over`. Assumes nothing.
-use Prim.Native.Nat.{_+_, _*_, _-_}
+use Prim.Native.Nat.{_+_, _-_}
 use mathlib.Core.Path.{_≡_, sym, _∙_}
 use native.Mathlib.Omega.{arith}
-use Rattle.row_index.specs.Index.{rowAt}
+use Rattle.tuple_record.specs.Record.{recordStart, rowCells, rowAt}
 use Rattle.lists.specs.CellsLaws.{part-length}
 use Rattle.lists.specs.StoreLaws.{sets-over}
 use borrow.Author.Needs.{needs}
-use Rattle.rows.proofs.load.Statement.{statement}
-use Rattle.rows.proofs.load.Tie as tie
+use Rattle.tuple_record.proofs.load.Statement.{statement}
+use Rattle.tuple_record.proofs.load.Tie as tie
 
 mul-at : tie.Need-mul-at
 mul-at c = search needs
@@ -38,8 +38,8 @@ returns c =
     let s = c .before .before .before .before .before .before .before in
     let a = s .args in
     let p = s .pre in
-    let k : 17 * a .t + 17 - 17 * a .t ≡ 17 = omega arith in
-    c .before .before .put .ensures ∙ rw k (sets-over (a .row .now) (rowAt (a .table .now) (a .t)) (p .2 ∙ sym (part-length (a .table .now) (17 * a .t) 17 (omega arith))))
+    let k : recordStart (a .t) + rowCells - recordStart (a .t) ≡ rowCells = omega arith in
+    c .before .before .put .ensures ∙ rw k (sets-over (a .row .now) (rowAt (a .table .now) (a .t)) (p .2 ∙ sym (part-length (a .table .now) (recordStart (a .t)) rowCells (omega arith))))
 
 pub load-spec : {M : Type 1} → statement M
 load-spec =

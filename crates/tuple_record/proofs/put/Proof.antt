@@ -3,8 +3,8 @@ use Prim.Native.Nat.{_-_}
 use lib.ListN.{length}
 use Rattle.lists.specs.StoreLaws.{Storing, store-none, store-more, store-end}
 use borrow.Author.Needs.{needs}
-use Rattle.row_index.proofs.put.Statement.{statement}
-use Rattle.row_index.proofs.put.Tie as tie
+use Rattle.tuple_record.proofs.put.Statement.{statement}
+use Rattle.tuple_record.proofs.put.Tie as tie
 
 abbrev Inv-loop : tie.InvT-loop
 Inv-loop table₀ at row i₀ table i = Storing table₀ row at table i

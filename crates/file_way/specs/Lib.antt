@@ -1,0 +1,3 @@
+pub mod FileWay
+pub mod Finish
+pub mod FileWayLaws
