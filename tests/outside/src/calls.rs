@@ -4,6 +4,7 @@
 mod arguments;
 mod call;
 mod compare;
+pub mod every_tuple;
 mod facts;
 mod foreign;
 mod lent;
@@ -72,6 +73,9 @@ fn one(b: &mut Bench, r: &mut Random, s: &Scenario, call: Call) {
         }
         if want.meeting.map_or(false, |(sheet, length)| Effect::on(sheet, Some(length)) == Effect::LongerWord) {
             b.refused.insert((call.name(), LONGER));
+        }
+        if let Some(kind) = want.way {
+            b.refused.insert((call.name(), kind));
         }
     }
 }

@@ -1,7 +1,8 @@
 //! The case files of crates/cases, and the lines that the proved library has to answer them with.
 //!
 //! A case file is a line `ROOM` with five digits, then a sheet and a plan as `verdict` reads them. An answer is the case's number, the
-//! verdict, the length and a sum of the listing, and the length and a sum of the sheet written out, or a refusal in the place of each.
+//! verdict, the length and a sum of the listing, of the sheet written out, and of the way to one of the first 16 tuples, by the case's number;
+//! or a refusal in the place of each.
 
 use super::*;
 use expected::{accepted, refusal, split};
@@ -13,12 +14,15 @@ struct Cases {
     all: Vec<(usize, Vec<u8>)>,
 }
 
+/// How many tuples the cases ask the way to, in turn.
+const TUPLES: usize = 16;
+
 /// A sum that tells a text from its neighbours.
 fn sum(text: &[u8]) -> usize {
     text.iter().fold(0, |s, b| (s * 31 + *b as usize) % 65_521)
 }
 
-fn answer(room: usize, input: &[u8]) -> String {
+fn answer(number: usize, room: usize, input: &[u8]) -> String {
     let no = |no: No| refusal(no).trim_end().to_string();
     let counted = |word: &str, text: &[u8]| format!("{word}{:7}{:6}", text.len(), sum(text));
     let (file, _) = split(input);
@@ -26,11 +30,14 @@ fn answer(room: usize, input: &[u8]) -> String {
     let verdict = if in_room { expected::verdict(input, room) } else { Err((1, 0)) };
     let listing = if in_room { expected::listing(file, room) } else { Err((1, 0)) };
     let copy = accepted(file).map(|s| write_sheet(&s, true));
+    let way = if in_room { expected::way(file, room, number % TUPLES) } else { Err((1, 0)) };
+    let word = |letters: Vec<usize>| counted("WAY ", &letters.iter().map(|l| *l as u8).collect::<Vec<_>>());
     format!(
-        "{} {} {}",
+        "{} {} {} {}",
         verdict.map_or_else(no, |x| x.trim_end_matches('\n').to_string()),
         listing.map_or_else(no, |x| counted("LIST", x.as_bytes())),
         copy.map_or_else(no, |x| counted("COPY", &x)),
+        way.map_or_else(no, |x| x.map_or("NONE".to_string(), word)),
     )
 }
 
@@ -387,7 +394,7 @@ pub fn write(folder: &std::path::Path, inputs: &std::path::Path) {
     let mut out = String::new();
     for (i, (room, input)) in c.all.iter().enumerate() {
         std::fs::write(data.join(format!("{i:03}")), [format!("ROOM{room:05}\n").as_bytes(), input].concat()).unwrap();
-        out += &format!("{i:03} {}\n", answer(*room, input));
+        out += &format!("{i:03} {}\n", answer(i, *room, input));
     }
     std::fs::write(folder.join("stdout"), out).unwrap();
     println!("{} cases", c.all.len());

@@ -1,7 +1,7 @@
 //! What the programs have to print.
 
 use crate::sheet::{read_plan, read_sheet, No, Sheet};
-use crate::{product, tuples, walks};
+use crate::{product, tuples, walks, ways};
 
 pub const ROOM: usize = 1024;
 
@@ -22,6 +22,13 @@ pub fn listing(bytes: &[u8], room: usize) -> Result<String, No> {
     let s = accepted(bytes)?;
     let t = tuples::build(&s, room).ok_or((11, 0))?;
     Ok(tuples::listing(&s, &t))
+}
+
+/// The word to a tuple, or None where there is no such tuple.
+pub fn way(bytes: &[u8], room: usize, tuple: usize) -> Result<Option<Vec<usize>>, No> {
+    let s = accepted(bytes)?;
+    let t = tuples::build(&s, room).ok_or((11, 0))?;
+    Ok((tuple < t.tuples.len()).then(|| ways::spelled(&ways::found_from(&t), tuple)))
 }
 
 /// The sheet reaches to the first line that is just END.

@@ -1,9 +1,11 @@
 //! Sheets of many families. Most have no meeting walks, by the way they are made; some are then perturbed.
 
+mod circles;
 mod dead_ends;
 
 use crate::random::Random;
 use crate::sheet::{Plan, Sheet};
+pub use circles::circles;
 pub use dead_ends::with_dead_ends;
 
 fn names(r: &mut Random, k: usize) -> Vec<Vec<u8>> {
@@ -41,6 +43,15 @@ fn empty(r: &mut Random, n: usize, k: usize) -> Sheet {
         names: names(r, k),
         withdrawn: Vec::new(),
     }
+}
+
+/// The numbers below n in any order.
+fn shuffled(r: &mut Random, n: usize) -> Vec<usize> {
+    let mut out: Vec<usize> = (0..n).collect();
+    for i in 1..n {
+        out.swap(i, r.below(i + 1));
+    }
+    out
 }
 
 fn add(s: &mut Sheet, q: usize, l: usize, t: usize) {

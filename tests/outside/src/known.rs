@@ -25,6 +25,68 @@ fn refusals() {
     assert_eq!(walks::shortest_meeting(&read_sheet(meeting.as_bytes()).unwrap()), Some(2));
 }
 
+/// Sheet B's tuples 1, 2 and 3 are found from 0 on a, from 1 on a and from 1 on b.
+#[test]
+fn ways_of_sheet_b() {
+    let s = read_sheet(SHEET_B.as_bytes()).unwrap();
+    let t = tuples::build(&s, ROOM).unwrap();
+    assert_eq!(ways::found_from(&t), [(0, 0), (0, 0), (1, 0), (1, 1)]);
+    assert_eq!(ways::lengths(&t), [0, 1, 2, 2]);
+    let words: [&[usize]; 4] = [&[], &[0], &[0, 0], &[0, 1]];
+    for (i, word) in words.into_iter().enumerate() {
+        assert_eq!(expected::way(SHEET_B.as_bytes(), 4, i), Ok(Some(word.to_vec())));
+        assert_eq!([0, 1, 2, 3].map(|u| ways::leads(&s, &t, word, u)), [0, 1, 2, 3].map(|u| u == i));
+    }
+    // On b the second tuple is entered too, but a comes first.
+    assert!(ways::leads(&s, &t, &[1], 1) && !ways::leads(&s, &t, &[2], 1));
+    assert_eq!(ways::first_words(&t), words);
+    assert_eq!(expected::way(SHEET_B.as_bytes(), 4, 4), Ok(None));
+    assert_eq!(expected::way(SHEET_B.as_bytes(), 3, 0), Err((11, 0)));
+    assert_eq!(expected::way(b"", 4, 0), Err((3, 1)));
+}
+
+/// Shortest words by bettering longer ones against a list of all words, by length and then in alphabetical order, on small sheets.
+#[test]
+fn words_listed() {
+    let (mut compared, mut longest) = (0, 0);
+    for seed in 0..3000 {
+        let mut r = Random::new(seed);
+        let s = match seed % 3 {
+            0 => families::sheet(&mut r, 5),
+            1 => families::with_dead_ends(&mut r, 5),
+            _ => {
+                let (n, k) = (1 + r.below(5), 1 + r.below(2));
+                families::circles(&mut r, n, k)
+            }
+        };
+        if walks::shortest_meeting(&s).is_some() {
+            continue;
+        }
+        let Some(t) = tuples::build(&s, 40) else { continue };
+        let mut found: Vec<Option<Vec<usize>>> = vec![None; t.tuples.len()];
+        let mut all = vec![(Vec::new(), tuples::first(&s))];
+        // Of the others there are too many words.
+        while all.len() <= 5000 && found.contains(&None) {
+            for (word, u) in &all {
+                let i = t.tuples.iter().position(|x| x == u).unwrap();
+                found[i].get_or_insert(word.clone());
+            }
+            all = all.iter().flat_map(|(word, u)| (0..s.k).map(|l| ([&word[..], &[l]].concat(), tuples::step(&s, u, l)))).collect();
+        }
+        if found.contains(&None) {
+            continue;
+        }
+        let found: Vec<Vec<usize>> = found.into_iter().flatten().collect();
+        assert_eq!(ways::lengths(&t), found.iter().map(|word| word.len()).collect::<Vec<_>>());
+        assert_eq!(ways::first_words(&t), found);
+        let from = ways::found_from(&t);
+        (0..found.len()).for_each(|i| assert!(ways::leads(&s, &t, &ways::spelled(&from, i), i)));
+        compared += 1;
+        longest = longest.max(found.iter().map(|word| word.len()).max().unwrap());
+    }
+    assert!(compared > 1000 && longest >= 10, "{compared}, {longest}");
+}
+
 const TWO_TO_ONE: &str = "SHEET  3  1\nN  0 a\nS  0  1  0\nS  1  1  0\nS  2  0  0\nT  0  0  2\nT  1  0  2\nEND\n";
 
 /// States 0 and 1 both move to 2: accepted if 2 stops there, and refused if it has a loop.

@@ -20,6 +20,11 @@ pub fn many_tuples(r: &mut Random) -> Sheet {
     counts::sheet(counts::COUNTS[r.below(counts::COUNTS.len())].0)
 }
 
+/// The sheets with about 1,024 tuples.
+pub fn most_tuples() -> Vec<Sheet> {
+    counts::COUNTS.iter().map(|(seed, _)| counts::sheet(*seed)).collect()
+}
+
 pub fn run(b: &mut Bench) {
     meetings::run(b);
     dead_ends::run(b);

@@ -1,5 +1,6 @@
 //! Tries the proved programs and the library's public calls against programs that share nothing with them: a reader of its own, walks
-//! by counting, verdicts on the product of sheet and plan, tuples by the requirements' text, and Safra's construction.
+//! by counting, verdicts on the product of sheet and plan, tuples by the requirements' text, Safra's construction, and shortest words by
+//! bettering longer ones.
 //!
 //! outside PROGRAMS [COUNT]: PROGRAMS is the folder of the built programs `track`, `verdict` and `rewrite`; COUNT (4,000) is how many
 //! sheets are made, with half as many beside them that have withdrawn letters, and half as many that have dead ends. A line tells how many
@@ -24,6 +25,7 @@ mod safra;
 mod sheet;
 mod tuples;
 mod walks;
+mod ways;
 
 use bench::Bench;
 use effect::Effect;
@@ -125,7 +127,10 @@ fn main() {
     };
     let first_half = |b: &mut Bench| of_seeds(b, 0..count / 2);
     let second_half = |b: &mut Bench| of_seeds(b, count / 2..count);
-    let mut b = Bench::side_by_side(programs, &[&of_limits, &calls::run, &calls::small_sheets::run, &first_half, &second_half]);
+    let mut b = Bench::side_by_side(
+        programs,
+        &[&of_limits, &calls::run, &calls::small_sheets::run, &calls::every_tuple::run, &first_half, &second_half],
+    );
     // Random sheets come upon what harmless dead ends change.
     b.at_least(count / 20, &dead_end_kind(Effect::Accepted, "listing"));
     b.at_least(count / 40, &dead_end_kind(Effect::LongerWord, "listing"));

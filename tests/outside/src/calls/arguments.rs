@@ -1,8 +1,9 @@
 //! The arguments of a call: tables of every length around the limit, filled with rubbish; rooms, letters and names of every kind.
 
 use super::call::Call;
-use super::lent::{Cell, Lent, Tables};
+use super::lent::{Cell, Lent, Tables, NEXTS, SETS, TUPLE, WALK, WORD};
 use super::model::text_from_numbers;
+use super::numbers::Numbers;
 use super::scenario::{respelled, Scenario};
 use crate::random::Random;
 use crate::sheet::write_sheet;
@@ -19,13 +20,14 @@ pub struct Arguments {
     pub letter: usize,
     pub set: u16,
     pub room: usize,
+    pub tuple: usize,
 }
 
 impl std::fmt::Debug for Arguments {
     fn fmt(&self, f: &mut std::fmt::Formatter) -> std::fmt::Result {
         let text = |x: &[u8]| String::from_utf8_lossy(x).into_owned();
         write!(f, "n {}, k {}, sets {:#x} and {:#x}, ", self.n, self.k, self.initial, self.recurring)?;
-        write!(f, "letter {}, set {:#x}, room {}, name {:?}\n", self.letter, self.set, self.room, text(&self.name))?;
+        write!(f, "letter {}, set {:#x}, room {}, tuple {}, name {:?}\n", self.letter, self.set, self.room, self.tuple, text(&self.name))?;
         write!(f, "plan {}file of {} bytes {}", text(&self.plan), self.file.len(), text(&self.file))
     }
 }
@@ -52,7 +54,7 @@ fn no_cells<T: Cell>(r: &mut Random) -> Lent<T> {
 
 /// Rooms around the count of tuples, around 1,024, and those with a product that overflows.
 fn room(r: &mut Random, count: usize) -> usize {
-    const HUGE: [usize; 6] = [usize::MAX, usize::MAX / 17 + 1, usize::MAX / 8 + 1, 1 << 32, (1 << 60) + 4, 65_537];
+    const HUGE: [usize; 6] = [usize::MAX, usize::MAX / TUPLE + 1, usize::MAX / NEXTS + 1, 1 << 32, (1 << 60) + 4, 65_537];
     match r.below(24) {
         0 => 0,
         1 => 1,
@@ -64,6 +66,21 @@ fn room(r: &mut Random, count: usize) -> usize {
         17 => HUGE[r.below(6)],
         18 => 1 + r.below(1024),
         _ => 1 + r.below(1024.min(2 * count)),
+    }
+}
+
+/// Each of the tuples, the last of them, those that come next, and those far off, also with a product or a cut number that is small.
+fn tuple(r: &mut Random, count: usize) -> usize {
+    const FAR: [usize; 7] = [usize::MAX, usize::MAX / TUPLE + 1, 65_535, 65_536, 1 << 32, 1 << 63, 1024];
+    match r.below(24) {
+        0..=2 => 0,
+        3 | 4 => count - 1,
+        5 | 6 => count,
+        7 => count + 1,
+        8 => r.below(1025),
+        9 => FAR[r.below(7)],
+        10 => r.below(count) + [65_536, 1 << 32, usize::MAX / TUPLE + 1][r.below(3)],
+        _ => r.below(count),
     }
 }
 
@@ -148,21 +165,38 @@ pub fn of(r: &mut Random, s: &Scenario, call: Call) -> (Arguments, Tables) {
         letter: letter(r),
         set: r.bits() as u16,
         room,
+        tuple: if call.lends_letters() { tuple(r, count) } else { 0 },
     };
     let rows = |cells: usize| room.wrapping_mul(cells).min(20_000);
     let lent = |r: &mut Random, taken: bool, need: usize| if taken { rubbish(r, need) } else { no_cells(r) };
     let sets = match call {
         _ if call.takes_numbers() => given_sets(r, s),
         Call::Successors => successors_table(r, s),
-        _ => lent(r, call.lends_sets(), 128),
+        _ => lent(r, call.lends_sets(), SETS),
     };
-    let word = lent(r, call.lends_witness(), 136);
-    let one = lent(r, call.lends_witness(), 137);
-    let other = lent(r, call.lends_witness(), 137);
-    let tuples = lent(r, call.lends_room(), rows(17));
-    let nexts = lent(r, call.lends_room(), rows(8));
+    let word = lent(r, call.lends_witness(), WORD);
+    let one = lent(r, call.lends_witness(), WALK);
+    let other = lent(r, call.lends_witness(), WALK);
+    let tuples = lent(r, call.lends_room(), rows(TUPLE));
+    let nexts = lent(r, call.lends_room(), rows(NEXTS));
     let out = if call.writes() || call == Call::Name || call.program().is_some() { out_length(r, call, s) } else { 0 };
     let out = Lent::rubbish(r, out);
     let cells = r.below(9);
-    (a, Tables { sets, word, one, other, tuples, nexts, out, answer: Lent::rubbish(r, cells) })
+    let answer = Lent::rubbish(r, cells);
+    let letters = if call.lends_letters() { rubbish(r, rows(1)) } else { Lent::none() };
+    (a, Tables { sets, word, one, other, tuples, nexts, letters, out, answer })
+}
+
+/// The arguments of a call that asks question 10, with a room for all tuples and every table as long as is asked.
+pub fn exact(r: &mut Random, s: &Scenario, call: Call) -> (Arguments, Tables) {
+    let facts = s.facts(call);
+    let room = if call.lends_room() { facts.tracker.as_ref().map_or(1, |t| t.tuples.len()) } else { 0 };
+    let Numbers { n, k, initial, recurring, .. } = s.numbers;
+    let a = Arguments { file: s.file.clone(), plan: s.plan.clone(), name: Vec::new(), n, k, initial, recurring, letter: 0, set: 0, room, tuple: 0 };
+    let sets = if call.takes_numbers() { Lent::holding(r, &s.numbers.sets) } else { Lent::rubbish(r, SETS) };
+    let (word, one, other) = (Lent::rubbish(r, WORD), Lent::rubbish(r, WALK), Lent::rubbish(r, WALK));
+    let (tuples, nexts) = (Lent::rubbish(r, TUPLE * room), Lent::rubbish(r, NEXTS * room));
+    let letters = if call.lends_letters() { Lent::rubbish(r, room) } else { Lent::none() };
+    let out = Lent::rubbish(r, if call.writes() { facts.listing.len() } else { 0 });
+    (a, Tables { sets, word, one, other, tuples, nexts, letters, out, answer: Lent::rubbish(r, 6) })
 }

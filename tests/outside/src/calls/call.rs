@@ -18,6 +18,7 @@ pub enum Call {
     Track,
     VerdictProgram,
     Rewrite,
+    Way,
 }
 
 use Call::*;
@@ -30,10 +31,16 @@ pub const BY_FILE: u32 = 101;
 pub const HARMLESS: u32 = 102;
 /// Stands for refusal 10 with a word that is longer than one to a dead end.
 pub const LONGER: u32 = 103;
+/// Stands for refusal 1 for the letters' table alone.
+pub const FEW_LETTERS: u32 = 104;
+/// Of a way that is not refused: these stand for no such tuple, a word of no letters and a word of some.
+pub const NO_TUPLE: u32 = 105;
+pub const EMPTY_WORD: u32 = 106;
+pub const SOME_WORD: u32 = 107;
 
-pub const ALL: [Call; 16] = [
+pub const ALL: [Call; 17] = [
     Check, ReadSheet, Write, WriteNumbers, Name, NameNumber, Find, Successors, Build, BuildNumbers, List, ListNumbers, Verdict, Track,
-    VerdictProgram, Rewrite,
+    VerdictProgram, Rewrite, Way,
 ];
 
 impl Call {
@@ -55,6 +62,7 @@ impl Call {
             Track => "call track_output",
             VerdictProgram => "call verdict_output",
             Rewrite => "call rewrite_output",
+            Way => "call way",
         }
     }
 
@@ -65,7 +73,7 @@ impl Call {
 
     /// A table for the successor sets.
     pub fn lends_sets(self) -> bool {
-        matches!(self, ReadSheet | Build | List | Verdict)
+        matches!(self, ReadSheet | Build | List | Verdict | Way)
     }
 
     /// Tables for a word and two walks.
@@ -75,7 +83,12 @@ impl Call {
 
     /// A room, and tables for tuples and next numbers.
     pub fn lends_room(self) -> bool {
-        matches!(self, Build | BuildNumbers | List | ListNumbers | Verdict)
+        matches!(self, Build | BuildNumbers | List | ListNumbers | Verdict | Way)
+    }
+
+    /// A tuple's number, and a table for the letters to it.
+    pub fn lends_letters(self) -> bool {
+        self == Way
     }
 
     /// A buffer for a text whose length is asked last.
@@ -105,6 +118,9 @@ impl Call {
         if self.lends_witness() || self == Rewrite {
             out.push(LONGER);
         }
+        if self.lends_letters() {
+            out.extend([FEW_LETTERS, NO_TUPLE, EMPTY_WORD, SOME_WORD]);
+        }
         out
     }
 
@@ -116,7 +132,7 @@ impl Call {
             Name | Successors => vec![0],
             NameNumber => vec![0, 2, 3, 4, 5, 6, 7, 8, 9, 14, 15, 16],
             Find => (0..=10).chain([14, 15, 16]).collect(),
-            Build | List => (0..=11).chain([15, 16]).collect(),
+            Build | List | Way => (0..=11).chain([15, 16]).collect(),
             BuildNumbers | ListNumbers => vec![0, 1, 4, 7, 8, 10, 11],
             Verdict => (0..=16).collect(),
             Track => [0].into_iter().chain(2..=11).chain([15, 16]).collect(),

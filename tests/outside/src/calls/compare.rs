@@ -52,6 +52,7 @@ fn tables_differ(want: &Tables, got: &Tables) -> Option<String> {
         .or_else(|| differs("other walk", &want.other, &got.other))
         .or_else(|| differs("tuples", &want.tuples, &got.tuples))
         .or_else(|| differs("nexts", &want.nexts, &got.nexts))
+        .or_else(|| differs("letters", &want.letters, &got.letters))
         .or_else(|| differs("out", &want.out, &got.out))
 }
 

@@ -37,6 +37,10 @@ extern "C" {
     fn lunthomi_verdict(sheet: *const u8, sheet_len: usize, plan: *const u8, plan_len: usize, room: usize, table: *mut u16, table_len: usize,
         tuples: *mut u16, tuples_len: usize, nexts: *mut u16, nexts_len: usize,
         word: *mut u16, word_len: usize, one: *mut u16, one_len: usize, other: *mut u16, other_len: usize, answer: *mut usize, answer_len: usize);
+    fn lunthomi_way(sheet: *const u8, sheet_len: usize, room: usize, t: usize, table: *mut u16, table_len: usize,
+        tuples: *mut u16, tuples_len: usize, nexts: *mut u16, nexts_len: usize,
+        word: *mut u16, word_len: usize, one: *mut u16, one_len: usize, other: *mut u16, other_len: usize,
+        letters: *mut u16, letters_len: usize, answer: *mut usize, answer_len: usize);
     fn lunthomi_track_output(input: *const u8, input_len: usize, out: *mut u8, out_len: usize) -> usize;
     fn lunthomi_verdict_output(input: *const u8, input_len: usize, out: *mut u8, out_len: usize) -> usize;
     fn lunthomi_rewrite_output(input: *const u8, input_len: usize, out: *mut u8, out_len: usize) -> usize;
@@ -48,13 +52,14 @@ pub fn call(call: Call, a: &mut Arguments, t: &mut Tables) -> usize {
     let (file, file_len) = (a.file.as_mut_ptr().cast_const(), a.file.len());
     let (plan, plan_len) = (a.plan.as_mut_ptr().cast_const(), a.plan.len());
     let (name, name_len) = (a.name.as_mut_ptr().cast_const(), a.name.len());
-    let Arguments { n, k, initial, recurring, letter, set, room, .. } = *a;
+    let Arguments { n, k, initial, recurring, letter, set, room, tuple, .. } = *a;
     let (sets, sets_len) = (t.sets.inside_mut().as_mut_ptr(), t.sets.len());
     let (word, word_len) = (t.word.inside_mut().as_mut_ptr(), t.word.len());
     let (one, one_len) = (t.one.inside_mut().as_mut_ptr(), t.one.len());
     let (other, other_len) = (t.other.inside_mut().as_mut_ptr(), t.other.len());
     let (tuples, tuples_len) = (t.tuples.inside_mut().as_mut_ptr(), t.tuples.len());
     let (nexts, nexts_len) = (t.nexts.inside_mut().as_mut_ptr(), t.nexts.len());
+    let (letters, letters_len) = (t.letters.inside_mut().as_mut_ptr(), t.letters.len());
     let (out, out_len) = (t.out.inside_mut().as_mut_ptr(), t.out.len());
     let (answer, answer_len) = (t.answer.inside_mut().as_mut_ptr(), t.answer.len());
     // SAFETY: each pointer is that of a slice of the length beside it; no two slices overlap, and all live until the call is over.
@@ -83,6 +88,8 @@ pub fn call(call: Call, a: &mut Arguments, t: &mut Tables) -> usize {
                 word, word_len, one, one_len, other, other_len, out, out_len, answer, answer_len),
             Call::Verdict => lunthomi_verdict(file, file_len, plan, plan_len, room, sets, sets_len, tuples, tuples_len, nexts, nexts_len,
                 word, word_len, one, one_len, other, other_len, answer, answer_len),
+            Call::Way => lunthomi_way(file, file_len, room, tuple, sets, sets_len, tuples, tuples_len, nexts, nexts_len,
+                word, word_len, one, one_len, other, other_len, letters, letters_len, answer, answer_len),
             Call::Track => return lunthomi_track_output(file, file_len, out, out_len),
             Call::VerdictProgram => return lunthomi_verdict_output(file, file_len, out, out_len),
             Call::Rewrite => return lunthomi_rewrite_output(file, file_len, out, out_len),

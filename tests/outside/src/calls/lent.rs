@@ -36,6 +36,11 @@ impl<T: Cell> Lent<T> {
         Lent((0..length + 2 * GUARD).map(|_| next()).collect())
     }
 
+    /// No cells.
+    pub fn none() -> Self {
+        Lent(vec![T::from_bits(1); 2 * GUARD])
+    }
+
     /// A table that holds something, between guards of rubbish.
     pub fn holding(r: &mut Random, content: &[T]) -> Self {
         let mut t = Lent::rubbish(r, content.len());
@@ -69,6 +74,17 @@ impl<T: Cell> Lent<T> {
     }
 }
 
+/// How many cells question 1 asks for: the successor sets, the word and the walks of a witness, and for each tuple its next numbers and its own.
+pub const SETS: usize = 128;
+pub const WORD: usize = 136;
+pub const WALK: usize = 137;
+pub const NEXTS: usize = 8;
+pub const TUPLE: usize = 19;
+/// Behind a tuple's 16 sets: its colour, and the tuple and the letter that it was first found from.
+pub const COLOUR: usize = 16;
+pub const FROM: usize = 17;
+pub const BY: usize = 18;
+
 /// Every table that a call may be lent; those that it does not take have no cells.
 #[derive(Clone, PartialEq)]
 pub struct Tables {
@@ -78,13 +94,14 @@ pub struct Tables {
     pub other: Lent<u16>,
     pub tuples: Lent<u16>,
     pub nexts: Lent<u16>,
+    pub letters: Lent<u16>,
     pub out: Lent<u8>,
     pub answer: Lent<usize>,
 }
 
 impl Tables {
     pub fn clear(&mut self) {
-        for table in [&mut self.sets, &mut self.word, &mut self.one, &mut self.other, &mut self.tuples, &mut self.nexts] {
+        for table in [&mut self.sets, &mut self.word, &mut self.one, &mut self.other, &mut self.tuples, &mut self.nexts, &mut self.letters] {
             table.clear();
         }
         self.out.clear();
@@ -92,13 +109,14 @@ impl Tables {
 
     pub fn lengths(&self) -> String {
         format!(
-            "lengths: sets {}, word {}, walks {} and {}, tuples {}, nexts {}, out {}, answer {}",
+            "lengths: sets {}, word {}, walks {} and {}, tuples {}, nexts {}, letters {}, out {}, answer {}",
             self.sets.len(),
             self.word.len(),
             self.one.len(),
             self.other.len(),
             self.tuples.len(),
             self.nexts.len(),
+            self.letters.len(),
             self.out.len(),
             self.answer.len()
         )

@@ -1,14 +1,15 @@
 //! What each call answers, and what every table holds then: the questions in their order, by the requirements' text.
 
 use super::arguments::Arguments;
-use super::call::Call;
+use super::call::{Call, EMPTY_WORD, FEW_LETTERS, NO_TUPLE, SOME_WORD};
 use super::facts::Refusal;
-use super::lent::Tables;
+use super::lent::{Tables, BY, COLOUR, FROM, NEXTS, SETS, TUPLE, WALK, WORD};
 use super::numbers::{mask, Numbers};
 use super::scenario::{print, Scenario};
 use crate::expected::ROOM;
 use crate::sheet::{characters, read_plan, write_sheet, No, Sheet};
 use crate::tuples::{self, Tracker};
+use crate::ways;
 
 pub struct Want<'a> {
     pub tables: Tables,
@@ -22,10 +23,12 @@ pub struct Want<'a> {
     pub meeting: Option<(&'a Sheet, usize)>,
     /// Do the word and the walks stand in the buffer, as `rewrite` prints them?
     pub printed: bool,
+    /// What kind of answer it is to a way that is asked for.
+    pub way: Option<u32>,
 }
 
 pub fn want<'a>(call: Call, s: &'a Scenario, a: &Arguments, before: &Tables) -> Want<'a> {
-    let mut w = Want { tables: before.clone(), returned: 0, number: 0, late: false, by_file: false, meeting: None, printed: false };
+    let mut w = Want { tables: before.clone(), returned: 0, number: 0, late: false, by_file: false, meeting: None, printed: false, way: None };
     match call {
         Call::Successors => w.returned = successors(before.sets.inside(), a.letter, a.set) as usize,
         Call::Name | Call::NameNumber => about_a_letter(call, s, a, &mut w),
@@ -81,12 +84,16 @@ fn program<'a>(call: Call, s: &'a Scenario, w: &mut Want<'a>) {
     }
 }
 
-/// Question 1, as far as it is asked first.
+/// Question 1, as far as it is asked first, but for the letters.
 fn long_enough(call: Call, a: &Arguments, t: &Tables) -> bool {
-    let sets = !(call.lends_sets() || call.takes_numbers()) || t.sets.len() >= 128;
-    let witness = t.word.len() >= 136 && t.one.len() >= 137 && t.other.len() >= 137;
-    let room = !call.lends_room() || (1..=1024).contains(&a.room) && t.tuples.len() >= 17 * a.room && t.nexts.len() >= 8 * a.room;
+    let sets = !(call.lends_sets() || call.takes_numbers()) || t.sets.len() >= SETS;
+    let witness = t.word.len() >= WORD && t.one.len() >= WALK && t.other.len() >= WALK;
+    let room = !call.lends_room() || (1..=1024).contains(&a.room) && t.tuples.len() >= TUPLE * a.room && t.nexts.len() >= NEXTS * a.room;
     sets && witness && room
+}
+
+fn enough_letters(call: Call, a: &Arguments, t: &Tables) -> bool {
+    !call.lends_letters() || t.letters.len() >= a.room
 }
 
 /// What a call gives that refuses nothing.
@@ -96,6 +103,8 @@ struct Done<'a> {
     sheet: Option<&'a Sheet>,
     tracker: Option<&'a Tracker>,
     text: Vec<u8>,
+    /// The letters to a tuple, where there is such a tuple.
+    letters: Option<Vec<u16>>,
 }
 
 /// The sheet written from the numbers with the names and the withdrawals of the file, where both are accepted.
@@ -149,6 +158,12 @@ fn questions<'a>(call: Call, s: &'a Scenario, a: &Arguments, t: &Tables) -> Resu
             let (yes, least, passes) = tuples::verdict(done.tracker.unwrap(), &plan);
             done.cells = vec![if yes { 1 } else { 2 }, least, passes];
         }
+        Call::Way => {
+            let t = done.tracker.unwrap();
+            let there = a.tuple < t.tuples.len();
+            done.letters = there.then(|| ways::spelled(&ways::found_from(t), a.tuple).iter().map(|l| *l as u16).collect());
+            done.cells = done.letters.as_ref().map_or(vec![2], |word| vec![1, word.len()]);
+        }
         _ => {}
     }
     if call.writes() {
@@ -166,7 +181,9 @@ fn questions<'a>(call: Call, s: &'a Scenario, a: &Arguments, t: &Tables) -> Resu
 }
 
 fn whole_sheet<'a>(call: Call, s: &'a Scenario, a: &Arguments, w: &mut Want<'a>) {
-    if !long_enough(call, a, &w.tables) {
+    let (enough, letters) = (long_enough(call, a, &w.tables), enough_letters(call, a, &w.tables));
+    if !enough || !letters {
+        w.way = enough.then_some(FEW_LETTERS);
         w.number = 1;
         w.tables.answer.set(&[0, 1, 0, 0]);
         return;
@@ -192,6 +209,8 @@ fn whole_sheet<'a>(call: Call, s: &'a Scenario, a: &Arguments, w: &mut Want<'a>)
         Ok(done) => {
             w.tables.answer.set(&done.cells);
             w.tables.out.set(&done.text);
+            w.tables.letters.set(done.letters.as_deref().unwrap_or(&[]));
+            w.way = call.lends_letters().then(|| done.letters.map_or(NO_TUPLE, |x| if x.is_empty() { EMPTY_WORD } else { SOME_WORD }));
             if call.lends_sets() {
                 w.tables.sets.set(&Numbers::of(done.sheet.unwrap()).sets);
             }
@@ -202,16 +221,19 @@ fn whole_sheet<'a>(call: Call, s: &'a Scenario, a: &Arguments, w: &mut Want<'a>)
     }
 }
 
-/// Tuple t in numbers 17t to 17t+16, its nexts from 8t on.
+/// Tuple t in numbers 19t to 19t+18, its nexts from 8t on.
 fn put_tracker(t: &Tracker, tables: &mut Tables) {
     let (tuples, nexts) = (tables.tuples.inside_mut(), tables.nexts.inside_mut());
+    let from = ways::found_from(t);
     for (i, u) in t.tuples.iter().enumerate() {
         for (p, set) in u.sets.iter().enumerate() {
-            tuples[17 * i + p] = mask(set.iter().copied());
+            tuples[TUPLE * i + p] = mask(set.iter().copied());
         }
-        tuples[17 * i + 16] = u.colour as u16;
+        tuples[TUPLE * i + COLOUR] = u.colour as u16;
+        tuples[TUPLE * i + FROM] = from[i].0 as u16;
+        tuples[TUPLE * i + BY] = from[i].1 as u16;
         for (l, to) in t.next[i].iter().enumerate() {
-            nexts[8 * i + l] = *to as u16;
+            nexts[NEXTS * i + l] = *to as u16;
         }
     }
 }

@@ -1,12 +1,13 @@
 //! Every sheet of two states and two letters and every sheet of three states and one letter through the calls: question 10 with its witness,
-//! the listing, and the verdict on short plans, which is held to the product of sheet and plan too. Of the sheets of three states and two
-//! letters and of four states and one letter question 10 alone: in the former a state goes on by another letter than the one that it is met on,
-//! and the latter are the smallest in which a dead end makes the word longer.
+//! the listing, the way to every tuple, and the verdict on short plans, which is held to the product of sheet and plan too. Of the sheets of
+//! three states and two letters and of four states and one letter question 10 alone: in the former a state goes on by another letter than the
+//! one that it is met on, and the latter are the smallest in which a dead end makes the word longer.
 
-use super::arguments::Arguments;
+use super::arguments;
 use super::call::Call;
 use super::compared;
-use super::lent::{Lent, Tables};
+use super::every_tuple;
+use super::lent::Tables;
 use super::numbers::Numbers;
 use super::scenario::Scenario;
 use crate::bench::Bench;
@@ -39,21 +40,8 @@ fn plans(k: usize) -> Vec<Plan> {
     leads.iter().flat_map(|lead| cycles.iter().map(|cycle| Plan { lead: lead.clone(), cycle: cycle.clone() })).collect()
 }
 
-/// The arguments of a call that asks question 10, with a room for all tuples and every table as long as is asked.
-fn exact(r: &mut Random, s: &Scenario, call: Call) -> (Arguments, Tables) {
-    let facts = s.facts(call);
-    let room = if call.lends_room() { facts.tracker.as_ref().map_or(1, |t| t.tuples.len()) } else { 0 };
-    let Numbers { n, k, initial, recurring, .. } = s.numbers;
-    let a = Arguments { file: s.file.clone(), plan: s.plan.clone(), name: Vec::new(), n, k, initial, recurring, letter: 0, set: 0, room };
-    let sets = if call.takes_numbers() { Lent::holding(r, &s.numbers.sets) } else { Lent::rubbish(r, 128) };
-    let (word, one, other) = (Lent::rubbish(r, 136), Lent::rubbish(r, 137), Lent::rubbish(r, 137));
-    let (tuples, nexts) = (Lent::rubbish(r, 17 * room), Lent::rubbish(r, 8 * room));
-    let out = Lent::rubbish(r, if call.writes() { facts.listing.len() } else { 0 });
-    (a, Tables { sets, word, one, other, tuples, nexts, out, answer: Lent::rubbish(r, 6) })
-}
-
 fn tried(b: &mut Bench, r: &mut Random, what: &str, s: &Scenario, call: Call) -> Tables {
-    let (a, before) = exact(r, s, call);
+    let (a, before) = arguments::exact(r, s, call);
     compared(b, what, s, call, a, before).1
 }
 
@@ -71,6 +59,7 @@ fn whole(b: &mut Bench, n: usize, k: usize) {
         let effect = s.of_numbers.effect;
         tried(b, &mut r, &kind(n, k, effect, "check"), &s, Call::Check);
         tried(b, &mut r, &kind(n, k, effect, "listing"), &s, Call::ListNumbers);
+        every_tuple::through(b, &mut r, &kind(n, k, effect, "ways"), &s);
         // A refused sheet gives the same answer for every plan.
         let count = if s.of_file.meeting.is_some() { 1 } else { plans.len() };
         for plan in &plans[..count] {

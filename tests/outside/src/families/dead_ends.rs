@@ -1,7 +1,7 @@
 //! Sheets with dead ends, alone and in chains: in most of them walks come together there, and in some also in a state that goes on, often
 //! on a longer word.
 
-use super::{add, of_size, perturbed};
+use super::{add, of_size, perturbed, shuffled};
 use crate::cases::longest_word;
 use crate::random::Random;
 use crate::sheet::Sheet;
@@ -70,10 +70,7 @@ fn entrance(r: &mut Random, s: &Sheet) -> usize {
 
 /// The same sheet with its states in another order, so that dead ends stand anywhere.
 fn renumbered(r: &mut Random, s: &Sheet) -> Sheet {
-    let mut place: Vec<usize> = (0..s.n).collect();
-    for i in 1..s.n {
-        place.swap(i, r.below(i + 1));
-    }
+    let place = shuffled(r, s.n);
     let mut out = s.clone();
     for q in 0..s.n {
         out.initial[place[q]] = s.initial[q];
