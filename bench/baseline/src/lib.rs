@@ -25,11 +25,15 @@ impl Hasher for Mix {
 }
 
 pub struct Sheet {
+    /// Are transitions marked (SHT-2), or must states recur (SHEET)?
+    pub marked: bool,
     pub n: usize,
     pub k: usize,
     pub initial: u16,
     pub recurring: u16,
     pub next: [u16; 128],
+    /// The marked ones among the successors.
+    pub marks: [u16; 128],
     pub names: Vec<Vec<u8>>,
     /// The letter that finally stands for each letter.
     pub standing: [usize; 8],
@@ -90,12 +94,17 @@ fn composed(name: &[u8]) -> Option<Vec<u8>> {
 }
 
 pub fn read_sheet(s: &[u8]) -> Result<Sheet, No> {
-    if s.len() > 24_576 {
+    if s.len() > 32_768 {
         return Err((2, 0));
     }
-    if s.len() < 12 || &s[..5] != b"SHEET" || s[11] != b'\n' {
+    if s.len() < 12 || s[11] != b'\n' {
         return Err((3, 1));
     }
+    let marked = match &s[..5] {
+        b"SHEET" => false,
+        b"SHT-2" => true,
+        _ => return Err((3, 1)),
+    };
     let (n, k) = (number(&s[5..8]).ok_or((3, 1))?, number(&s[8..11]).ok_or((3, 1))?);
     if n < 1 || n > 16 || k < 1 || k > 8 {
         return Err((4, 1));
@@ -136,36 +145,40 @@ pub fn read_sheet(s: &[u8]) -> Result<Sheet, No> {
         standing[l] = if by[l] == 0 { l } else { standing[by[l]] };
     }
     let (mut initial, mut recurring) = (0u16, 0u16);
+    let (state, transition) = if marked { (8, 14) } else { (11, 11) };
     for q in 0..n {
-        let good = s.len() >= at + 11 && s[at] == b'S' && s[at + 10] == b'\n' && number(&s[at + 1..at + 4]) == Some(q);
-        match (good, good.then(|| number(&s[at + 4..at + 7])).flatten(), good.then(|| number(&s[at + 7..at + 10])).flatten()) {
+        let good = s.len() >= at + state && s[at] == b'S' && s[at + state - 1] == b'\n' && number(&s[at + 1..at + 4]) == Some(q);
+        let third = |good: bool| if marked { Some(0) } else { good.then(|| number(&s[at + 7..at + 10])).flatten() };
+        match (good, good.then(|| number(&s[at + 4..at + 7])).flatten(), third(good)) {
             (true, Some(i @ 0..=1), Some(m @ 0..=1)) => {
                 initial |= (i as u16) << q;
                 recurring |= (m as u16) << q;
             }
             _ => return Err((7, line)),
         }
-        at += 11;
+        at += state;
         line += 1;
     }
-    let mut next = [0u16; 128];
+    let (mut next, mut marks) = ([0u16; 128], [0u16; 128]);
     let mut least = 0;
     while at < s.len() && s[at] == b'T' {
-        if s.len() < at + 11 || s[at + 10] != b'\n' {
+        if s.len() < at + transition || s[at + transition - 1] != b'\n' {
             return Err((8, line));
         }
         let part = |a: usize| number(&s[at + a..at + a + 3]).ok_or((8, line));
         let (q, l, r) = (part(1)?, part(4)?, part(7)?);
         let place = (8 * q + l) * 16 + r;
-        if q >= n || l >= k || r >= n || place < least {
+        let mark = if marked { part(10)? } else { 0 };
+        if q >= n || l >= k || r >= n || place < least || mark > 1 {
             return Err((8, line));
         }
         if by[l] != 0 {
             return Err((16, line));
         }
         next[8 * q + l] |= 1 << r;
+        marks[8 * q + l] |= (mark as u16) << r;
         least = place + 1;
-        at += 11;
+        at += transition;
         line += 1;
     }
     if !s[at..].starts_with(b"END\n") {
@@ -174,7 +187,7 @@ pub fn read_sheet(s: &[u8]) -> Result<Sheet, No> {
     if s.len() > at + 4 {
         return Err((9, line + 1));
     }
-    Ok(Sheet { n, k, initial, recurring, next, names, standing })
+    Ok(Sheet { marked, n, k, initial, recurring, next, marks, names, standing })
 }
 
 /// The states from which transitions go on without end: the others fall away, those first that have no successor left.
@@ -241,12 +254,12 @@ pub fn meets(s: &Sheet) -> bool {
     }
 }
 
-fn successors(s: &Sheet, mut set: u16, l: usize) -> u16 {
+fn successors(table: &[u16; 128], mut set: u16, l: usize) -> u16 {
     let mut out = 0;
     while set != 0 {
         let q = set.trailing_zeros() as usize;
         set &= set - 1;
-        out |= s.next[8 * q + l];
+        out |= table[8 * q + l];
     }
     out
 }
@@ -255,9 +268,9 @@ pub fn step(s: &Sheet, u: &Row, l: usize) -> Row {
     let p = u[..16].iter().position(|x| *x == 0).unwrap_or(16);
     let mut w = [0u16; 17];
     for i in 0..p {
-        w[i] = successors(s, u[i], l);
+        w[i] = successors(&s.next, u[i], l);
     }
-    w[p] = successors(s, u[0], l) & s.recurring;
+    w[p] = if s.marked { successors(&s.marks, u[0], l) } else { successors(&s.next, u[0], l) & s.recurring };
     let mut colour = 2 * s.n as u16 + 1;
     for i in 0..=p {
         let x = w[i];
@@ -418,7 +431,7 @@ pub fn verdict(input: &[u8], room: usize) -> Result<(u16, usize), No> {
         }
     }
     let (sheet, plan) = input.split_at(end);
-    if sheet.len() > 24_576 || plan.len() > 12_288 {
+    if sheet.len() > 32_768 || plan.len() > 12_288 {
         return Err((2, 0));
     }
     let (s, t) = tracker(sheet, room)?;

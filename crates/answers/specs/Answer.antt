@@ -2,8 +2,12 @@
 use Prim.Native.Nat.{ℕ}
 use mathlib.Core.Path.{_≡_}
 use mathlib.Core.List.{List, [], _∷_}
+use lib.Dec.{eqb}
+use Rattle.lists.specs.Choice.{choose}
 use Rattle.cells.specs.Cells.{into, refusalCells}
 use Rattle.automaton.specs.Automaton.{Automaton}
+use Rattle.automaton.specs.declared.Edition.{Edition}
+use Rattle.automaton.specs.declared.Edition.the-variants.{StateBased, TransitionBased}
 use Rattle.automaton.specs.declared.Numbers.{Numbers}
 use Rattle.walks.specs.declared.Checked.{Checked}
 use Rattle.walks.specs.declared.Checked.the-variants.{Refused as CheckRefused, Accepted}
@@ -21,9 +25,19 @@ use Rattle.passes.specs.declared.Answer.the-variants.{Yes, No}
 use Rattle.plan_verdict.specs.declared.Outcome.{Outcome}
 use Rattle.plan_verdict.specs.declared.Outcome.the-variants.{Refused as JudgeRefused, Judged}
 
+-- an edition in a number: 1 for SHEET, 2 for SHT-2
+abbrev pub editionCell : Edition → ℕ
+editionCell StateBased = 1
+editionCell TransitionBased = 2
+
+-- the edition that an argument names: 2 is SHT-2, every other number SHEET
+abbrev pub editionNumbered : ℕ → Edition
+editionNumbered e = choose (eqb e 2) TransitionBased StateBased
+
 -- a sheet as numbers, from a call's arguments
-abbrev pub asNumbers : ℕ → ℕ → ℕ → ℕ → List ℕ → Automaton
-asNumbers n k initial recurring table = record { n = n; k = k; initial = initial; recurring = recurring; table = table }
+abbrev pub asNumbers : Edition → ℕ → ℕ → ℕ → ℕ → List ℕ → List ℕ → Automaton
+asNumbers e n k initial recurring table marks =
+    record { edition = e; n = n; k = k; initial = initial; recurring = recurring; table = table; marks = marks }
 
 -- THE CELLS OF EACH ANSWER. As with a written text, the first cell tells the case, and 0 is a refusal.
 
@@ -32,7 +46,7 @@ checkedCells (CheckRefused r) = refusalCells r
 checkedCells Accepted = 1 ∷ []
 
 abbrev pub sheetCells : Numbers → List ℕ
-sheetCells a = a .n ∷ a .k ∷ a .initial ∷ a .recurring ∷ []
+sheetCells a = editionCell (a .edition) ∷ a .n ∷ a .k ∷ a .initial ∷ a .recurring ∷ []
 
 abbrev pub readCells : Read → List ℕ
 readCells (ReadRefused r) = refusalCells r
@@ -44,7 +58,7 @@ foundCells (Letter l) = 1 ∷ l ∷ []
 
 abbrev pub builtCells : Built → List ℕ
 builtCells (BuildRefused r) = refusalCells r
-builtCells (BuildIs x) = 1 ∷ x .numbers .n ∷ x .numbers .k ∷ x .numbers .initial ∷ x .numbers .recurring ∷ x .tuples ∷ []
+builtCells (BuildIs x) = 1 ∷ editionCell (x .numbers .edition) ∷ x .numbers .n ∷ x .numbers .k ∷ x .numbers .initial ∷ x .numbers .recurring ∷ x .tuples ∷ []
 
 -- the way to a tuple: 1 and the word's length, or 2 where there is no such tuple
 abbrev pub wayCells : Way → List ℕ

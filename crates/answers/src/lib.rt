@@ -1,7 +1,8 @@
 // The answers of the public calls in numbers: each by its cells, in a lent table.
 ghost use mathlib.Core.Path.{_≡_};
 ghost use Rattle.cells.specs.Cells.{into};
-ghost use Rattle.answers.specs.Answer.{checkedCells, readCells, foundCells, builtCells, wayCells, answerCell, outcomeCells};
+ghost use Rattle.answers.specs.Answer.{editionCell, editionNumbered, checkedCells, readCells, foundCells, builtCells, wayCells, answerCell, outcomeCells};
+use automaton::Edition;
 use file_way::Way;
 use letter_search::Found;
 use passes::Answer;
@@ -9,6 +10,26 @@ use plan_verdict::Outcome;
 use reading::Read;
 use tracker::Built;
 use walks::Checked;
+
+// 1 for SHEET, 2 for SHT-2.
+fn edition_cell(edition: Edition) -> usize
+    ensures { λ r. ⌜ r ≡ editionCell edition ⌝ }
+{
+    match edition {
+        Edition::StateBased => 1,
+        Edition::TransitionBased => 2,
+    }
+}
+
+// The edition that a number names.
+pub fn edition_of(number: usize) -> Edition
+    ensures { λ r. ⌜ r ≡ editionNumbered number ⌝ }
+{
+    if number == 2 {
+        return Edition::TransitionBased;
+    }
+    Edition::StateBased
+}
 
 // What a check answers.
 pub fn put_checked(r: Checked, answer: &mut [usize])
@@ -30,7 +51,15 @@ pub fn put_read(r: Read, answer: &mut [usize])
     match r {
         Read::Refused(x) => cells::put_refused(x, answer),
         Read::Is(a) => {
-            let cells = [1, a.n, a.k, a.initial as usize, a.recurring as usize];
+            let edition = a.edition;
+            let cells = [
+                1,
+                edition_cell(edition),
+                a.n,
+                a.k,
+                a.initial as usize,
+                a.recurring as usize,
+            ];
             cells::copy_numbers(&cells, answer);
         }
     }
@@ -57,8 +86,10 @@ pub fn put_built(r: Built, answer: &mut [usize])
         Built::Refused(x) => cells::put_refused(x, answer),
         Built::Is(x) => {
             let a = x.numbers;
+            let edition = a.edition;
             let cells = [
                 1,
+                edition_cell(edition),
                 a.n,
                 a.k,
                 a.initial as usize,

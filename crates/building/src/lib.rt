@@ -1,6 +1,7 @@
 // Building the tracker of a sheet file in lent tables that are long enough: its questions, its successor sets, and every tuple that some word reaches.
 ghost use Prim.Native.Nat.{_≤_};
 ghost use lib.ListN.{length};
+ghost use Rattle.automaton.specs.Automaton.{transitionSets};
 ghost use Rattle.lent.specs.Lent.{witnessTables};
 ghost use Rattle.filling.specs.TrackerTables.{trackerTables};
 ghost use Rattle.tracker.specs.Build.{buildTables, EnoughToBuild};
@@ -14,6 +15,7 @@ pub fn build_long(
     sheet: &[u8],
     room: usize,
     table: &mut [u16],
+    marks: &mut [u16],
     rows: &mut [u8],
     tuples: &mut [u16],
     nexts: &mut [u16],
@@ -21,21 +23,21 @@ pub fn build_long(
     one: &mut [u16],
     other: &mut [u16],
 ) -> Built
-    requires { ⌜ EnoughToBuild room (buildTables (now table) (witnessTables (now word) (now one) (now other)) (trackerTables (now tuples) (now nexts))) × (224 ≤ length (now rows)) ⌝ }
+    requires { ⌜ EnoughToBuild room (buildTables (transitionSets (now table) (now marks)) (witnessTables (now word) (now one) (now other)) (trackerTables (now tuples) (now nexts))) × (224 ≤ length (now rows)) ⌝ }
     ensures { λ r. ⌜ BuildsNamed (now (sheet .entry)) room
-        (buildTables (now (table .entry)) (witnessTables (now (word .entry)) (now (one .entry)) (now (other .entry))) (trackerTables (now (tuples .entry)) (now (nexts .entry))))
-        (buildTables (now (table .exit)) (witnessTables (now (word .exit)) (now (one .exit)) (now (other .exit))) (trackerTables (now (tuples .exit)) (now (nexts .exit))))
+        (buildTables (transitionSets (now (table .entry)) (now (marks .entry))) (witnessTables (now (word .entry)) (now (one .entry)) (now (other .entry))) (trackerTables (now (tuples .entry)) (now (nexts .entry))))
+        (buildTables (transitionSets (now (table .exit)) (now (marks .exit))) (witnessTables (now (word .exit)) (now (one .exit)) (now (other .exit))) (trackerTables (now (tuples .exit)) (now (nexts .exit))))
         (now (rows .entry)) (now (rows .exit)) r ⌝ }
 {
-    match read_long(sheet, table, rows, word, one, other) {
+    match read_long(sheet, table, marks, rows, word, one, other) {
         Read::Refused(r) => {
             filling::clear(tuples, nexts);
             Built::Refused(r)
         }
         Read::Is(a) => {
-            let built = tracker::track(a, &table[..128], room, tuples, nexts);
+            let built = tracker::track(a, &table[..128], &marks[..128], room, tuples, nexts);
             if let Built::Refused(_) = built {
-                gate::clear(table);
+                lent::clear_sets(table, marks);
                 gate::clear_bytes(rows);
             }
             built

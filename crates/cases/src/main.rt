@@ -75,6 +75,7 @@ fn say_word(letters: &[u16], n: usize) {
 
 fn say_listing(sheet: &[u8], room: usize) {
     let mut table = [0u16; 128];
+    let mut marks = [0u16; 128];
     let mut tuples = [0u16; 1024 * tuple_record::RECORD];
     let mut nexts = [0u16; 8192];
     let mut word = [0u16; 136];
@@ -85,6 +86,7 @@ fn say_listing(sheet: &[u8], room: usize) {
         sheet,
         room,
         &mut table,
+        &mut marks,
         &mut tuples,
         &mut nexts,
         &mut word,
@@ -101,7 +103,7 @@ fn say_copy(sheet: &[u8]) {
     let mut word = [0u16; 136];
     let mut one = [0u16; 137];
     let mut other = [0u16; 137];
-    let mut out = [0u8; 24576];
+    let mut out = [0u8; 32768];
     match file_writer::write(sheet, &mut word, &mut one, &mut other, &mut out) {
         Written::Bytes(n) => say_text(b"COPY", &out, n),
         Written::Refused(r) => say_line(report::refusal_line(r)),
@@ -110,6 +112,7 @@ fn say_copy(sheet: &[u8]) {
 
 fn say_way(sheet: &[u8], room: usize, t: usize) {
     let mut table = [0u16; 128];
+    let mut marks = [0u16; 128];
     let mut tuples = [0u16; 1024 * tuple_record::RECORD];
     let mut nexts = [0u16; 8192];
     let mut word = [0u16; 136];
@@ -121,6 +124,7 @@ fn say_way(sheet: &[u8], room: usize, t: usize) {
         room,
         t,
         &mut table,
+        &mut marks,
         &mut tuples,
         &mut nexts,
         &mut word,
@@ -136,6 +140,7 @@ fn say_way(sheet: &[u8], room: usize, t: usize) {
 
 fn say_judgement(sheet: &[u8], plan: &[u8], room: usize) {
     let mut table = [0u16; 128];
+    let mut marks = [0u16; 128];
     let mut tuples = [0u16; 1024 * tuple_record::RECORD];
     let mut nexts = [0u16; 8192];
     let mut word = [0u16; 136];
@@ -146,6 +151,7 @@ fn say_judgement(sheet: &[u8], plan: &[u8], room: usize) {
         plan,
         room,
         &mut table,
+        &mut marks,
         &mut tuples,
         &mut nexts,
         &mut word,

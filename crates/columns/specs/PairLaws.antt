@@ -90,6 +90,21 @@ module _ (s : List ℕ) (at kind : ℕ) where
   unfolding column
   three-is a b c z first one two = kind-is (a ∷ b ∷ c ∷ []) z first (one, rw p4 (pair-is s (at + 4) b c two))
 
+  -- four, read as two numbers and two
+  p7 : at + 4 + 3 ≡ at + 7
+  p7 = omega arith
+
+  pub four-of : (a b c d : ℕ) (rest : List ℕ) → Narrow (a ∷ b ∷ c ∷ d ∷ []) → drop at s ≡ line (a ∷ b ∷ c ∷ d ∷ []) ++ rest
+      → (getD s at 0 ≡ kind) × (numberAt s (at + 1) ≡ N.Is a) × (numberAt s (at + 4) ≡ N.Is b) × (pairAt s (at + 7) ≡ Are c d)
+  four-of a b c d rest h e =
+      let (first, (one, (two, last))) = kind-of (a ∷ b ∷ c ∷ d ∷ []) rest h e in
+      (first, one, rw p4 at two, pair-of s (at + 7) c d (rw (p4, p7) at last))
+
+  pub four-is : (a b c d : ℕ) → noZero (kind ∷ []) ≡ true → getD s at 0 ≡ kind → numberAt s (at + 1) ≡ N.Is a → numberAt s (at + 4) ≡ N.Is b
+      → pairAt s (at + 7) ≡ Are c d → drop at s ≡ line (a ∷ b ∷ c ∷ d ∷ []) ++ drop (at + 14) s
+  unfolding column
+  four-is a b c d z first one two last = kind-is (a ∷ b ∷ c ∷ d ∷ []) z first (one, (rw p4 two, rw (p4, p7) (pair-is s (at + 7) c d last)))
+
 -- A FIRST LINE: a word and two numbers
 module _ (s word : List ℕ) where
   abbrev first : ℕ → ℕ → List ℕ

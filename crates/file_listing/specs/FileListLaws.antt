@@ -2,11 +2,11 @@
 use Prim.Native.Nat.{ℕ}
 use mathlib.Core.Path.{_≡_, sym, subst, _∙_}
 use mathlib.Core.List.{List}
-use lib.ListN.{length, replicate}
-use Rattle.gate.specs.Gate.{refusal, cleared, RefusedWith}
+use Rattle.gate.specs.Gate.{refusal, RefusedWith}
 use Rattle.gate.specs.GateLaws.{refused-first}
 use Rattle.gate.specs.declared.Refusal.{Refusal}
-use Rattle.lent.specs.Lent.{clearedWitness}
+use Rattle.automaton.specs.Automaton.{TransitionSets}
+use Rattle.lent.specs.Lent.{clearedWitness, clearedSets}
 use Rattle.format.specs.Numbers.{numbers}
 use Rattle.format.specs.NumbersLaws.{sheet-fits}
 use Rattle.reading.specs.ReadLaws.{refuses-number}
@@ -27,12 +27,12 @@ use Rattle.listing.specs.Finish.{Finishes}
 
 -- WHAT IS LEFT of the tables that building gave, from what the last question leaves of the tracker's. The buffer was old and is new.
 
-left-file : (before built : BuildTables) (successors : List ℕ) (tracker : TrackerTables) (l : Written) → built .witness ≡ clearedWitness (before .witness)
-    → clearedTracker (built .tracker) ≡ clearedTracker (before .tracker) → Left (cleared (before .successors)) (built .successors) successors l
+left-file : (before built : BuildTables) (sets : TransitionSets) (tracker : TrackerTables) (l : Written) → built .witness ≡ clearedWitness (before .witness)
+    → clearedTracker (built .tracker) ≡ clearedTracker (before .tracker) → Left (clearedSets (before .sets)) (built .sets) sets l
     → Left (clearedTracker (built .tracker)) (built .tracker) tracker l
-    → Left (clearedBuild before) built (buildTables successors (built .witness) tracker) l
-left-file before built successors tracker (Refused r) witness zero sets left = λ i. buildTables (sets i) (witness i) ((left ∙ zero) i)
-left-file before built successors tracker (Bytes count) witness zero sets left = λ i. buildTables (sets i) (built .witness) (left i)
+    → Left (clearedBuild before) built (buildTables sets (built .witness) tracker) l
+left-file before built sets tracker (Refused r) witness zero told left = λ i. buildTables (told i) (witness i) ((left ∙ zero) i)
+left-file before built sets tracker (Bytes count) witness zero told left = λ i. buildTables (told i) (built .witness) (left i)
 
 module _ {s : List ℕ} {room : ℕ} {before built : BuildTables} where
   -- refused by building
@@ -53,12 +53,12 @@ module _ {s : List ℕ} {room : ℕ} {before built : BuildTables} where
     file-sized = let (l, (σ, y, are, o, fitted), z) = file-built builds in sized x (sheet-fits s σ (y .file)) (l .tracker) are fitted
 
     -- and the last question: its answer is r, and by it the tracker's tables and the successor sets are left
-    pub file-finished : {successors : List ℕ} {tracker : TrackerTables} {old new : List ℕ} {l r : Written} → length (built .successors) ≡ length (before .successors)
-        → Finishes (listingOf x (built .tracker)) (built .tracker) tracker old new l → (r ≡ l) × Left (cleared (built .successors)) (built .successors) successors r
-        → Lists s room (listTables before old) (listTables (buildTables successors (built .witness) tracker) new) r
-    file-finished {successors} {tracker} {old} {new} {l} {r} kept finished (same, sets) =
+    pub file-finished : {sets : TransitionSets} {tracker : TrackerTables} {old new : List ℕ} {l r : Written} → clearedSets (built .sets) ≡ clearedSets (before .sets)
+        → Finishes (listingOf x (built .tracker)) (built .tracker) tracker old new l → (r ≡ l) × Left (clearedSets (built .sets)) (built .sets) sets r
+        → Lists s room (listTables before old) (listTables (buildTables sets (built .witness) tracker) new) r
+    file-finished {sets} {tracker} {old} {new} {l} {r} kept finished (same, told) =
         let (put, left) = subst (Finishes (listingOf x (built .tracker)) (built .tracker) tracker old new) (sym same) finished in
         let (lent, (σ, y, are, i, fitted), witness) = file-built builds in
         let zero = fitted-cleared (numbers σ) (sheet-fits s σ (y .file)) room (x .tuples) (before .tracker) (built .tracker) fitted in
-        let empty = subst (λ (n : ℕ). Left (replicate n 0) (built .successors) successors r) kept sets in
-        Lists.asked built x builds put (left-file before built successors tracker r witness zero empty left)
+        let empty = subst (λ (z : TransitionSets). Left z (built .sets) sets r) kept told in
+        Lists.asked built x builds put (left-file before built sets tracker r witness zero empty left)

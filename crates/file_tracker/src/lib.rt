@@ -1,4 +1,5 @@
 // The tracker of a sheet file: its questions, its successor sets, and every tuple that some word reaches, in lent tables.
+ghost use Rattle.automaton.specs.Automaton.{transitionSets};
 ghost use Rattle.lent.specs.Lent.{witnessTables};
 ghost use Rattle.filling.specs.TrackerTables.{trackerTables};
 ghost use Rattle.tracker.specs.Build.{buildTables};
@@ -12,6 +13,7 @@ pub fn build(
     sheet: &[u8],
     room: usize,
     table: &mut [u16],
+    marks: &mut [u16],
     tuples: &mut [u16],
     nexts: &mut [u16],
     word: &mut [u16],
@@ -19,10 +21,10 @@ pub fn build(
     other: &mut [u16],
 ) -> Built
     ensures { λ r. ⌜ Builds (now (sheet .entry)) room
-        (buildTables (now (table .entry)) (witnessTables (now (word .entry)) (now (one .entry)) (now (other .entry))) (trackerTables (now (tuples .entry)) (now (nexts .entry))))
-        (buildTables (now (table .exit)) (witnessTables (now (word .exit)) (now (one .exit)) (now (other .exit))) (trackerTables (now (tuples .exit)) (now (nexts .exit)))) r ⌝ }
+        (buildTables (transitionSets (now (table .entry)) (now (marks .entry))) (witnessTables (now (word .entry)) (now (one .entry)) (now (other .entry))) (trackerTables (now (tuples .entry)) (now (nexts .entry))))
+        (buildTables (transitionSets (now (table .exit)) (now (marks .exit))) (witnessTables (now (word .exit)) (now (one .exit)) (now (other .exit))) (trackerTables (now (tuples .exit)) (now (nexts .exit)))) r ⌝ }
 {
-    if !tracker::enough(room, table, tuples, nexts, word, one, other) {
+    if !tracker::enough(room, table, marks, tuples, nexts, word, one, other) {
         return Built::Refused(Refusal {
             number: 1,
             line: 0,
@@ -34,6 +36,7 @@ pub fn build(
         sheet,
         room,
         table,
+        marks,
         &mut rows,
         tuples,
         nexts,

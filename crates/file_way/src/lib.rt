@@ -2,6 +2,7 @@
 use gate::Refusal;
 use tracker::Built;
 ghost use Rattle.gate.specs.Gate.{Decides};
+ghost use Rattle.automaton.specs.Automaton.{transitionSets};
 ghost use Rattle.lent.specs.Lent.{witnessTables};
 ghost use Rattle.filling.specs.TrackerTables.{trackerTables};
 ghost use Rattle.tracker.specs.Build.{buildTables};
@@ -18,6 +19,7 @@ pub enum Way {
 fn enough(
     room: usize,
     table: &[u16],
+    marks: &[u16],
     tuples: &[u16],
     nexts: &[u16],
     word: &[u16],
@@ -26,13 +28,13 @@ fn enough(
     letters: &[u16],
 ) -> bool
     ensures { λ r. ⌜ Decides r (EnoughForWay room (wayTables
-        (buildTables (now (table .entry)) (witnessTables (now (word .entry)) (now (one .entry)) (now (other .entry))) (trackerTables (now (tuples .entry)) (now (nexts .entry))))
+        (buildTables (transitionSets (now (table .entry)) (now (marks .entry))) (witnessTables (now (word .entry)) (now (one .entry)) (now (other .entry))) (trackerTables (now (tuples .entry)) (now (nexts .entry))))
         (now (letters .entry)))) ⌝ }
 {
     if letters.len() < room {
         return false;
     }
-    tracker::enough(room, table, tuples, nexts, word, one, other)
+    tracker::enough(room, table, marks, tuples, nexts, word, one, other)
 }
 
 // Behind building: the word to tuple t, if there is a tracker and it has this tuple. Else the letters become all zero.
@@ -61,6 +63,7 @@ pub fn way_to(
     room: usize,
     t: usize,
     table: &mut [u16],
+    marks: &mut [u16],
     tuples: &mut [u16],
     nexts: &mut [u16],
     word: &mut [u16],
@@ -69,18 +72,18 @@ pub fn way_to(
     letters: &mut [u16],
 ) -> Way
     ensures { λ r. ⌜ ShowsWay (now (sheet .entry)) room t
-        (wayTables (buildTables (now (table .entry)) (witnessTables (now (word .entry)) (now (one .entry)) (now (other .entry)))
+        (wayTables (buildTables (transitionSets (now (table .entry)) (now (marks .entry))) (witnessTables (now (word .entry)) (now (one .entry)) (now (other .entry)))
         (trackerTables (now (tuples .entry)) (now (nexts .entry)))) (now (letters .entry)))
-        (wayTables (buildTables (now (table .exit)) (witnessTables (now (word .exit)) (now (one .exit)) (now (other .exit)))
+        (wayTables (buildTables (transitionSets (now (table .exit)) (now (marks .exit))) (witnessTables (now (word .exit)) (now (one .exit)) (now (other .exit)))
         (trackerTables (now (tuples .exit)) (now (nexts .exit)))) (now (letters .exit))) r ⌝ }
 {
-    if !enough(room, table, tuples, nexts, word, one, other, letters) {
+    if !enough(room, table, marks, tuples, nexts, word, one, other, letters) {
         return Way::Refused(Refusal {
             number: 1,
             line: 0,
             length: 0,
         });
     }
-    let built = file_tracker::build(sheet, room, table, tuples, nexts, word, one, other);
+    let built = file_tracker::build(sheet, room, table, marks, tuples, nexts, word, one, other);
     finish(built, t, tuples, letters)
 }

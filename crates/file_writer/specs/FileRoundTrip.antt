@@ -2,17 +2,17 @@
 use Prim.Native.Nat.{ℕ, _≤_}
 use mathlib.Core.Path.{_≡_, sym, ap₂, _∙_, subst}
 use mathlib.Core.List.{List}
-use native.Mathlib.Omega.{arith}
 use lib.ListN.{length}
-use Rattle.automaton.specs.Automaton.{Automaton, graphOf, Fits}
+use Rattle.automaton.specs.Automaton.{Automaton, setsOfAutomaton, graphOf, Fits}
 use Rattle.automaton.specs.Endless.{MeetingFree}
+use Rattle.lent.specs.Lent.{EnoughForSets}
 use Rattle.format.specs.Format.{Withdrawal, Sheet, FileIs}
 use Rattle.format.specs.Numbers.{numbers}
 use Rattle.format.specs.Written.{writtenSheet, written}
-use Rattle.format.specs.NumbersLaws.{sheet-fits, sheet-in-force, numbers-length}
+use Rattle.format.specs.NumbersLaws.{sheet-fits, sheet-in-force}
 use Rattle.reading.specs.Read.{Accepted}
 use Rattle.writer.specs.Writing.{writing, LettersRight}
-use Rattle.writer.specs.TrimmedLaws.{trimmed-numbers}
+use Rattle.writer.specs.TrimmedLaws.{sheet-long, trimmed-numbers}
 use Rattle.writer.specs.FileLaws.{longest, written-file}
 use Rattle.writer.specs.RoundTrip.{written-composed, numbers-accepted, numbers-back, names-back, withdrawals-back}
 use Rattle.file_writer.specs.Same.{SameSheet}
@@ -28,15 +28,15 @@ module _ (s : List ℕ) (σ : Sheet) (file : FileIs s σ) where
   fits : Fits (numbers σ)
   fits = sheet-fits s σ file
 
-  long : 128 ≤ length (numbers σ .table)
-  long = omega (arith, numbers-length σ)
+  long : EnoughForSets (setsOfAutomaton (numbers σ))
+  long = sheet-long σ
 
   right : LettersRight (numbers σ) (σ .names) (σ .withdrawals)
   unfolding numbers
   right = record { names = file .right .names; all-names = file .all-names; withdrawals = file .right .withdrawals; in-force = sheet-in-force s σ file }
 
   -- what is written is at most this long
-  pub writing-most : length (writing σ) ≤ 22960
+  pub writing-most : length (writing σ) ≤ 29056
   writing-most = longest (numbers σ) fits (σ .names) (σ .withdrawals) right
 
   -- it is the file of the sheet that is written

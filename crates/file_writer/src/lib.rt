@@ -20,7 +20,8 @@ pub fn write(
         (writeTables (witnessTables (now (word .exit)) (now (one .exit)) (now (other .exit))) (now (out .exit))) r ⌝ }
 {
     let mut table = [0u16; 128];
-    if !lent::long_enough(&table, word, one, other) {
+    let mut marks = [0u16; 128];
+    if !lent::long_enough(&table, &marks, word, one, other) {
         return Written::Refused(Refusal {
             number: 1,
             line: 0,
@@ -28,11 +29,11 @@ pub fn write(
         });
     }
     let mut rows = [0u8; 224];
-    match read_long(sheet, &mut table, &mut rows, word, one, other) {
+    match read_long(sheet, &mut table, &mut marks, &mut rows, word, one, other) {
         Read::Refused(r) => {
             gate::clear_bytes(out);
             Written::Refused(r)
         }
-        Read::Is(a) => writer::finish(a, &table, &rows, out),
+        Read::Is(a) => writer::finish(a, &table, &marks, &rows, out),
     }
 }

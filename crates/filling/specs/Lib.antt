@@ -4,3 +4,4 @@ pub mod Fill
 pub mod FillLaws
 pub mod FittedLaws
 pub mod FixedLaws
+pub mod SameTracker

@@ -24,9 +24,16 @@ fn begin(a: Numbers, tuples: &mut [u16], head: &mut [u16], link: &mut [u16])
 }
 
 // All steps from the first tuple on, in cleared tables: the count of tuples, or a number above the room where they are too many.
-pub fn fill(a: Numbers, table: &[u16], room: usize, tuples: &mut [u16], nexts: &mut [u16]) -> usize
-    requires { ⌜ Filling (automaton a (now table)) room (trackerTables (now tuples) (now nexts)) ⌝ }
-    ensures { λ r. ⌜ Fills (automaton a (now (table .entry))) room (trackerTables (now (tuples .entry)) (now (nexts .entry))) (trackerTables (now (tuples .exit)) (now (nexts .exit))) r ⌝ }
+pub fn fill(
+    a: Numbers,
+    table: &[u16],
+    marks: &[u16],
+    room: usize,
+    tuples: &mut [u16],
+    nexts: &mut [u16],
+) -> usize
+    requires { ⌜ Filling (automaton a (now table) (now marks)) room (trackerTables (now tuples) (now nexts)) ⌝ }
+    ensures { λ r. ⌜ Fills (automaton a (now (table .entry)) (now (marks .entry))) room (trackerTables (now (tuples .entry)) (now (nexts .entry))) (trackerTables (now (tuples .exit)) (now (nexts .exit))) r ⌝ }
 {
     let mut head = [0u16; row_index::DIGESTS];
     let mut link = [0u16; row_index::MOST];
@@ -34,7 +41,18 @@ pub fn fill(a: Numbers, table: &[u16], room: usize, tuples: &mut [u16], nexts: &
     let mut m: usize = 1;
     let mut c: usize = 0;
     while c < 8 * m {
-        m = expanding::expand(a, table, room, c, m, tuples, nexts, &mut head, &mut link);
+        m = expanding::expand(
+            a,
+            table,
+            marks,
+            room,
+            c,
+            m,
+            tuples,
+            nexts,
+            &mut head,
+            &mut link,
+        );
         if room < m {
             return m;
         }

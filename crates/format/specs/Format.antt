@@ -1,4 +1,4 @@
--- Document 01, "The files" and "The gate questions", and document 02, R-1: what a sheet file is, and which line of a file that is none is at fault.
+-- Document 01, "The files" and "The gate questions", and document 02, R-1 and R-9: what a sheet file is, and which line of a file that is none is at fault.
 use Prim.Native.Nat.{ℕ, suc, _+_, _*_, _≤_, _<_}
 use mathlib.Core.Path.{_≡_}
 use mathlib.Core.Logic.{_⊎_}
@@ -10,25 +10,29 @@ use Rattle.columns.specs.Column.{column}
 use Rattle.columns.specs.Line.{numbersLine}
 use Rattle.names.specs.Name.{IsName, compose}
 use Rattle.automaton.specs.Graph.{InRange}
+use Rattle.automaton.specs.declared.Edition.{Edition}
+use Rattle.automaton.specs.declared.Edition.the-variants.{StateBased, TransitionBased}
 
--- a state line's two flags, initial and must-recur
+-- a state's two flags, initial and must-recur
 pub record State : Type 0 where
   pub initial : ℕ
   pub recurring : ℕ
 
--- "transitions (from, letter, to)"
+-- "transitions (from, letter, to)", and the mark of R-9
 pub record Transition : Type 0 where
   pub from : ℕ
   pub letter : ℕ
   pub to : ℕ
+  pub mark : ℕ
 
 -- "letter (3), superseding letter (3)": a withdrawn letter, and the letter that supersedes it
 pub record Withdrawal : Type 0 where
   pub letter : ℕ
   pub by : ℕ
 
--- a sheet as its lines tell it: the names as they are spelled, the withdrawals, the states and the transitions in the order of their lines
+-- a sheet as its lines tell it: its edition, the names as they are spelled, the withdrawals, the states and the transitions in the order of their lines
 pub record Sheet : Type 0 where
+  pub edition : Edition
   pub n : ℕ
   pub k : ℕ
   pub names : List (List ℕ)
@@ -36,14 +40,15 @@ pub record Sheet : Type 0 where
   pub states : List State
   pub transitions : List Transition
 
--- THE LINES
+-- THE LINES, which the edition tells
 
--- "the first line opens with the five letters SHEET, then n (3 columns), k (3)"
-abbrev pub sheetWord : List ℕ
-sheetWord = 83 ∷ 72 ∷ 69 ∷ 69 ∷ 84 ∷ []
+-- "the first line opens with the five letters SHEET", or "with SHT-2", "then n (3 columns), k (3)"
+abbrev pub sheetWord : Edition → List ℕ
+sheetWord StateBased = 83 ∷ 72 ∷ 69 ∷ 69 ∷ 84 ∷ []
+sheetWord TransitionBased = 83 ∷ 72 ∷ 84 ∷ 45 ∷ 50 ∷ []
 
-unfoldable pub headLine : ℕ → ℕ → List ℕ
-headLine n k = numbersLine sheetWord (n ∷ k ∷ [])
+unfoldable pub headLine : Edition → ℕ → ℕ → List ℕ
+headLine e n k = numbersLine (sheetWord e) (n ∷ k ∷ [])
 
 -- "`N`, letter number in order (3), one space, the name to the line's end"
 unfoldable pub nameLine : ℕ → List ℕ → List ℕ
@@ -53,13 +58,30 @@ nameLine l name = 78 ∷ (column 3 l ++ (space ∷ (name ++ (lf ∷ []))))
 unfoldable pub withdrawalLine : Withdrawal → List ℕ
 withdrawalLine w = numbersLine (87 ∷ []) (w .letter ∷ w .by ∷ [])
 
--- "`S`, state number in order (3), initial 0 or 1 (3), must-recur 0 or 1 (3)"
-unfoldable pub stateLine : ℕ → State → List ℕ
-stateLine q z = numbersLine (83 ∷ []) (q ∷ z .initial ∷ z .recurring ∷ [])
+-- "`S`, state number in order (3), initial 0 or 1 (3), must-recur 0 or 1 (3)"; SHT-2 "has no third number on its S lines"
+abbrev pub stateNumbers : Edition → ℕ → State → List ℕ
+stateNumbers StateBased q z = q ∷ z .initial ∷ z .recurring ∷ []
+stateNumbers TransitionBased q z = q ∷ z .initial ∷ []
 
--- "`T`, from (3), letter (3), to (3)"
-unfoldable pub transitionLine : Transition → List ℕ
-transitionLine t = numbersLine (84 ∷ []) (t .from ∷ t .letter ∷ t .to ∷ [])
+unfoldable pub stateLine : Edition → ℕ → State → List ℕ
+stateLine e q z = numbersLine (83 ∷ []) (stateNumbers e q z)
+
+-- "`T`, from (3), letter (3), to (3)"; SHT-2 has "a 0 or 1 more (3 columns) on its T lines"
+abbrev pub transitionNumbers : Edition → Transition → List ℕ
+transitionNumbers StateBased t = t .from ∷ t .letter ∷ t .to ∷ []
+transitionNumbers TransitionBased t = t .from ∷ t .letter ∷ t .to ∷ t .mark ∷ []
+
+unfoldable pub transitionLine : Edition → Transition → List ℕ
+transitionLine e t = numbersLine (84 ∷ []) (transitionNumbers e t)
+
+-- how many bytes such a line has (`state-length`, `transition-length` in FormatLaws)
+abbrev pub stateWidth : Edition → ℕ
+stateWidth StateBased = 11
+stateWidth TransitionBased = 8
+
+abbrev pub transitionWidth : Edition → ℕ
+transitionWidth StateBased = 11
+transitionWidth TransitionBased = 14
 
 -- the lines of names, from letter l on
 unfoldable pub nameLines : ℕ → List (List ℕ) → List ℕ
@@ -72,20 +94,21 @@ withdrawalLines [] = []
 withdrawalLines (w ∷ ws) = withdrawalLine w ++ withdrawalLines ws
 
 -- those of states, from state q on
-unfoldable pub stateLines : ℕ → List State → List ℕ
-stateLines q [] = []
-stateLines q (z ∷ zs) = stateLine q z ++ stateLines (suc q) zs
+unfoldable pub stateLines : Edition → ℕ → List State → List ℕ
+stateLines e q [] = []
+stateLines e q (z ∷ zs) = stateLine e q z ++ stateLines e (suc q) zs
 
 -- and those of transitions
-unfoldable pub transitionLines : List Transition → List ℕ
-transitionLines [] = []
-transitionLines (t ∷ ts) = transitionLine t ++ transitionLines ts
+unfoldable pub transitionLines : Edition → List Transition → List ℕ
+transitionLines e [] = []
+transitionLines e (t ∷ ts) = transitionLine e t ++ transitionLines e ts
 
 -- the lines of a sheet, or of its upper part, without END: "After the name lines a sheet may have lines `W`"
 unfoldable pub lines : Sheet → List ℕ
 lines σ =
-    headLine (σ .n) (σ .k)
-    ++ (nameLines 0 (σ .names) ++ (withdrawalLines (σ .withdrawals) ++ (stateLines 0 (σ .states) ++ transitionLines (σ .transitions))))
+    headLine (σ .edition) (σ .n) (σ .k)
+    ++ (nameLines 0 (σ .names)
+    ++ (withdrawalLines (σ .withdrawals) ++ (stateLines (σ .edition) 0 (σ .states) ++ transitionLines (σ .edition) (σ .transitions))))
 
 -- THE QUESTIONS, on the lines that are there
 
@@ -128,13 +151,22 @@ Withdrawn ws l = (m : ℕ) × Supersedes ws l m
 abbrev pub InForce : List Withdrawal → ℕ → Type 0
 InForce ws l = Withdrawn ws l → ⊥
 
--- "initial 0 or 1 (3), must-recur 0 or 1 (3)"
-abbrev pub FlagsRight : State → Type 0
-FlagsRight z = (z .initial ≤ 1) × (z .recurring ≤ 1)
+-- what the lines of an edition do not tell is 0: the must-recur flag in SHT-2, the mark in SHEET
+abbrev pub mostRecurring : Edition → ℕ
+mostRecurring StateBased = 1
+mostRecurring TransitionBased = 0
 
-abbrev pub StatesRight : List State → Type 0
-StatesRight [] = Unit
-StatesRight (z ∷ zs) = FlagsRight z × StatesRight zs
+abbrev pub mostMark : Edition → ℕ
+mostMark StateBased = 0
+mostMark TransitionBased = 1
+
+-- "initial 0 or 1 (3), must-recur 0 or 1 (3)"
+abbrev pub FlagsRight : Edition → State → Type 0
+FlagsRight e z = (z .initial ≤ 1) × (z .recurring ≤ mostRecurring e)
+
+abbrev pub StatesRight : Edition → List State → Type 0
+StatesRight e [] = Unit
+StatesRight e (z ∷ zs) = FlagsRight e z × StatesRight e zs
 
 -- "The successor set of state q on letter l is number 8q+l of its table."
 abbrev pub cell : Transition → ℕ
@@ -149,16 +181,17 @@ abbrev pub Before : Transition → Transition → Type 0
 Before t u = (t .from < u .from) ⊎ ((t .from ≡ u .from) × ((t .letter < u .letter) ⊎ ((t .letter ≡ u .letter) × (t .to < u .to))))
 
 -- "in range and in order": not below the least place that is still free
-pub record TransitionRight (n k least : ℕ) (t : Transition) : Type 0 where
+pub record TransitionRight (e : Edition) (n k least : ℕ) (t : Transition) : Type 0 where
   pub from : t .from < n
   pub letter : t .letter < k
   pub to : t .to < n
   pub order : least ≤ transitionIndex t
+  pub mark : t .mark ≤ mostMark e
 
--- "strictly ascending by these three"
-abbrev pub TransitionsRight : ℕ → ℕ → ℕ → List Transition → Type 0
-TransitionsRight n k least [] = Unit
-TransitionsRight n k least (t ∷ ts) = TransitionRight n k least t × TransitionsRight n k (transitionIndex t + 1) ts
+-- "strictly ascending by these three": so no transition stands twice, with two marks either
+abbrev pub TransitionsRight : Edition → ℕ → ℕ → ℕ → List Transition → Type 0
+TransitionsRight e n k least [] = Unit
+TransitionsRight e n k least (t ∷ ts) = TransitionRight e n k least t × TransitionsRight e n k (transitionIndex t + 1) ts
 
 -- the least place that is free behind some transitions
 abbrev pub leastAfter : ℕ → List Transition → ℕ
@@ -175,13 +208,13 @@ pub record Right (σ : Sheet) : Type 0 where
   pub range : InRange (σ .n) (σ .k)
   pub names : NamesRight [] (σ .names)
   pub withdrawals : WithdrawalsRight (σ .k) 0 (σ .withdrawals)
-  pub states : StatesRight (σ .states)
-  pub transitions : TransitionsRight (σ .n) (σ .k) 0 (σ .transitions)
+  pub states : StatesRight (σ .edition) (σ .states)
+  pub transitions : TransitionsRight (σ .edition) (σ .n) (σ .k) 0 (σ .transitions)
   pub in-force : AllInForce (σ .withdrawals) (σ .transitions)
 
--- "Is the sheet at most 24,576 bytes ..? No: 2."
+-- "Is the sheet at most" so many "bytes ..? No: 2."; R-9: "question 2 allows 32,768 bytes for any sheet"
 abbrev pub mostSheet : ℕ
-mostSheet = 24576
+mostSheet = 32768
 
 -- A SHEET FILE: its lines answer yes, and there are k names and n states. "Then `END`, and nothing after."
 pub record FileIs (s : List ℕ) (σ : Sheet) : Type 0 where
@@ -234,26 +267,26 @@ pub data NameFault (earlier : List (List ℕ)) (rest : List ℕ) : ℕ → Type 
 
 -- those where a transition or END is due, on line `line`
 -- "After the states and up to `END`, a line beginning with T answers to question 8, any other to 9."
-pub data EndFault (ws : List Withdrawal) (n k least : ℕ) (rest : List ℕ) (line : ℕ) : ℕ → ℕ → Type 0 where
+pub data EndFault (e : Edition) (ws : List Withdrawal) (n k least : ℕ) (rest : List ℕ) (line : ℕ) : ℕ → ℕ → Type 0 where
   -- "Each transition line of its form, in range and in order? No: 8."
-  wrong-transition : getD rest 0 0 ≡ 84 → ((t : Transition) (after : List ℕ) → TransitionRight n k least t → rest ≡ transitionLine t ++ after → ⊥)
-      → EndFault ws n k least rest line 8 line
+  wrong-transition : getD rest 0 0 ≡ 84 → ((t : Transition) (after : List ℕ) → TransitionRight e n k least t → rest ≡ transitionLine e t ++ after → ⊥)
+      → EndFault e ws n k least rest line 8 line
   -- "a transition on a withdrawn letter with 16 straight after 8"
-  withdrawn-letter : (t : Transition) (after : List ℕ) → TransitionRight n k least t → rest ≡ transitionLine t ++ after → Withdrawn ws (t .letter)
-      → EndFault ws n k least rest line 16 line
+  withdrawn-letter : (t : Transition) (after : List ℕ) → TransitionRight e n k least t → rest ≡ transitionLine e t ++ after → Withdrawn ws (t .letter)
+      → EndFault e ws n k least rest line 16 line
   -- "Is `END` last? No: 9."
-  no-end : (getD rest 0 0 ≡ 84 → ⊥) → ((after : List ℕ) → rest ≡ endLine ++ after → ⊥) → EndFault ws n k least rest line 9 line
+  no-end : (getD rest 0 0 ≡ 84 → ⊥) → ((after : List ℕ) → rest ≡ endLine ++ after → ⊥) → EndFault e ws n k least rest line 9 line
   -- "What follows `END` is a fault of the line after it: 9 in a sheet".
-  not-last : (after : List ℕ) → rest ≡ endLine ++ after → (after ≡ [] → ⊥) → EndFault ws n k least rest line 9 (suc line)
+  not-last : (after : List ℕ) → rest ≡ endLine ++ after → (after ≡ [] → ⊥) → EndFault e ws n k least rest line 9 (suc line)
 
 -- THE FAULT of a file: its number and its line
 pub data Faulty (s : List ℕ) : ℕ → ℕ → Type 0 where
-  -- "Is the sheet at most 24,576 bytes ..? No: 2."
+  -- 2
   size : mostSheet < length s → Faulty s 2 0
-  -- "Is the first sheet line of its form? No: 3."
-  head : length s ≤ mostSheet → ((n k : ℕ) (rest : List ℕ) → n < 1000 → k < 1000 → s ≡ headLine n k ++ rest → ⊥) → Faulty s 3 1
+  -- "Is the first sheet line of its form? No: 3."; R-9: "Questions 3, 7 and 8 take the edition's form"
+  head : length s ≤ mostSheet → ((e : Edition) (n k : ℕ) (rest : List ℕ) → n < 1000 → k < 1000 → s ≡ headLine e n k ++ rest → ⊥) → Faulty s 3 1
   -- "Are n and k in range? No: 4."
-  range : length s ≤ mostSheet → (n k : ℕ) (rest : List ℕ) → n < 1000 → k < 1000 → s ≡ headLine n k ++ rest → (InRange n k → ⊥) → Faulty s 4 1
+  range : length s ≤ mostSheet → (e : Edition) (n k : ℕ) (rest : List ℕ) → n < 1000 → k < 1000 → s ≡ headLine e n k ++ rest → (InRange n k → ⊥) → Faulty s 4 1
   -- 5 and 6
   name : {number : ℕ} (σ : Sheet) (rest : List ℕ) → Above s σ rest → NameDue σ → NameFault (σ .names) rest number → Faulty s number (lineDue σ)
   -- "A line there that begins with W and is faulty is refused with 15"
@@ -262,7 +295,7 @@ pub data Faulty (s : List ℕ) : ℕ → ℕ → Type 0 where
       → Faulty s 15 (lineDue σ)
   -- "Is each state line of its form? No: 7."; where no state is read yet, a line that begins with W is one of the withdrawals and answers to 15
   state : (σ : Sheet) (rest : List ℕ) → Above s σ rest → StateDue σ → (σ .states ≡ [] → getD rest 0 0 ≡ 87 → ⊥)
-      → ((z : State) (after : List ℕ) → FlagsRight z → rest ≡ stateLine (length (σ .states)) z ++ after → ⊥) → Faulty s 7 (lineDue σ)
+      → ((z : State) (after : List ℕ) → FlagsRight (σ .edition) z → rest ≡ stateLine (σ .edition) (length (σ .states)) z ++ after → ⊥) → Faulty s 7 (lineDue σ)
   -- 8, 16 and 9
   end : {number line : ℕ} (σ : Sheet) (rest : List ℕ) → Above s σ rest → EndDue σ
-      → EndFault (σ .withdrawals) (σ .n) (σ .k) (leastAfter 0 (σ .transitions)) rest (lineDue σ) number line → Faulty s number line
+      → EndFault (σ .edition) (σ .withdrawals) (σ .n) (σ .k) (leastAfter 0 (σ .transitions)) rest (lineDue σ) number line → Faulty s number line

@@ -1,6 +1,6 @@
 -- The lines of a sheet: how long they are, what stands behind them, the order of transitions, and the numbers of faults. Assumes nothing.
 use Prim.Native.Nat.{ℕ, suc, _+_, _≤_, _<_}
-use mathlib.Core.Path.{_≡_, _∙_}
+use mathlib.Core.Path.{_≡_, refl, _∙_}
 use mathlib.Core.Logic.{_⊎_, inl, inr, _↔_}
 use mathlib.Core.List.{List, [], _∷_, _++_, append-assoc}
 use lib.ListN.{length, drop, length-append}
@@ -10,11 +10,17 @@ use Rattle.text.specs.Bytes.{lf, space}
 use Rattle.text.specs.BytesLaws.{stretch-rest}
 use Rattle.columns.specs.Column.{column}
 use Rattle.columns.specs.LineLaws.{numbersLine-length}
-use Rattle.format.specs.Format.{State, Transition, Withdrawal, Sheet, sheetWord, headLine, nameLine, withdrawalLine, stateLine, transitionLine, nameLines, withdrawalLines, stateLines, transitionLines, lines, transitionIndex, Before, Faulty, wrong-name, name-twice, wrong-transition, withdrawn-letter, no-end, not-last}
+use Rattle.automaton.specs.declared.Edition.{Edition}
+use Rattle.automaton.specs.declared.Edition.the-variants.{StateBased, TransitionBased}
+use Rattle.format.specs.Format.{State, Transition, Withdrawal, Sheet, sheetWord, headLine, nameLine, withdrawalLine, stateNumbers, stateLine, transitionNumbers, transitionLine, stateWidth, transitionWidth, nameLines, withdrawalLines, stateLines, transitionLines, lines, transitionIndex, Before, Faulty, wrong-name, name-twice, wrong-transition, withdrawn-letter, no-end, not-last}
 
-pub head-length : (n k : ℕ) → length (headLine n k) ≡ 12
+pub word-length : (e : Edition) → length (sheetWord e) ≡ 5
+word-length StateBased = refl
+word-length TransitionBased = refl
+
+pub head-length : (e : Edition) (n k : ℕ) → length (headLine e n k) ≡ 12
 unfolding headLine
-head-length n k = numbersLine-length sheetWord (n ∷ k ∷ [])
+head-length e n k = numbersLine-length (sheetWord e) (n ∷ k ∷ []) ∙ omega (arith, word-length e)
 
 pub name-length : (l : ℕ) (x : List ℕ) → length (nameLine l x) ≡ 6 + length x
 unfolding nameLine column
@@ -24,13 +30,24 @@ pub withdrawal-length : (w : Withdrawal) → length (withdrawalLine w) ≡ 8
 unfolding withdrawalLine
 withdrawal-length w = numbersLine-length (87 ∷ []) (w .letter ∷ w .by ∷ [])
 
-pub state-length : (q : ℕ) (z : State) → length (stateLine q z) ≡ 11
+pub state-length : (e : Edition) (q : ℕ) (z : State) → length (stateLine e q z) ≡ stateWidth e
 unfolding stateLine
-state-length q z = numbersLine-length (83 ∷ []) (q ∷ z .initial ∷ z .recurring ∷ [])
+state-length StateBased q z = numbersLine-length (83 ∷ []) (stateNumbers StateBased q z)
+state-length TransitionBased q z = numbersLine-length (83 ∷ []) (stateNumbers TransitionBased q z)
 
-pub transition-length : (t : Transition) → length (transitionLine t) ≡ 11
+pub transition-length : (e : Edition) (t : Transition) → length (transitionLine e t) ≡ transitionWidth e
 unfolding transitionLine
-transition-length t = numbersLine-length (84 ∷ []) (t .from ∷ t .letter ∷ t .to ∷ [])
+transition-length StateBased t = numbersLine-length (84 ∷ []) (transitionNumbers StateBased t)
+transition-length TransitionBased t = numbersLine-length (84 ∷ []) (transitionNumbers TransitionBased t)
+
+-- a transition line has at least one byte, and none of the two kinds more than 14
+pub transition-width : (e : Edition) → (1 ≤ transitionWidth e) × (transitionWidth e ≤ 14)
+transition-width StateBased = (omega arith, omega arith)
+transition-width TransitionBased = (omega arith, omega arith)
+
+pub state-width : (e : Edition) → stateWidth e ≤ 11
+state-width StateBased = omega arith
+state-width TransitionBased = omega arith
 
 -- behind a line, the others begin where it ends
 module _ (at : ℕ) (w : Withdrawal) (ws : List Withdrawal) where
@@ -38,28 +55,29 @@ module _ (at : ℕ) (w : Withdrawal) (ws : List Withdrawal) where
   unfolding withdrawalLines
   withdrawal-behind = omega (arith, length-append (withdrawalLine w) (withdrawalLines ws), withdrawal-length w)
 
-module _ (at q : ℕ) (z : State) (zs : List State) where
-  pub state-behind : at + 11 + length (stateLines (suc q) zs) ≡ at + length (stateLines q (z ∷ zs))
+module _ (e : Edition) (at q : ℕ) (z : State) (zs : List State) where
+  pub state-behind : at + stateWidth e + length (stateLines e (suc q) zs) ≡ at + length (stateLines e q (z ∷ zs))
   unfolding stateLines
-  state-behind = omega (arith, length-append (stateLine q z) (stateLines (suc q) zs), state-length q z)
+  state-behind = omega (arith, length-append (stateLine e q z) (stateLines e (suc q) zs), state-length e q z)
 
-module _ (at : ℕ) (t : Transition) (ts : List Transition) where
-  pub transition-behind : at + 11 + length (transitionLines ts) ≡ at + length (transitionLines (t ∷ ts))
+module _ (e : Edition) (at : ℕ) (t : Transition) (ts : List Transition) where
+  pub transition-behind : at + transitionWidth e + length (transitionLines e ts) ≡ at + length (transitionLines e (t ∷ ts))
   unfolding transitionLines
-  transition-behind = omega (arith, length-append (transitionLine t) (transitionLines ts), transition-length t)
+  transition-behind = omega (arith, length-append (transitionLine e t) (transitionLines e ts), transition-length e t)
 
 -- there are no more transitions than their lines have bytes
-pub transitions-few : (ts : List Transition) → length ts ≤ length (transitionLines ts)
+pub transitions-few : (e : Edition) (ts : List Transition) → length ts ≤ length (transitionLines e ts)
 unfolding transitionLines
-transitions-few [] = omega arith
-transitions-few (t ∷ ts) = omega (arith, transition-behind 0 t ts, transitions-few ts)
+transitions-few e [] = omega arith
+transitions-few e (t ∷ ts) = omega (arith, transition-behind e 0 t ts, transitions-few e ts, transition-width e .0)
 
 -- the lines kind by kind, and what stands behind them
 pub lines-parted :
     (σ : Sheet) (rest : List ℕ) →
     lines σ ++ rest ≡
-    headLine (σ .n) (σ .k)
-    ++ (nameLines 0 (σ .names) ++ (withdrawalLines (σ .withdrawals) ++ (stateLines 0 (σ .states) ++ (transitionLines (σ .transitions) ++ rest))))
+    headLine (σ .edition) (σ .n) (σ .k)
+    ++ (nameLines 0 (σ .names)
+    ++ (withdrawalLines (σ .withdrawals) ++ (stateLines (σ .edition) 0 (σ .states) ++ (transitionLines (σ .edition) (σ .transitions) ++ rest))))
 unfolding lines
 lines-parted σ rest = simp append-assoc
 
@@ -97,7 +115,7 @@ module _ (t u : Transition) (l : t .letter < 8) (m : u .letter < 8) (a : t .to <
 pub fault-number : {s : List ℕ} {number line : ℕ} → Faulty s number line → (2 ≤ number) × (number ≤ 16) × ((number ≤ 9) ⊎ (15 ≤ number))
 fault-number (Faulty.size a) = (omega arith, omega arith, inl (omega arith))
 fault-number (Faulty.head a b) = (omega arith, omega arith, inl (omega arith))
-fault-number (Faulty.range a n k rest b c d e) = (omega arith, omega arith, inl (omega arith))
+fault-number (Faulty.range a i n k rest b c d e) = (omega arith, omega arith, inl (omega arith))
 fault-number (Faulty.name σ rest a b (wrong-name c)) = (omega arith, omega arith, inl (omega arith))
 fault-number (Faulty.name σ rest a b (name-twice x after c d e)) = (omega arith, omega arith, inl (omega arith))
 fault-number (Faulty.withdrawal σ rest a b c d) = (omega arith, omega arith, inr (omega arith))

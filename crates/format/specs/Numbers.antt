@@ -1,5 +1,5 @@
--- The numbers of a sheet: its two sets of states and its table of successor sets.
-use Prim.Native.Nat.{ℕ, suc, _+_, _*_, _^_}
+-- The numbers of a sheet: its two sets of states, its table of successor sets and its table of marked successors.
+use Prim.Native.Nat.{ℕ, zero, suc, _+_, _*_, _^_}
 use mathlib.Core.List.{List, [], _∷_}
 use lib.ListN.{getD, set, replicate}
 use Rattle.sets.specs.Sets.{unionOf}
@@ -20,12 +20,24 @@ unfoldable pub tableOf : List ℕ → List Transition → List ℕ
 tableOf table [] = table
 tableOf table (t ∷ ts) = tableOf (inserted table t) ts
 
+-- a transition in front of others where a bit is 1
+abbrev pub whereMember : ℕ → Transition → List Transition → List Transition
+whereMember zero t ts = ts
+whereMember (suc b) t ts = t ∷ ts
+
+-- the marked ones among some transitions
+unfoldable pub markedOf : List Transition → List Transition
+markedOf [] = []
+markedOf (t ∷ ts) = whereMember (t .mark) t (markedOf ts)
+
 -- a sheet as numbers
 unfoldable pub numbers : Sheet → Automaton
 numbers σ = record {
+  edition = σ .edition;
   n = σ .n;
   k = σ .k;
   initial = flagSet (λ z. z .initial) 0 (σ .states);
   recurring = flagSet (λ z. z .recurring) 0 (σ .states);
   table = tableOf (replicate 128 0) (σ .transitions);
+  marks = tableOf (replicate 128 0) (markedOf (σ .transitions));
 }

@@ -9,7 +9,7 @@ use Rattle.format.specs.Written
 
 unfoldable pub format·unfold : Unit {0}
 unfolding name_rows·unfold superseding·unfold automaton·unfold Format.headLine Format.nameLine Format.withdrawalLine Format.stateLine Format.transitionLine
-    Format.nameLines Format.withdrawalLines Format.stateLines Format.transitionLines Format.lines Numbers.flagSet Numbers.inserted Numbers.tableOf
+    Format.nameLines Format.withdrawalLines Format.stateLines Format.transitionLines Format.lines Numbers.flagSet Numbers.inserted Numbers.tableOf Numbers.markedOf
     Numbers.numbers Withdrawals.withdrawnIn Withdrawals.supersedingOf Written.statesOf Written.transitionsOf Written.sheetOf Written.writtenSheet
     Written.written
 format·unfold = tt

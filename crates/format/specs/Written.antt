@@ -1,4 +1,4 @@
--- The writing of an automaton with names: composed letters, transitions in order.
+-- The writing of an automaton with names, in its edition: composed letters, transitions in order.
 use Prim.Native.Nat.{ℕ, zero, suc, _/_, _%_}
 use mathlib.Core.List.{List, [], _∷_, _++_, map}
 use lib.ListN.{getD}
@@ -6,6 +6,7 @@ use Rattle.names.specs.Name.{compose}
 use Rattle.sets.specs.Sets.{bit}
 use Rattle.automaton.specs.Automaton.{Automaton}
 use Rattle.format.specs.Format.{State, Transition, Withdrawal, Sheet, lines, endLine}
+use Rattle.format.specs.Numbers.{whereMember}
 
 -- the flags of state q in two sets
 abbrev pub stateOf : ℕ → ℕ → ℕ → State
@@ -20,29 +21,29 @@ statesOf initial recurring q (suc n) = stateOf initial recurring q ∷ statesOf 
 abbrev pub mostTransitions : ℕ
 mostTransitions = 2048
 
--- the transition at place i
-abbrev pub placed : ℕ → Transition
-placed i = record { from = i / 128; letter = i / 16 % 8; to = i % 16 }
+-- is there a member at place i of a table
+abbrev pub bitAt : List ℕ → ℕ → ℕ
+bitAt table i = bit (getD table (i / 16) 0) (i % 16)
 
--- a transition in front of others where its bit is 1
-abbrev pub whereMember : ℕ → Transition → List Transition → List Transition
-whereMember zero t ts = ts
-whereMember (suc b) t ts = t ∷ ts
+-- the transition at place i, with its mark
+abbrev pub placed : List ℕ → ℕ → Transition
+placed marks i = record { from = i / 128; letter = i / 16 % 8; to = i % 16; mark = bitAt marks i }
 
--- the transitions of a table at the places from i on, of which there are `left`
-unfoldable pub transitionsOf : List ℕ → ℕ → ℕ → List Transition
-transitionsOf table i zero = []
-transitionsOf table i (suc left) = whereMember (bit (getD table (i / 16) 0) (i % 16)) (placed i) (transitionsOf table (suc i) left)
+-- the transitions of a table, with their marks, at the places from i on, of which there are `left`
+unfoldable pub transitionsOf : List ℕ → List ℕ → ℕ → ℕ → List Transition
+transitionsOf table marks i zero = []
+transitionsOf table marks i (suc left) = whereMember (bitAt table i) (placed marks i) (transitionsOf table marks (suc i) left)
 
 -- the sheet of an automaton's numbers, with names and withdrawals
 unfoldable pub sheetOf : Automaton → List (List ℕ) → List Withdrawal → Sheet
 sheetOf A names ws = record {
+  edition = A .edition;
   n = A .n;
   k = A .k;
   names = names;
   withdrawals = ws;
   states = statesOf (A .initial) (A .recurring) 0 (A .n);
-  transitions = transitionsOf (A .table) 0 mostTransitions;
+  transitions = transitionsOf (A .table) (A .marks) 0 mostTransitions;
 }
 
 -- the sheet that is written: its names are those that are given, composed; "The writer keeps the `W` lines of the file that gives the names"

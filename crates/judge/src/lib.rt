@@ -1,5 +1,6 @@
 // The verdict from two files: a plan judged on the tracker of a sheet.
 ghost use Rattle.gate.specs.Gate.{Decides};
+ghost use Rattle.automaton.specs.Automaton.{transitionSets};
 ghost use Rattle.lent.specs.Lent.{witnessTables};
 ghost use Rattle.filling.specs.TrackerTables.{trackerTables};
 ghost use Rattle.tracker.specs.Build.{buildTables};
@@ -28,6 +29,7 @@ pub fn verdict(
     plan: &[u8],
     room: usize,
     table: &mut [u16],
+    marks: &mut [u16],
     tuples: &mut [u16],
     nexts: &mut [u16],
     word: &mut [u16],
@@ -35,10 +37,10 @@ pub fn verdict(
     other: &mut [u16],
 ) -> Outcome
     ensures { λ r. ⌜ Judgement (now (sheet .entry)) (now (plan .entry)) room
-        (buildTables (now (table .entry)) (witnessTables (now (word .entry)) (now (one .entry)) (now (other .entry))) (trackerTables (now (tuples .entry)) (now (nexts .entry))))
-        (buildTables (now (table .exit)) (witnessTables (now (word .exit)) (now (one .exit)) (now (other .exit))) (trackerTables (now (tuples .exit)) (now (nexts .exit)))) r ⌝ }
+        (buildTables (transitionSets (now (table .entry)) (now (marks .entry))) (witnessTables (now (word .entry)) (now (one .entry)) (now (other .entry))) (trackerTables (now (tuples .entry)) (now (nexts .entry))))
+        (buildTables (transitionSets (now (table .exit)) (now (marks .exit))) (witnessTables (now (word .exit)) (now (one .exit)) (now (other .exit))) (trackerTables (now (tuples .exit)) (now (nexts .exit)))) r ⌝ }
 {
-    if !tracker::enough(room, table, tuples, nexts, word, one, other) {
+    if !tracker::enough(room, table, marks, tuples, nexts, word, one, other) {
         return Outcome::Refused(Refusal {
             number: 1,
             line: 0,
@@ -46,7 +48,7 @@ pub fn verdict(
         });
     }
     if !sizes_fit(sheet, plan) {
-        gate::clear(table);
+        lent::clear_sets(table, marks);
         filling::clear(tuples, nexts);
         lent::clear_witness(word, one, other);
         return Outcome::Refused(Refusal {
@@ -55,5 +57,16 @@ pub fn verdict(
             length: 0,
         });
     }
-    judge_long(sheet, plan, room, table, tuples, nexts, word, one, other)
+    judge_long(
+        sheet,
+        plan,
+        room,
+        table,
+        marks,
+        tuples,
+        nexts,
+        word,
+        one,
+        other,
+    )
 }

@@ -5,11 +5,9 @@ use mathlib.Core.List.{List}
 use lib.ListN.{length, length-append, List·getD-append}
 use lib.Seq.{getD-append-add}
 use native.Mathlib.Omega.{arith}
-use Rattle.gate.specs.Gate.{cleared}
-use Rattle.gate.specs.GateLaws.{same-cleared}
 use Rattle.gate.specs.declared.Refusal.{Refusal}
-use Rattle.automaton.specs.Automaton.{Fits}
-use Rattle.lent.specs.Lent.{clearedWitness, lentTable}
+use Rattle.automaton.specs.Automaton.{TransitionSets, Fits}
+use Rattle.lent.specs.Lent.{clearedWitness, clearedSets, lentSets}
 use Rattle.format.specs.Format.{Sheet, Right}
 use Rattle.format.specs.Numbers.{numbers}
 use Rattle.format.specs.NumbersLaws.{sheet-fits}
@@ -73,10 +71,10 @@ module _ {s p : List ℕ} {room : ℕ} {before after : BuildTables} (lent : Enou
     abbrev σ : Sheet
     σ = letters .sheet
 
-    accepted : Accepted s σ × (after .successors ≡ lentTable (numbers σ .table) (before .successors)) × Fitted (numbers σ) room (before .tracker) (after .tracker) (y .tuples)
+    accepted : Accepted s σ × (after .sets ≡ lentSets (numbers σ) (before .sets)) × Fitted (numbers σ) room (before .tracker) (after .tracker) (y .tuples)
     accepted =
         let (l, (τ, a, are, o, h), w) = file-built built in
-        subst (λ (υ : Sheet). Accepted s υ × (after .successors ≡ lentTable (numbers υ .table) (before .successors)) × Fitted (numbers υ) room (before .tracker) (after .tracker) (y .tuples))
+        subst (λ (υ : Sheet). Accepted s υ × (after .sets ≡ lentSets (numbers υ) (before .sets)) × Fitted (numbers υ) room (before .tracker) (after .tracker) (y .tuples))
         (file-unique s τ σ (a .file) (letters .file)) (a, o, h)
 
     fits : Fits (numbers σ)
@@ -89,12 +87,12 @@ module _ {s p : List ℕ} {room : ℕ} {before after : BuildTables} (lent : Enou
     tracker-tables = tables-fit fits room (y .tuples) (before .tracker) (after .tracker) (accepted .2) (lent .tracker)
 
     -- 12 to 14
-    plan-refused : {successors : List ℕ} {tracker : TrackerTables} {r : Refusal} → length (after .successors) ≡ length (before .successors)
-        → PlanJudged σ p (after .tracker .tuples) (after .tracker .nexts) (y .tuples) (Refused r) → successors ≡ cleared (after .successors)
-        → tracker ≡ clearedTracker (after .tracker) → Judgement s p room before (buildTables successors (after .witness) tracker) (Refused r)
+    plan-refused : {sets : TransitionSets} {tracker : TrackerTables} {r : Refusal} → clearedSets (after .sets) ≡ clearedSets (before .sets)
+        → PlanJudged σ p (after .tracker .tuples) (after .tracker .nexts) (y .tuples) (Refused r) → sets ≡ clearedSets (after .sets)
+        → tracker ≡ clearedTracker (after .tracker) → Judgement s p room before (buildTables sets (after .witness) tracker) (Refused r)
     plan-refused {r = r} same (number, line, faulty, is) e zero =
         Judgement.refused lent r (Refusing.by-plan sizes σ (accepted .0) (after .tracker) (y .tuples) (accepted .2) number line faulty is witness) refl
-        (e ∙ same-cleared (before .successors) (after .successors) same)
+        (e ∙ same)
         (zero ∙ fitted-cleared (numbers σ) fits room (y .tuples) (before .tracker) (after .tracker) (accepted .2))
 
     -- the answer
@@ -105,8 +103,8 @@ module _ {s p : List ℕ} {room : ℕ} {before after : BuildTables} (lent : Enou
         (verdicts s σ a room (before .tracker) (after .tracker) (y .tuples) fitted p lead cycle z plan table) refl o witness
 
     -- either, with what is left of the tables
-    pub plan-answered : {sets : List ℕ} {tracker : TrackerTables} (o : Outcome) → length (after .successors) ≡ length (before .successors)
-        → PlanJudged σ p (after .tracker .tuples) (after .tracker .nexts) (y .tuples) o → PlanLeft (after .successors) sets (after .tracker) tracker o
+    pub plan-answered : {sets : TransitionSets} {tracker : TrackerTables} (o : Outcome) → clearedSets (after .sets) ≡ clearedSets (before .sets)
+        → PlanJudged σ p (after .tracker .tuples) (after .tracker .nexts) (y .tuples) o → PlanLeft (after .sets) sets (after .tracker) tracker o
         → Judgement s p room before (buildTables sets (after .witness) tracker) o
     plan-answered (Refused r) same plan (empty, zero) = plan-refused same plan empty zero
     plan-answered (Judged z) same plan (sets-kept, tracker-kept) =

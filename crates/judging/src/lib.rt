@@ -1,4 +1,5 @@
 // A plan file judged on the tracker of a sheet file, in lent tables that are long enough.
+ghost use Rattle.automaton.specs.Automaton.{transitionSets};
 ghost use Rattle.lent.specs.Lent.{witnessTables};
 ghost use Rattle.filling.specs.TrackerTables.{trackerTables};
 ghost use Rattle.tracker.specs.Build.{buildTables, EnoughToBuild};
@@ -15,22 +16,24 @@ pub fn judge_long(
     plan: &[u8],
     room: usize,
     table: &mut [u16],
+    marks: &mut [u16],
     tuples: &mut [u16],
     nexts: &mut [u16],
     word: &mut [u16],
     one: &mut [u16],
     other: &mut [u16],
 ) -> Outcome
-    requires { ⌜ EnoughToBuild room (buildTables (now table) (witnessTables (now word) (now one) (now other)) (trackerTables (now tuples) (now nexts))) × SizesFit (now sheet) (now plan) ⌝ }
+    requires { ⌜ EnoughToBuild room (buildTables (transitionSets (now table) (now marks)) (witnessTables (now word) (now one) (now other)) (trackerTables (now tuples) (now nexts))) × SizesFit (now sheet) (now plan) ⌝ }
     ensures { λ r. ⌜ Judgement (now (sheet .entry)) (now (plan .entry)) room
-        (buildTables (now (table .entry)) (witnessTables (now (word .entry)) (now (one .entry)) (now (other .entry))) (trackerTables (now (tuples .entry)) (now (nexts .entry))))
-        (buildTables (now (table .exit)) (witnessTables (now (word .exit)) (now (one .exit)) (now (other .exit))) (trackerTables (now (tuples .exit)) (now (nexts .exit)))) r ⌝ }
+        (buildTables (transitionSets (now (table .entry)) (now (marks .entry))) (witnessTables (now (word .entry)) (now (one .entry)) (now (other .entry))) (trackerTables (now (tuples .entry)) (now (nexts .entry))))
+        (buildTables (transitionSets (now (table .exit)) (now (marks .exit))) (witnessTables (now (word .exit)) (now (one .exit)) (now (other .exit))) (trackerTables (now (tuples .exit)) (now (nexts .exit)))) r ⌝ }
 {
     let mut rows = [0u8; 224];
     match build_long(
         sheet,
         room,
         table,
+        marks,
         &mut rows,
         tuples,
         nexts,
@@ -41,7 +44,7 @@ pub fn judge_long(
         Built::Refused(r) => Outcome::Refused(r),
         Built::Is(x) => {
             let judged = judge_plan(plan, &mut rows, x.numbers.k, tuples, nexts, x.tuples);
-            clear_refused(judged, table, tuples, nexts)
+            clear_refused(judged, table, marks, tuples, nexts)
         }
     }
 }

@@ -5,7 +5,7 @@ use mathlib.Core.List.{List, _++_}
 use lib.ListN.{length, replicate}
 use Rattle.gate.specs.Gate.{refusal, cleared}
 use Rattle.gate.specs.declared.Refusal.{Refusal}
-use Rattle.automaton.specs.Automaton.{Automaton, graphOf, Fits, FirstNo}
+use Rattle.automaton.specs.Automaton.{Automaton, TransitionSets, transitionSets, graphOf, Fits, FirstNo}
 use Rattle.automaton.specs.Graph.{Graph}
 use Rattle.automaton.specs.Endless.{MeetingWitness}
 
@@ -24,18 +24,35 @@ pub record EnoughForWitness (witness : WitnessTables) : Type 0 where
   pub one : 137 ≤ length (witness .one)
   pub other : 137 ≤ length (witness .other)
 
+-- "128 successor sets"; R-9: "128 sets of marked successors .. are lent beside them"
+pub record EnoughForSets (sets : TransitionSets) : Type 0 where
+  pub cells : 128 ≤ length (sets .successors)
+  pub marks : 128 ≤ length (sets .marks)
+
 -- QUESTION 1 of a call that takes a sheet: "Are the lent tables long enough (128 successor sets; a witness ..)?"
-pub record EnoughForSheet (successors : List ℕ) (witness : WitnessTables) : Type 0 where
-  pub cells : 128 ≤ length successors
+pub record EnoughForSheet (sets : TransitionSets) (witness : WitnessTables) : Type 0 where
+  pub tables : EnoughForSets sets
   pub long : EnoughForWitness witness
 
 -- each table all zero, as long as before
 abbrev pub clearedWitness : WitnessTables → WitnessTables
 clearedWitness before = record { word = cleared (before .word); one = cleared (before .one); other = cleared (before .other) }
 
--- a table of 128 successor sets, in a lent one: zero behind it
+abbrev pub clearedSets : TransitionSets → TransitionSets
+clearedSets before = transitionSets (cleared (before .successors)) (cleared (before .marks))
+
+-- tables that are long enough and all zero
+pub record ClearedLong (sets : TransitionSets) : Type 0 where
+  pub long : EnoughForSets sets
+  pub zeros : sets ≡ clearedSets sets
+
+-- a table of 128 sets, in a lent one: zero behind it
 abbrev pub lentTable : List ℕ → List ℕ → List ℕ
 lentTable sets table = sets ++ replicate (length table - 128) 0
+
+-- an automaton's successor sets and marks, in lent tables
+abbrev pub lentSets : Automaton → TransitionSets → TransitionSets
+lentSets A before = transitionSets (lentTable (A .table) (before .successors)) (lentTable (A .marks) (before .marks))
 
 -- each table as long as before
 pub record SameLengths (before after : WitnessTables) : Type 0 where

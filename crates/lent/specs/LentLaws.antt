@@ -1,17 +1,18 @@
 -- Witness tables that are cleared before the questions are asked: the answers are those on the tables as they were lent. Assumes nothing.
-use Prim.Native.Nat.{ℕ}
-use mathlib.Core.Path.{_≡_, ap, _∙_}
-use mathlib.Core.List.{List}
+use Prim.Native.Nat.{ℕ, _-_}
+use mathlib.Core.Path.{_≡_, sym, ap, _∙_}
+use mathlib.Core.List.{List, _++_}
+use lib.ListN.{length, replicate}
 use native.Mathlib.Omega.{arith}
 use Rattle.gate.specs.Gate.{cleared}
 use Rattle.gate.specs.GateLaws.{length-cleared, cleared-twice}
 use Rattle.gate.specs.declared.Refusal.{Refusal}
-use Rattle.automaton.specs.Automaton.{Automaton}
+use Rattle.automaton.specs.Automaton.{Automaton, TransitionSets, transitionSets}
 use Rattle.automaton.specs.Graph.{Graph}
 use Rattle.automaton.specs.Meeting.{Free, Everywhere}
 use Rattle.automaton.specs.EndlessLaws.{free-everywhere}
 use Rattle.automaton.specs.QuestionLaws.{first-no-number}
-use Rattle.lent.specs.Lent.{WitnessTables, witnessTables, EnoughForWitness, EnoughForSheet, clearedWitness, Meets, NumbersRefuse}
+use Rattle.lent.specs.Lent.{WitnessTables, witnessTables, EnoughForWitness, EnoughForSets, EnoughForSheet, clearedWitness, clearedSets, ClearedLong, lentSets, Meets, NumbersRefuse}
 
 -- tables that are cleared one by one
 pub tables-cleared : (v : WitnessTables) {word one other : List ℕ} → word ≡ cleared (v .word) → one ≡ cleared (v .one) → other ≡ cleared (v .other)
@@ -28,8 +29,33 @@ long-cleared v l = record {
   other = rw (length-cleared (v .other)) (l .other);
 }
 
-pub lengths-cleared : {t : List ℕ} (v : WitnessTables) → EnoughForSheet t v → EnoughForSheet t (clearedWitness v)
-lengths-cleared v l = record { cells = l .cells; long = long-cleared v (l .long) }
+pub lengths-cleared : {t : TransitionSets} (v : WitnessTables) → EnoughForSheet t v → EnoughForSheet t (clearedWitness v)
+lengths-cleared v l = record { tables = l .tables; long = long-cleared v (l .long) }
+
+-- the same of the sheet's tables
+pub sets-cleared : (t : TransitionSets) {successors marks : List ℕ} → successors ≡ cleared (t .successors) → marks ≡ cleared (t .marks)
+    → transitionSets successors marks ≡ clearedSets t
+sets-cleared t a b = λ i. transitionSets (a i) (b i)
+
+pub sets-twice : (t : TransitionSets) → clearedSets (clearedSets t) ≡ clearedSets t
+sets-twice t = sets-cleared t (cleared-twice (t .successors)) (cleared-twice (t .marks))
+
+pub long-sets-cleared : (t : TransitionSets) → EnoughForSets t → EnoughForSets (clearedSets t)
+long-sets-cleared t l = record { cells = rw (length-cleared (t .successors)) (l .cells); marks = rw (length-cleared (t .marks)) (l .marks) }
+
+pub ready-sets : (t : TransitionSets) → EnoughForSets t → ClearedLong (clearedSets t)
+ready-sets t l = record { long = long-sets-cleared t l; zeros = sym (sets-twice t) }
+
+-- tables of the same lengths are cleared alike
+pub sets-cleared-alike : (t u : TransitionSets) → length (u .successors) ≡ length (t .successors) → length (u .marks) ≡ length (t .marks) → clearedSets u ≡ clearedSets t
+sets-cleared-alike t u a b = λ i. transitionSets (replicate {A = ℕ} (a i) 0) (replicate {A = ℕ} (b i) 0)
+
+-- and an automaton's sets are lent alike
+pub lent-alike : (A : Automaton) (t u : TransitionSets) → length (u .successors) ≡ length (t .successors) → length (u .marks) ≡ length (t .marks) → lentSets A u ≡ lentSets A t
+lent-alike A t u a b = λ i. transitionSets (A .table ++ replicate {A = ℕ} (a i - 128) 0) (A .marks ++ replicate {A = ℕ} (b i - 128) 0)
+
+pub lent-cleared : (A : Automaton) (t : TransitionSets) → lentSets A (clearedSets t) ≡ lentSets A t
+lent-cleared A t = lent-alike A t (clearedSets t) (length-cleared (t .successors)) (length-cleared (t .marks))
 
 pub meets-cleared : {G : Graph} (v : WitnessTables) {w : WitnessTables} {r : Refusal} → Meets G (clearedWitness v) w r → Meets G v w r
 meets-cleared v m = record {

@@ -25,7 +25,8 @@ pub fn find(
         (witnessTables (now (word .entry)) (now (one .entry)) (now (other .entry))) (witnessTables (now (word .exit)) (now (one .exit)) (now (other .exit))) r ⌝ }
 {
     let mut table = [0u16; 128];
-    if !lent::long_enough(&table, word, one, other) {
+    let mut marks = [0u16; 128];
+    if !lent::long_enough(&table, &marks, word, one, other) {
         return Found::Refused(Refusal {
             number: 1,
             line: 0,
@@ -33,7 +34,7 @@ pub fn find(
         });
     }
     let mut rows = [0u8; 224];
-    match reading::read_long(sheet, &mut table, &mut rows, word, one, other) {
+    match reading::read_long(sheet, &mut table, &mut marks, &mut rows, word, one, other) {
         Read::Refused(r) => Found::Refused(r),
         Read::Is(a) => finding::letter_named(name, &mut rows, a.k),
     }

@@ -31,9 +31,9 @@ names-spelled (x ∷ xs) earlier s rest at l right e (suc i) b =
 pub spelling-is : (s : List ℕ) (σ : Sheet) → FileIs s σ → (l : ℕ) → l < σ .k → spelling s l ≡ getD (σ .names) l []
 unfolding spelling
 spelling-is s σ file l b =
-    let rest = withdrawalLines (σ .withdrawals) ++ (stateLines 0 (σ .states) ++ (transitionLines (σ .transitions) ++ endLine)) in
+    let rest = withdrawalLines (σ .withdrawals) ++ (stateLines (σ .edition) 0 (σ .states) ++ (transitionLines (σ .edition) (σ .transitions) ++ endLine)) in
     let all = file .all-names in
-    let h : drop 12 s ≡ nameLines 0 (σ .names) ++ rest = rw head-length at (stretch-rest s 0 (headLine (σ .n) (σ .k)) (nameLines 0 (σ .names) ++ rest) (file .text ∙ lines-parted σ endLine)) in
+    let h : drop 12 s ≡ nameLines 0 (σ .names) ++ rest = rw head-length at (stretch-rest s 0 (headLine (σ .edition) (σ .n) (σ .k)) (nameLines 0 (σ .names) ++ rest) (file .text ∙ lines-parted σ endLine)) in
     names-spelled (σ .names) [] s rest 12 0 (file .right .names) h l (omega arith)
 
 -- A NAME LINE found again: `left` lines are to be passed

@@ -14,7 +14,8 @@ pub fn read_rows(s: &[u8], rows: &mut [u8]) -> File
     ensures { λ r. ⌜ RowsRead (now (s .entry)) (now (rows .entry)) (now (rows .exit)) r ⌝ }
 {
     let mut table = [0u16; 128];
-    read_file(s, &mut table, rows)
+    let mut marks = [0u16; 128];
+    read_file(s, &mut table, &mut marks, rows)
 }
 
 // Where the name line of a letter stands.

@@ -1,3 +1,4 @@
 pub mod List
 pub mod Finish
 pub mod ListLaws
+pub mod RewrittenList

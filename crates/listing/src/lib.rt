@@ -43,6 +43,7 @@ pub fn finish(
 pub fn list_numbers(
     a: Numbers,
     table: &[u16],
+    marks: &[u16],
     room: usize,
     tuples: &mut [u16],
     nexts: &mut [u16],
@@ -51,13 +52,13 @@ pub fn list_numbers(
     other: &mut [u16],
     out: &mut [u8],
 ) -> Written
-    ensures { λ r. ⌜ ListsNumbers (automaton a (now (table .entry))) room
+    ensures { λ r. ⌜ ListsNumbers (automaton a (now (table .entry)) (now (marks .entry))) room
         (listNumbersTables (buildNumbersTables (witnessTables (now (word .entry)) (now (one .entry)) (now (other .entry))) (trackerTables (now (tuples .entry)) (now (nexts .entry))))
         (now (out .entry)))
         (listNumbersTables (buildNumbersTables (witnessTables (now (word .exit)) (now (one .exit)) (now (other .exit))) (trackerTables (now (tuples .exit)) (now (nexts .exit))))
         (now (out .exit))) r ⌝ }
 {
-    match tracker::build_numbers(a, table, room, tuples, nexts, word, one, other) {
+    match tracker::build_numbers(a, table, marks, room, tuples, nexts, word, one, other) {
         Built::Refused(r) => gate::refuse(r, out),
         Built::Is(x) => finish(x.numbers.n, x.numbers.k, x.tuples, tuples, nexts, out),
     }

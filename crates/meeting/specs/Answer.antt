@@ -1,14 +1,16 @@
 -- Document 01, question 10, "Is the sheet free of meeting walks? No: 10, with the walks", and how its answer is handed over.
-use Prim.Native.Nat.{ℕ, _<_}
+use Prim.Native.Nat.{ℕ, _≤_, _<_}
 use mathlib.Core.Path.{_≡_}
+use lib.ListN.{length}
 use Rattle.automaton.specs.Graph.{Graph, GraphFits}
 use Rattle.automaton.specs.Meeting.{Free, Witness}
-use Rattle.lent.specs.Lent.{WitnessTables, EnoughForSheet, clearedWitness, SameLengths}
+use Rattle.lent.specs.Lent.{WitnessTables, EnoughForWitness, clearedWitness, SameLengths}
 
 -- the questions before are answered yes, and the tables are lent, long enough and all zero
 pub record Asked (G : Graph) (witness : WitnessTables) : Type 0 where
   pub fits : GraphFits G
-  pub lengths : EnoughForSheet (G .table) witness
+  pub cells : 128 ≤ length (G .table)
+  pub long : EnoughForWitness witness
   pub zeros : witness ≡ clearedWitness witness
 
 -- 0 for yes, and else the length of the witness word, with the witness in the tables

@@ -39,9 +39,9 @@ pub trace-start : (G : Graph) (counts : ℕ) (T : List ℕ) (head e l z : ℕ) (
     → Traced G counts T head (depth e) (depth e) head (ended (noted v (depth e) l e) (depth e) z)
 trace-start G counts T head e l z v a he most hl f (m1, m2, c) =
     let d = depth e in
-    let hw = a .lengths .long .word in
-    let h1 = a .lengths .long .one in
-    let h2 = a .lengths .long .other in
+    let hw = a .long .word in
+    let h1 = a .long .one in
+    let h2 = a .long .other in
     let zw = subst (λ (x : WitnessTables). Zero (x .word)) (sym (a .zeros)) (zero-cleared (v .word)) in
     let z1 = subst (λ (x : WitnessTables). Zero (x .one)) (sym (a .zeros)) (zero-cleared (v .one)) in
     let z2 = subst (λ (x : WitnessTables). Zero (x .other)) (sym (a .zeros)) (zero-cleared (v .other)) in

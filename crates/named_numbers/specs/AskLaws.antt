@@ -5,7 +5,7 @@ use mathlib.Core.List.{List}
 use Rattle.gate.specs.Gate.{refusal}
 use Rattle.gate.specs.declared.Refusal.{Refusal}
 use Rattle.automaton.specs.declared.Numbers.{Numbers}
-use Rattle.automaton.specs.Automaton.{Automaton}
+use Rattle.automaton.specs.Automaton.{Automaton, TransitionSets}
 use Rattle.lent.specs.Lent.{WitnessTables, EnoughForSheet, clearedWitness}
 use Rattle.lent.specs.LentLaws.{tables-twice, meets-cleared}
 use Rattle.walks.specs.declared.Checked.{Checked}
@@ -31,7 +31,7 @@ module _ (A : Automaton) {s : List ℕ} {before after : ReadTables} {a : Numbers
   ask-letters differ e = NamedRefuse.by-letters (h .sheet) (h .accepted) (λ same. differ (sym (h .names .letters) ∙ same)) e (h .witness)
 
   -- the witness is long enough still, and all zero
-  pub ask-ready : {t : List ℕ} → EnoughForSheet t (before .witness) → EnoughForSheet t (after .witness) × (after .witness ≡ clearedWitness (after .witness))
+  pub ask-ready : {t : TransitionSets} → EnoughForSheet t (before .witness) → EnoughForSheet t (after .witness) × (after .witness ≡ clearedWitness (after .witness))
   ask-ready long = ready (before .witness) (h .witness) long
 
   -- the rows tell which letters the file withdraws

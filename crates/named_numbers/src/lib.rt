@@ -4,7 +4,7 @@ ghost use mathlib.Core.List.{List};
 ghost use Prim.Native.Nat.{_≤_};
 ghost use lib.ListN.{length};
 ghost use Rattle.gate.specs.Gate.{Decides};
-ghost use Rattle.automaton.specs.Automaton.{automaton};
+ghost use Rattle.automaton.specs.Automaton.{transitionSets, automaton};
 ghost use Rattle.lent.specs.Lent.{witnessTables, EnoughForSheet, clearedWitness};
 ghost use Rattle.superseding.specs.Superseding.{supersedingIn};
 ghost use Rattle.format.specs.Format.{Withdrawal};
@@ -38,18 +38,19 @@ fn in_force(table: &[u16], rows: &[u8]) -> bool
 fn ask_numbers(
     a: Numbers,
     table: &[u16],
+    marks: &[u16],
     rows: &[u8],
     word: &mut [u16],
     one: &mut [u16],
     other: &mut [u16],
 ) -> Checked
-    requires { ⌜ EnoughForSheet (now table) (witnessTables (now word) (now one) (now other))
+    requires { ⌜ EnoughForSheet (transitionSets (now table) (now marks)) (witnessTables (now word) (now one) (now other))
         × (witnessTables (now word) (now one) (now other) ≡ clearedWitness (witnessTables (now word) (now one) (now other))) × (224 ≤ length (now rows)) ⌝ }
     ensures { λ r. ⌜ ((ws : List Withdrawal) → TellWithdrawn ws (supersedingIn (now (rows .entry)))
-        → ChecksNamed (automaton a (now (table .entry))) ws (witnessTables (now (word .entry)) (now (one .entry)) (now (other .entry)))
+        → ChecksNamed (automaton a (now (table .entry)) (now (marks .entry))) ws (witnessTables (now (word .entry)) (now (one .entry)) (now (other .entry)))
         (witnessTables (now (word .exit)) (now (one .exit)) (now (other .exit))) r) ⌝ }
 {
-    let number = automaton::first_no(a, table);
+    let number = automaton::first_no(a, table, marks);
     if number != 0 {
         return Checked::Refused(Refusal {
             number,
@@ -80,18 +81,20 @@ fn ask_numbers(
 pub fn ask(
     a: Numbers,
     table: &[u16],
+    marks: &[u16],
     names: &[u8],
     rows: &mut [u8],
     word: &mut [u16],
     one: &mut [u16],
     other: &mut [u16],
 ) -> Checked
-    requires { ⌜ EnoughForSheet (now table) (witnessTables (now word) (now one) (now other)) × (224 ≤ length (now rows)) ⌝ }
-    ensures { λ r. ⌜ Asks (automaton a (now (table .entry))) (now (names .entry)) (now (rows .exit))
+    requires { ⌜ EnoughForSheet (transitionSets (now table) (now marks)) (witnessTables (now word) (now one) (now other)) × (224 ≤ length (now rows)) ⌝ }
+    ensures { λ r. ⌜ Asks (automaton a (now (table .entry)) (now (marks .entry))) (now (names .entry)) (now (rows .exit))
         (witnessTables (now (word .entry)) (now (one .entry)) (now (other .entry))) (witnessTables (now (word .exit)) (now (one .exit)) (now (other .exit))) r ⌝ }
 {
     let mut successors = [0u16; 128];
-    match read_long(names, &mut successors, rows, word, one, other) {
+    let mut marked = [0u16; 128];
+    match read_long(names, &mut successors, &mut marked, rows, word, one, other) {
         Read::Refused(r) => Checked::Refused(r),
         Read::Is(b) => {
             if b.k != a.k {
@@ -101,7 +104,7 @@ pub fn ask(
                     length: 0,
                 });
             }
-            ask_numbers(a, table, rows, word, one, other)
+            ask_numbers(a, table, marks, rows, word, one, other)
         }
     }
 }

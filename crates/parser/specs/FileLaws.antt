@@ -9,14 +9,16 @@ use Rattle.gate.specs.Gate.{cleared}
 use Rattle.gate.specs.GateLaws.{cleared-twice}
 use Rattle.gate.specs.declared.Refusal.{Refusal}
 use Rattle.name_lines.specs.NameLines.{Named, NamesRead}
-use Rattle.parser.specs.Parse.{Contents, contents, headOf, afterHead, parse}
+use Rattle.parser.specs.Parse.{emptySets, Contents, contents, headOf, afterHead, parse}
 use Rattle.frame.specs.Phase.{Phase, refused, passed, andThen}
 use Rattle.format.specs.Format.{mostSheet}
 use borrow.Author.Tests.{lt-ltb, le-ltb}
 use Rattle.withdrawal_lines.specs.WithdrawalLines.{Superseded, WithdrawalsRead}
 use Rattle.superseding.specs.Superseding.{supersedingIn, withSuperseding}
 use Rattle.superseding.specs.SupersedingLaws.{eight-stored}
+use Rattle.automaton.specs.Automaton.{Automaton, TransitionSets, transitionSets}
 use Rattle.automaton.specs.declared.Numbers.{Numbers}
+use Rattle.lent.specs.Lent.{ClearedLong, clearedSets, lentSets}
 use Rattle.state_lines.specs.StateLines.{statesAnswer}
 use Rattle.transition_lines.specs.TransitionLines.{FillsTable}
 use Rattle.parser.specs.PhaseAnswers.{GraphRead, NumbersRead, FileRead}
@@ -40,20 +42,32 @@ module _ (t : List ℕ) (zeros : t ≡ cleared t) (long : 128 ≤ length t) wher
       let k : length t ≡ 128 + (length t - 128) = omega arith in
       zeros ∙ (ap (λ (n : ℕ). replicate {A = ℕ} n 0) k ∙ sym (replicate-append-replicate 128 (length t - 128) 0))
 
-  pub sets-zero : take 128 t ≡ replicate 128 0
+  sets-zero : take 128 t ≡ replicate 128 0
   sets-zero =
       ap (λ (x : List ℕ). take 128 x) in-two ∙
       take-at (replicate 128 0) (replicate (length t - 128) 0) 128 (length-replicate {A = ℕ} 128 0)
 
-  pub behind-zero : drop 128 t ≡ replicate (length t - 128) 0
+  behind-zero : drop 128 t ≡ replicate (length t - 128) 0
   behind-zero =
       ap (λ (x : List ℕ). drop 128 x) in-two ∙
       drop-at (replicate 128 0) (replicate (length t - 128) 0) 128 (length-replicate {A = ℕ} 128 0)
 
+-- and two of them
+module _ (t : TransitionSets) (h : ClearedLong t) where
+  pub both-zero : transitionSets (take 128 (t .successors)) (take 128 (t .marks)) ≡ emptySets
+  both-zero = λ i. transitionSets
+      (sets-zero (t .successors) (ap (λ (x : TransitionSets). x .successors) (h .zeros)) (h .long .cells) i)
+      (sets-zero (t .marks) (ap (λ (x : TransitionSets). x .marks) (h .zeros)) (h .long .marks) i)
+
+  pub lent-behind : (A : Automaton) → transitionSets (A .table ++ drop 128 (t .successors)) (A .marks ++ drop 128 (t .marks)) ≡ lentSets A t
+  lent-behind A = λ i. transitionSets
+      (A .table ++ behind-zero (t .successors) (ap (λ (x : TransitionSets). x .successors) (h .zeros)) (h .long .cells) i)
+      (A .marks ++ behind-zero (t .marks) (ap (λ (x : TransitionSets). x .marks) (h .zeros)) (h .long .marks) i)
+
 -- THE STATE LINES
 pub refused-by-states :
-    (p : Phase Sets) (next : Sets → Phase Contents) (t u : List ℕ) (r : Refusal) →
-    Q.Refused r ≡ statesAnswer p → u ≡ cleared t → GraphRead (andThen p next) t u (F.Refused r)
+    (p : Phase Sets) (next : Sets → Phase Contents) (t u : TransitionSets) (r : Refusal) →
+    Q.Refused r ≡ statesAnswer p → u ≡ clearedSets t → GraphRead (andThen p next) t u (F.Refused r)
 refused-by-states (refused number line) next t u r e h = (cc, h)
 refused-by-states (passed q) next t u r e h = absurd (let z : _≡_ {A = ℕ} 0 1 = cc in omega arith)
 
@@ -64,23 +78,23 @@ states-pass (passed q′) next q e = let g : q′ ≡ q = cc in ap next g
 -- THE TRANSITION LINES, the last phase
 module _ (z : Sizes) (y : Named) (w : Superseded) (q : Sets) where
   pub refused-by-transitions :
-      (p : Phase (List ℕ)) (t u : List ℕ) (r : Refusal) →
-      FillsTable p t u (E.Refused r) → GraphRead (andThen p (λ table. passed (contents z y w q table))) t u (F.Refused r)
+      (p : Phase TransitionSets) (t u : TransitionSets) (r : Refusal) →
+      FillsTable p t u (E.Refused r) → GraphRead (andThen p (λ sets. passed (contents z y w q sets))) t u (F.Refused r)
   refused-by-transitions (refused number line) t u r e = ((let d = e .0 in cc), e .1)
-  refused-by-transitions (passed table) t u r e = absurd (let d = e .0 in let z : _≡_ {A = ℕ} 0 1 = cc in omega arith)
+  refused-by-transitions (passed sets) t u r e = absurd (let d = e .0 in let z : _≡_ {A = ℕ} 0 1 = cc in omega arith)
 
   pub transitions-pass :
-      (p : Phase (List ℕ)) (t u : List ℕ) →
-      FillsTable p t u E.Reached → drop 128 t ≡ replicate (length t - 128) 0 →
-      GraphRead (andThen p (λ table. passed (contents z y w q table))) t u
-      (F.Is (record { n = z .n; k = z .k; initial = q .initial; recurring = q .recurring }))
+      (p : Phase TransitionSets) (t u : TransitionSets) →
+      FillsTable p t u E.Reached → ClearedLong t →
+      GraphRead (andThen p (λ sets. passed (contents z y w q sets))) t u
+      (F.Is (record { edition = z .edition; n = z .n; k = z .k; initial = q .initial; recurring = q .recurring }))
   transitions-pass (refused number line) t u e h = absurd (let d = e .0 in let z : _≡_ {A = ℕ} 0 1 = cc in omega arith)
-  transitions-pass (passed table) t u e h = (refl, e .1 ∙ ap (λ (x : List ℕ). table ++ x) h)
+  transitions-pass (passed sets) t u e h = (refl, e .1 ∙ lent-behind t h (contents z y w q sets .numbers))
 
 -- THE WITHDRAWAL LINES, in rows that were `old`
 pub refused-by-withdrawals :
-    (p : Phase Superseded) (next : Superseded → Phase Contents) (t u old rows : List ℕ) (r : Refusal) →
-    WithdrawalsRead p old rows (W.Refused r) → u ≡ cleared t → NumbersRead (andThen p next) t u old rows (F.Refused r)
+    (p : Phase Superseded) (next : Superseded → Phase Contents) (t u : TransitionSets) (old rows : List ℕ) (r : Refusal) →
+    WithdrawalsRead p old rows (W.Refused r) → u ≡ clearedSets t → NumbersRead (andThen p next) t u old rows (F.Refused r)
 refused-by-withdrawals (refused number line) next t u old rows r e h = ((let d = e .0 in cc), h)
 refused-by-withdrawals (passed w) next t u old rows r e h = absurd (let d = e .0 in let z : _≡_ {A = ℕ} 0 1 = cc in omega arith)
 
@@ -114,23 +128,23 @@ withdrawals-pass (passed w) old rows place e =
 -- the graph's lines behind them
 module _ (z : Sizes) (y : Named) (w : Superseded) (old rows : List ℕ) (eight : length (w .cells) ≡ 8) (stored : rows ≡ withSuperseding old (w .cells)) where
   pub with-cells :
-      (p : Phase Sets) (next : Sets → Phase (List ℕ)) (t u : List ℕ) (r : File) →
-      GraphRead (andThen p (λ q. andThen (next q) (λ table. passed (contents z y w q table)))) t u r →
-      NumbersRead (andThen p (λ q. andThen (next q) (λ table. passed (contents z y w q table)))) t u old rows r
+      (p : Phase Sets) (next : Sets → Phase TransitionSets) (t u : TransitionSets) (r : File) →
+      GraphRead (andThen p (λ q. andThen (next q) (λ sets. passed (contents z y w q sets)))) t u r →
+      NumbersRead (andThen p (λ q. andThen (next q) (λ sets. passed (contents z y w q sets)))) t u old rows r
   with-cells (refused number line) next t u r e = e
   with-cells (passed q) next t u r e = cases (next q) e
     where
       cases :
-          (p : Phase (List ℕ)) →
-          GraphRead (andThen p (λ table. passed (contents z y w q table))) t u r →
-          NumbersRead (andThen p (λ table. passed (contents z y w q table))) t u old rows r
+          (p : Phase TransitionSets) →
+          GraphRead (andThen p (λ sets. passed (contents z y w q sets))) t u r →
+          NumbersRead (andThen p (λ sets. passed (contents z y w q sets))) t u old rows r
       cases (refused number line) e = e
-      cases (passed table) e = (e .0, e .1, eight, stored)
+      cases (passed sets) e = (e .0, e .1, eight, stored)
 
 -- THE NAME LINES
 pub refused-by-names :
-    (k : ℕ) (p : Phase Named) (next : Named → Phase Contents) (t u old rows : List ℕ) (r : Refusal) →
-    NamesRead k p (cleared old) rows (N.Refused r) → u ≡ cleared t → FileRead (andThen p next) t u old rows (F.Refused r)
+    (k : ℕ) (p : Phase Named) (next : Named → Phase Contents) (t u : TransitionSets) (old rows : List ℕ) (r : Refusal) →
+    NamesRead k p (cleared old) rows (N.Refused r) → u ≡ clearedSets t → FileRead (andThen p next) t u old rows (F.Refused r)
 refused-by-names k (refused number line) next t u old rows r e h = ((let d = e .0 in cc), h, e .1 ∙ cleared-twice old)
 refused-by-names k (passed y) next t u old rows r e h = absurd (let d = e .0 in let z : _≡_ {A = ℕ} 0 1 = cc in omega arith)
 
@@ -186,26 +200,26 @@ module _ (z : Sizes) (y : Named) (old mid : List ℕ) where
       )
 
   pub with-rows :
-      (p : Phase Superseded) (states : Superseded → Phase Sets) (transitions : Superseded → Sets → Phase (List ℕ)) (t u after rows : List ℕ) (r : File) →
-      NumbersRead (andThen p (λ w. andThen (states w) (λ q. andThen (transitions w q) (λ table. passed (contents z y w q table))))) t u mid after r →
+      (p : Phase Superseded) (states : Superseded → Phase Sets) (transitions : Superseded → Sets → Phase TransitionSets) (t u : TransitionSets) (after rows : List ℕ) (r : File) →
+      NumbersRead (andThen p (λ w. andThen (states w) (λ q. andThen (transitions w q) (λ sets. passed (contents z y w q sets))))) t u mid after r →
       RowsLeft after rows r →
-      FileRead (andThen p (λ w. andThen (states w) (λ q. andThen (transitions w q) (λ table. passed (contents z y w q table))))) t u old rows r
+      FileRead (andThen p (λ w. andThen (states w) (λ q. andThen (transitions w q) (λ sets. passed (contents z y w q sets))))) t u old rows r
   with-rows (refused number line) states transitions t u after rows r e left = (e .0, e .1, subst (RowsLeft after rows) (e .0) left)
   with-rows (passed w) states transitions t u after rows r e left = cases (states w) e
     where
       read :
-          (q : Sets) (p : Phase (List ℕ)) →
-          NumbersRead (andThen p (λ table. passed (contents z y w q table))) t u mid after r →
-          FileRead (andThen p (λ table. passed (contents z y w q table))) t u old rows r
+          (q : Sets) (p : Phase TransitionSets) →
+          NumbersRead (andThen p (λ sets. passed (contents z y w q sets))) t u mid after r →
+          FileRead (andThen p (λ sets. passed (contents z y w q sets))) t u old rows r
       read q (refused number line) e = (e .0, e .1, subst (RowsLeft after rows) (e .0) left)
-      read q (passed table) e =
-          let (range, all, holds, behind, cells) = rows-told (w .cells) after rows (record { n = z .n; k = z .k; initial = q .initial; recurring = q .recurring }) (e .2) (e .3) (subst (RowsLeft after rows) (e .0) left) in
+      read q (passed sets) e =
+          let (range, all, holds, behind, cells) = rows-told (w .cells) after rows (record { edition = z .edition; n = z .n; k = z .k; initial = q .initial; recurring = q .recurring }) (e .2) (e .3) (subst (RowsLeft after rows) (e .0) left) in
           (e .0, e .1, range, all, holds, behind, cells)
 
       cases :
           (p : Phase Sets) →
-          NumbersRead (andThen p (λ q. andThen (transitions w q) (λ table. passed (contents z y w q table)))) t u mid after r →
-          FileRead (andThen p (λ q. andThen (transitions w q) (λ table. passed (contents z y w q table)))) t u old rows r
+          NumbersRead (andThen p (λ q. andThen (transitions w q) (λ sets. passed (contents z y w q sets)))) t u mid after r →
+          FileRead (andThen p (λ q. andThen (transitions w q) (λ sets. passed (contents z y w q sets)))) t u old rows r
       cases (refused number line) e = (e .0, e .1, subst (RowsLeft after rows) (e .0) left)
       cases (passed q) e = read q (transitions w q) e
 

@@ -6,9 +6,9 @@ use native.Mathlib.Omega.{arith}
 use lib.ListN.{drop}
 use Rattle.gate.specs.Gate.{RefusedBy, cleared}
 use Rattle.gate.specs.declared.Refusal.{Refusal}
-use Rattle.automaton.specs.Automaton.{AreNumbers}
+use Rattle.automaton.specs.Automaton.{Automaton, TransitionSets, AreNumbers}
 use Rattle.automaton.specs.declared.Numbers.{Numbers}
-use Rattle.lent.specs.Lent.{lentTable}
+use Rattle.lent.specs.Lent.{clearedSets, lentSets}
 use Rattle.name_rows.specs.Rows.{HoldNames}
 use Rattle.format.specs.Format.{Sheet, FileIs, Faulty}
 use Rattle.format.specs.Numbers.{numbers}
@@ -20,14 +20,20 @@ use Rattle.parser.specs.declared.File.the-variants as F
 use Rattle.superseding.specs.Superseding.{supersedingIn, withSuperseding}
 use Rattle.parser.specs.LettersOf.{LettersIn, BehindNames, LettersOf}
 
--- a file that is read: its numbers and letters, and its successor sets
-pub record FileAccepted (s t u old rows : List ℕ) (a : Numbers) : Type 0 where
+-- a file that is read: its numbers and letters, and its successor sets and marks
+pub record FileAccepted (s : List ℕ) (t u : TransitionSets) (old rows : List ℕ) (a : Numbers) : Type 0 where
   pub letters : LettersOf s rows a
-  pub table : u ≡ lentTable (numbers (letters .sheet) .table) t
+  pub sets : u ≡ lentSets (numbers (letters .sheet)) t
   pub behind : BehindNames (letters .sheet) (a .k) old rows
 
 are-numbers : (σ : Sheet) {a : Numbers} → a ≡ numbersOf (numbers σ) → AreNumbers (numbers σ) a
-are-numbers σ e = record { n = ap (λ z. z .n) e; k = ap (λ z. z .k) e; initial = ap (λ z. z .initial) e; recurring = ap (λ z. z .recurring) e }
+are-numbers σ e = record {
+  edition = ap (λ z. z .edition) e;
+  n = ap (λ z. z .n) e;
+  k = ap (λ z. z .k) e;
+  initial = ap (λ z. z .initial) e;
+  recurring = ap (λ z. z .recurring) e;
+}
 
 letters-in : {s rows : List ℕ} (σ : Sheet) {a : Numbers} → FileIs s σ → a ≡ numbersOf (numbers σ) → {c : Contents} → AreContents σ c → HoldNames (c .names) rows
     → supersedingIn rows ≡ c .superseding → LettersIn σ (a .k) rows
@@ -42,11 +48,11 @@ letters-in {rows = rows} σ file e are holds cells =
       superseding = cells ∙ are .superseding;
     }
 
-module _ (s t u old rows : List ℕ) where
-  pub file-refused : (r : Refusal) → FileRead (parse s) t u old rows (F.Refused r) → RefusedBy (Faulty s) r × (u ≡ cleared t) × (rows ≡ cleared old)
+module _ (s : List ℕ) (t u : TransitionSets) (old rows : List ℕ) where
+  pub file-refused : (r : Refusal) → FileRead (parse s) t u old rows (F.Refused r) → RefusedBy (Faulty s) r × (u ≡ clearedSets t) × (rows ≡ cleared old)
   file-refused r = cases (parse s) (parse-means s)
     where
-      cases : (p : Phase Contents) → Means s p → FileRead p t u old rows (F.Refused r) → RefusedBy (Faulty s) r × (u ≡ cleared t) × (rows ≡ cleared old)
+      cases : (p : Phase Contents) → Means s p → FileRead p t u old rows (F.Refused r) → RefusedBy (Faulty s) r × (u ≡ clearedSets t) × (rows ≡ cleared old)
       cases (refused number line) m e = ((number, line, m, (let d = e .0 in cc)), e .1, e .2)
       cases (passed c) m e = absurd (let d = e .0 in let z : _≡_ {A = ℕ} 0 1 = cc in omega arith)
 
@@ -61,6 +67,6 @@ module _ (s t u old rows : List ℕ) where
           let n : a ≡ numbersOf (numbers σ) = h ∙ ap numbersOf (are .numbers) in
           record {
             letters = record { sheet = σ; file = file; are = are-numbers σ n; range = rw h (e .2); names = letters-in σ file n are (e .4) (e .6) };
-            table = e .1 ∙ ap (λ A. lentTable (A .table) t) (are .numbers);
+            sets = e .1 ∙ ap (λ (A : Automaton). lentSets A t) (are .numbers);
             behind = rw h (e .5) ∙ ap (λ (cells : List ℕ). drop (24 * a .k) (withSuperseding (cleared old) cells)) (are .superseding);
           }

@@ -6,5 +6,5 @@ use Rattle.transition_lines.specs.Unfold.{transition_lines·unfold}
 use Rattle.parser.specs.Parse
 
 unfoldable pub parser·unfold : Unit {0}
-unfolding name_lines·unfold withdrawal_lines·unfold state_lines·unfold transition_lines·unfold Parse.headOf Parse.parse
+unfolding name_lines·unfold withdrawal_lines·unfold state_lines·unfold transition_lines·unfold Parse.editionOf Parse.headOf Parse.parse
 parser·unfold = tt

@@ -9,4 +9,5 @@ pub mod EndLaws
 pub mod PassLaws
 pub mod FollowLaws
 pub mod SoundLaws
+pub mod SameVerdict
 pub mod Unfold

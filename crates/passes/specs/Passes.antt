@@ -49,7 +49,8 @@ pub record Judges (A : Automaton) (w : ℕ → ℕ) (m c : ℕ) (z : Verdict) : 
   pub least : LeastColour A w (m + earlier * c) (m + z .passes * c) (z .least)
   pub answer : AnswerIs (z .least) (z .answer)
 
--- DEMAND 3. The answer is yes exactly if the sheet passes the plan: some endless reading visits must-recur states without end.
+-- DEMAND 3. The answer is yes exactly if the sheet passes the plan: some endless reading visits must-recur states without end or, of an SHT-2, takes
+-- marked transitions without end.
 abbrev pub Sound : Automaton → (ℕ → ℕ) → Answer → Type 0
 Sound A w Yes = Passes A w
 Sound A w No = Passes A w → ⊥

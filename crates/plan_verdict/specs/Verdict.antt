@@ -3,9 +3,9 @@ use Prim.Native.Nat.{ℕ, _≤_}
 use mathlib.Core.Path.{_≡_}
 use mathlib.Core.List.{List}
 use lib.ListN.{length}
-use Rattle.gate.specs.Gate.{refusal, cleared}
+use Rattle.gate.specs.Gate.{refusal}
 use Rattle.gate.specs.declared.Refusal.{Refusal}
-use Rattle.lent.specs.Lent.{clearedWitness, lentTable}
+use Rattle.lent.specs.Lent.{clearedWitness, clearedSets, lentSets}
 use Rattle.format.specs.Format.{Sheet, mostSheet}
 use Rattle.format.specs.Numbers.{numbers}
 use Rattle.reading.specs.Read.{Accepted, Refuses}
@@ -20,7 +20,7 @@ use Rattle.plan_verdict.specs.declared.Outcome.the-variants.{Refused, Ju
 use Rattle.passes.specs.declared.Verdict.{Verdict}
 use Rattle.passes.specs.Passes.{Judges, Sound}
 
--- "Is the sheet at most 24,576 bytes, the plan at most 12,288?": one question, asked of both before question 3
+-- "Is the sheet at most 32,768 bytes" (R-9), "the plan at most 12,288?": one question, asked of both before question 3
 pub record SizesFit (s p : List ℕ) : Type 0 where
   pub sheet : length s ≤ mostSheet
   pub plan : length p ≤ mostPlan
@@ -52,10 +52,10 @@ pub data Judgement (s p : List ℕ) (room : ℕ) (before after : BuildTables) (o
   short : (EnoughToBuild room before → ⊥) → o ≡ Refused (refusal 1 0) → after ≡ before → Judgement s p room before after o
   -- 2 to 14
   refused : EnoughToBuild room before → (r : Refusal) → Refusing s p room before after r → o ≡ Refused r
-      → after .successors ≡ cleared (before .successors) → after .tracker ≡ clearedTracker (before .tracker) → Judgement s p room before after o
+      → after .sets ≡ clearedSets (before .sets) → after .tracker ≡ clearedTracker (before .tracker) → Judgement s p room before after o
   -- yes or no, with the sheet's successor sets and its tracker in the tables
   judged : EnoughToBuild room before → SizesFit s p → (σ : Sheet) → Accepted s σ
       → (count : ℕ) → Fitted (numbers σ) room (before .tracker) (after .tracker) count
       → (lead cycle : List ℕ) (z : Verdict) → Verdicts σ p lead cycle count z → o ≡ Judged z
-      → after .successors ≡ lentTable (numbers σ .table) (before .successors) → after .witness ≡ clearedWitness (before .witness)
+      → after .sets ≡ lentSets (numbers σ) (before .sets) → after .witness ≡ clearedWitness (before .witness)
       → Judgement s p room before after o

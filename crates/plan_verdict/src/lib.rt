@@ -3,6 +3,7 @@ ghost use mathlib.Core.Path.{_≡_};
 ghost use Prim.Native.Nat.{_≤_};
 ghost use lib.ListN.{length};
 ghost use Rattle.name_rows.specs.Rows.{OnlyRow};
+ghost use Rattle.automaton.specs.Automaton.{transitionSets};
 ghost use Rattle.format.specs.Format.{Sheet};
 ghost use Rattle.parser.specs.LettersOf.{LettersIn};
 ghost use Rattle.plan_lines.specs.PlanLines.{mostPlan};
@@ -45,18 +46,19 @@ pub fn judge_plan(
     }
 }
 
-// With a refusal of the plan the successor sets and the tracker's tables become zero. The answer stays.
+// With a refusal of the plan the successor sets, the marks and the tracker's tables become zero. The answer stays.
 pub fn clear_refused(
     judged: Outcome,
     table: &mut [u16],
+    marks: &mut [u16],
     tuples: &mut [u16],
     nexts: &mut [u16],
 ) -> Outcome
-    ensures { λ r. ⌜ (r ≡ judged) × PlanLeft (now (table .entry)) (now (table .exit))
+    ensures { λ r. ⌜ (r ≡ judged) × PlanLeft (transitionSets (now (table .entry)) (now (marks .entry))) (transitionSets (now (table .exit)) (now (marks .exit)))
         (trackerTables (now (tuples .entry)) (now (nexts .entry))) (trackerTables (now (tuples .exit)) (now (nexts .exit))) r ⌝ }
 {
     if let Outcome::Refused(_) = judged {
-        gate::clear(table);
+        lent::clear_sets(table, marks);
         filling::clear(tuples, nexts);
     }
     judged

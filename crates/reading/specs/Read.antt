@@ -5,9 +5,9 @@ use mathlib.Core.List.{List}
 use Rattle.gate.specs.Gate.{refusal, cleared}
 use Rattle.gate.specs.declared.Refusal.{Refusal}
 use Rattle.automaton.specs.declared.Numbers.{Numbers}
-use Rattle.automaton.specs.Automaton.{graphOf, AreNumbers}
+use Rattle.automaton.specs.Automaton.{TransitionSets, graphOf, AreNumbers}
 use Rattle.automaton.specs.Endless.{MeetingFree}
-use Rattle.lent.specs.Lent.{WitnessTables, clearedWitness, lentTable, Meets}
+use Rattle.lent.specs.Lent.{WitnessTables, clearedWitness, clearedSets, lentSets, Meets}
 use Rattle.reading.specs.declared.Read.{Read}
 use Rattle.reading.specs.declared.Read.the-variants.{Refused, Is}
 use Rattle.format.specs.Format.{Sheet, FileIs, Faulty}
@@ -26,26 +26,26 @@ pub data Refuses (s : List ℕ) (before after : WitnessTables) (r : Refusal) : T
 
 -- ALL THAT IS READ of a sheet, for the calls that go on with it
 pub record ReadTables : Type 0 where
-  -- the lent table of successor sets
-  pub successors : List ℕ
+  -- the lent tables of successor sets and marks
+  pub sets : TransitionSets
   -- the composed names, and the superseding letters
   pub rows : List ℕ
   -- the lent witness
   pub witness : WitnessTables
 
-abbrev pub readTables : List ℕ → List ℕ → WitnessTables → ReadTables
-readTables successors rows witness = record { successors = successors; rows = rows; witness = witness }
+abbrev pub readTables : TransitionSets → List ℕ → WitnessTables → ReadTables
+readTables sets rows witness = record { sets = sets; rows = rows; witness = witness }
 
 -- the lent ones cleared, the names as they were
 abbrev pub lentCleared : ReadTables → ReadTables
-lentCleared before = readTables (cleared (before .successors)) (before .rows) (clearedWitness (before .witness))
+lentCleared before = readTables (clearedSets (before .sets)) (before .rows) (clearedWitness (before .witness))
 
 -- an accepted sheet file, its numbers a and what the tables hold then: "On success every cell of these tables without a meaning is zero"
 pub record SheetRead (s : List ℕ) (before after : ReadTables) (a : Numbers) : Type 0 where
   pub sheet : Sheet
   pub accepted : Accepted s sheet
   pub are : AreNumbers (numbers sheet) a
-  pub successors : after .successors ≡ lentTable (numbers sheet .table) (before .successors)
+  pub sets : after .sets ≡ lentSets (numbers sheet) (before .sets)
   pub witness : after .witness ≡ clearedWitness (before .witness)
   pub names : LettersIn sheet (a .k) (after .rows)
   pub behind : BehindNames sheet (a .k) (before .rows) (after .rows)
@@ -53,5 +53,5 @@ pub record SheetRead (s : List ℕ) (before after : ReadTables) (a : Numbers) : 
 -- the answer of questions 2 to 10, in tables that are long enough, with the names
 abbrev pub ReadsNamed : List ℕ → ReadTables → ReadTables → Read → Type 0
 ReadsNamed s before after (Refused r) =
-    Refuses s (before .witness) (after .witness) r × (after .successors ≡ cleared (before .successors)) × (after .rows ≡ cleared (before .rows))
+    Refuses s (before .witness) (after .witness) r × (after .sets ≡ clearedSets (before .sets)) × (after .rows ≡ cleared (before .rows))
 ReadsNamed s before after (Is a) = SheetRead s before after a

@@ -1,19 +1,18 @@
 -- From the file and the walk check to the answer of reading. Assumes nothing.
 use Prim.Native.Nat.{ℕ, _-_, _≤_}
 use mathlib.Core.Path.{_≡_, sym, _∙_, ap, subst}
-use mathlib.Core.List.{List, _++_}
+use mathlib.Core.List.{List}
 use native.Mathlib.Omega.{arith}
-use lib.ListN.{length, take, replicate}
+use lib.ListN.{length, take}
 use Rattle.gate.specs.Gate.{cleared}
-use Rattle.gate.specs.GateLaws.{cleared-twice, length-cleared}
 use Rattle.gate.specs.declared.Refusal.{Refusal}
-use Rattle.automaton.specs.Automaton.{Automaton, automaton, graphOf, graphNumbers, Fits}
+use Rattle.automaton.specs.Automaton.{Automaton, TransitionSets, automaton, graphOf, graphNumbers, Fits}
 use Rattle.automaton.specs.Graph.{Graph, graph, GraphFits}
 use Rattle.automaton.specs.QuestionLaws.{same-graph, fits-graph}
 use Rattle.automaton.specs.declared.GraphNumbers.{GraphNumbers}
 use Rattle.automaton.specs.declared.Numbers.{Numbers}
-use Rattle.lent.specs.Lent.{WitnessTables, EnoughForWitness, clearedWitness, EnoughForSheet}
-use Rattle.lent.specs.LentLaws.{tables-twice, long-cleared, meets-cleared}
+use Rattle.lent.specs.Lent.{WitnessTables, EnoughForWitness, clearedWitness, clearedSets, EnoughForSheet}
+use Rattle.lent.specs.LentLaws.{tables-twice, long-cleared, meets-cleared, sets-twice, long-sets-cleared, lent-cleared}
 use Rattle.meeting.specs.Answer.{Asked}
 use Rattle.walks.specs.Check.{AnsweredTen}
 use Rattle.walks.specs.CheckLaws.{meets-answered}
@@ -34,23 +33,24 @@ refuses-number (Refuses.faulty number line f e z) h = omega (arith, fault-number
 refuses-number (Refuses.meeting σ f m) h = omega (arith, m .number)
 
 -- QUESTION 10 on a file that is read
-module _ {s t u old rows : List ℕ} {a : Numbers} (h : FileAccepted s t u old rows a) where
-  sheet-automaton : automaton a (take 128 u) ≡ numbers (h .letters .sheet)
-  sheet-automaton = read-is (h .letters .sheet) t (h .letters .are) (h .table)
+module _ {s : List ℕ} {t u : TransitionSets} {old rows : List ℕ} {a : Numbers} (h : FileAccepted s t u old rows a) where
+  sheet-automaton : automaton a (take 128 (u .successors)) (take 128 (u .marks)) ≡ numbers (h .letters .sheet)
+  sheet-automaton = read-is (h .letters .sheet) t (h .letters .are) (h .sets)
 
   -- its graph is the one that is asked
   module _ {g : GraphNumbers} (same : g ≡ graphNumbers a) {before : WitnessTables} (zeros : before ≡ clearedWitness before) where
-    sheet-graph : graph g (take 128 u) ≡ graphOf (numbers (h .letters .sheet))
-    sheet-graph = same-graph a (take 128 u) same ∙ ap (λ (A : Automaton). graphOf A) sheet-automaton
+    sheet-graph : graph g (take 128 (u .successors)) ≡ graphOf (numbers (h .letters .sheet))
+    sheet-graph = same-graph a (take 128 (u .successors)) (take 128 (u .marks)) same ∙ ap (λ (A : Automaton). graphOf A) sheet-automaton
 
-    pub asked : EnoughForWitness before → Asked (graph g (take 128 u)) before
+    pub asked : EnoughForWitness before → Asked (graph g (take 128 (u .successors))) before
     asked long = record {
       fits = subst GraphFits (sym sheet-graph) (fits-graph (sheet-fits s (h .letters .sheet) (h .letters .file)));
-      lengths = record { cells = subst (λ (G : Graph). 128 ≤ length (G .table)) (sym sheet-graph) (omega (arith, numbers-length (h .letters .sheet))); long = long };
+      cells = subst (λ (G : Graph). 128 ≤ length (G .table)) (sym sheet-graph) (omega (arith, numbers-length (h .letters .sheet)));
+      long = long;
       zeros = zeros;
     }
 
-    module _ {after : WitnessTables} {r : ℕ} (answer : AnsweredTen (graph g (take 128 u)) before after r) where
+    module _ {after : WitnessTables} {r : ℕ} (answer : AnsweredTen (graph g (take 128 (u .successors))) before after r) where
       answered : AnsweredTen (graphOf (numbers (h .letters .sheet))) before after r
       answered = subst (λ (G : Graph). AnsweredTen G before after r) sheet-graph answer
 
@@ -59,19 +59,19 @@ module _ {s t u old rows : List ℕ} {a : Numbers} (h : FileAccepted s t u old r
         sheet = h .letters .sheet;
         accepted = record { file = h .letters .file; free = answered .free e };
         are = h .letters .are;
-        successors = h .table;
+        sets = h .sets;
         witness = answered .kept e ∙ zeros;
         names = h .letters .names;
         behind = h .behind;
       }
 
-      pub meeting-refuses : (r ≡ 0 → ⊥) → {u′ rows′ : List ℕ} → u′ ≡ cleared t → rows′ ≡ cleared old
+      pub meeting-refuses : (r ≡ 0 → ⊥) → {u′ : TransitionSets} {rows′ : List ℕ} → u′ ≡ clearedSets t → rows′ ≡ cleared old
           → ReadsNamed s (readTables t old before) (readTables u′ rows′ after) (R.Refused (record { number = 10; line = 0; length = r }))
       meeting-refuses e z y = (Refuses.meeting (h .letters .sheet) (h .letters .file) (meets-answered answered e), z, y)
 
 -- a file with a fault
 pub fault-refuses :
-    (s t u old rows : List ℕ) (r : Refusal) {before : WitnessTables} → FileRead (parse s) t u old rows (F.Refused r) → before ≡ clearedWitness before
+    (s : List ℕ) (t u : TransitionSets) (old rows : List ℕ) (r : Refusal) {before : WitnessTables} → FileRead (parse s) t u old rows (F.Refused r) → before ≡ clearedWitness before
     → ReadsNamed s (readTables t old before) (readTables u rows before) (R.Refused r)
 fault-refuses s t u old rows r e zeros =
     let ((number, line, faulty, is), clear, zero) = file-refused s t u old rows r e in
@@ -79,7 +79,7 @@ fault-refuses s t u old rows r e zeros =
 
 -- TABLES THAT ARE CLEARED FIRST
 named-cleared : (s : List ℕ) (before after : ReadTables) (r : Read) → ReadsNamed s (lentCleared before) after r → ReadsNamed s before after r
-named-cleared s before after (R.Refused r) (f, z, y) = (refuses f, z ∙ cleared-twice (before .successors), y)
+named-cleared s before after (R.Refused r) (f, z, y) = (refuses f, z ∙ sets-twice (before .sets), y)
   where
     refuses : Refuses s (clearedWitness (before .witness)) (after .witness) r → Refuses s (before .witness) (after .witness) r
     refuses (Refuses.faulty number line f e c) = Refuses.faulty number line f e (c ∙ tables-twice (before .witness))
@@ -88,7 +88,7 @@ named-cleared s before after (R.Is a) h = record {
   sheet = h .sheet;
   accepted = h .accepted;
   are = h .are;
-  successors = h .successors ∙ ap (λ (n : ℕ). numbers (h .sheet) .table ++ replicate {A = ℕ} (n - 128) 0) (length-cleared (before .successors));
+  sets = h .sets ∙ lent-cleared (numbers (h .sheet)) (before .sets);
   witness = h .witness ∙ tables-twice (before .witness);
   names = h .names;
   behind = h .behind;
@@ -96,28 +96,28 @@ named-cleared s before after (R.Is a) h = record {
 
 -- the tables once they are cleared
 module _ (before : ReadTables) {zeroed : ReadTables} (e : zeroed ≡ lentCleared before) where
-  pub ready-to-read : EnoughForSheet (before .successors) (before .witness) × (224 ≤ length (before .rows))
-      → EnoughForSheet (zeroed .successors) (zeroed .witness)
+  pub ready-to-read : EnoughForSheet (before .sets) (before .witness) × (224 ≤ length (before .rows))
+      → EnoughForSheet (zeroed .sets) (zeroed .witness)
       × (224 ≤ length (zeroed .rows))
-      × (zeroed .successors ≡ cleared (zeroed .successors))
+      × (zeroed .sets ≡ clearedSets (zeroed .sets))
       × (zeroed .witness ≡ clearedWitness (zeroed .witness))
   ready-to-read (long, room) =
       rw e (
-        record { cells = rw (length-cleared (before .successors)) (long .cells); long = long-cleared (before .witness) (long .long) },
+        record { tables = long-sets-cleared (before .sets) (long .tables); long = long-cleared (before .witness) (long .long) },
         room,
-        sym (cleared-twice (before .successors)),
+        sym (sets-twice (before .sets)),
         sym (tables-twice (before .witness)),
       )
 
   pub reads-cleared : (s : List ℕ) (after : ReadTables) (r : Read) → ReadsNamed s zeroed after r → ReadsNamed s before after r
   reads-cleared s after r j = named-cleared s before after r (rw e at j)
 
--- A SHEET THAT IS READ: its numbers, with the first 128 cells of the table, are an automaton that fits
+-- A SHEET THAT IS READ: its numbers, with the first 128 cells of the tables, are an automaton that fits
 module _ {s : List ℕ} {before after : ReadTables} {a : Numbers} (h : SheetRead s before after a) where
-  pub read-automaton : automaton a (take 128 (after .successors)) ≡ numbers (h .sheet)
-  read-automaton = read-is (h .sheet) (before .successors) (h .are) (h .successors)
+  pub read-automaton : automaton a (take 128 (after .sets .successors)) (take 128 (after .sets .marks)) ≡ numbers (h .sheet)
+  read-automaton = read-is (h .sheet) (before .sets) (h .are) (h .sets)
 
-  pub read-fits : Fits (automaton a (take 128 (after .successors)))
+  pub read-fits : Fits (automaton a (take 128 (after .sets .successors)) (take 128 (after .sets .marks)))
   read-fits = subst Fits (sym read-automaton) (sheet-fits s (h .sheet) (h .accepted .file))
 
   -- it has at most eight letters

@@ -14,7 +14,7 @@ use Rattle.witness_text.specs.WitnessText.{witnessText}
 
 -- the longest sheet that is written: 8 names of 24 bytes, 16 states and 2,048 transitions
 abbrev pub longestRewrite : ℕ
-longestRewrite = 22960
+longestRewrite = 29056
 
 -- WHAT `rewrite` PRINTS for the input s
 pub data RewriteOutput (s text : List ℕ) : Type 0 where

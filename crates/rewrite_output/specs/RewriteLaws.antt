@@ -33,7 +33,7 @@ use Rattle.rewrite_output.specs.Rewrite.{longestRewrite, RewriteOutput}
 use Rattle.rewrite_output.specs.Put.{refusalText}
 use Rattle.rewrite_output.specs.PutLaws.{text-other, text-ten, refusal-most}
 
--- TOO LONG: "Is the sheet at most 24,576 bytes ..? No: 2", and nothing else is printed
+-- TOO LONG: "Is the sheet at most 32,768 bytes ..? No: 2", and nothing else is printed
 pub too-long-rewrite : TooLong RewriteOutput mostSheet (refusalLine 2 0)
 too-long-rewrite s text h = (to, λ e. RewriteOutput.refused 2 0 (Faulty.size h) e)
   where
@@ -44,7 +44,7 @@ too-long-rewrite s text h = (to, λ e. RewriteOutput.refused 2 0 (Faulty.size h)
     to (RewriteOutput.meeting σ file before after r m e) = absurd (file-or-fault s σ 2 0 file (Faulty.size h))
     to (RewriteOutput.written σ accepted e) = absurd (file-or-fault s σ 2 0 (accepted .file) (Faulty.size h))
 
--- the first 24,577 bytes of the input are enough
+-- the first 32,769 bytes of the input are enough
 pub rewrite-enough : (s text : List ℕ) → RewriteOutput s text ↔ RewriteOutput (take (mostSheet + 1) s) text
 rewrite-enough = enough too-long-rewrite
 

@@ -1,4 +1,5 @@
 // The sheet file, read.
+ghost use Rattle.automaton.specs.Automaton.{transitionSets};
 ghost use Rattle.lent.specs.Lent.{witnessTables};
 ghost use Rattle.sheet.specs.Read.{sheetTables, Reads};
 use gate::Refusal;
@@ -10,15 +11,16 @@ use reading::read_long;
 pub fn read_sheet(
     sheet: &[u8],
     table: &mut [u16],
+    marks: &mut [u16],
     word: &mut [u16],
     one: &mut [u16],
     other: &mut [u16],
 ) -> Read
     ensures { λ r. ⌜ Reads (now (sheet .entry))
-        (sheetTables (now (table .entry)) (witnessTables (now (word .entry)) (now (one .entry)) (now (other .entry))))
-        (sheetTables (now (table .exit)) (witnessTables (now (word .exit)) (now (one .exit)) (now (other .exit)))) r ⌝ }
+        (sheetTables (transitionSets (now (table .entry)) (now (marks .entry))) (witnessTables (now (word .entry)) (now (one .entry)) (now (other .entry))))
+        (sheetTables (transitionSets (now (table .exit)) (now (marks .exit))) (witnessTables (now (word .exit)) (now (one .exit)) (now (other .exit)))) r ⌝ }
 {
-    if !lent::long_enough(table, word, one, other) {
+    if !lent::long_enough(table, marks, word, one, other) {
         return Read::Refused(Refusal {
             number: 1,
             line: 0,
@@ -26,5 +28,5 @@ pub fn read_sheet(
         });
     }
     let mut rows = [0u8; 224];
-    read_long(sheet, table, &mut rows, word, one, other)
+    read_long(sheet, table, marks, &mut rows, word, one, other)
 }

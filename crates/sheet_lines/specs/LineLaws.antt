@@ -12,8 +12,9 @@ use Rattle.columns.specs.ColumnLaws.{column-length}
 use Rattle.columns.specs.Line.{fields, numbersLine}
 use Rattle.columns.specs.LineLaws.{numbers-stored}
 use Rattle.lists.specs.StoreLaws.{sets-append, sets-part}
-use Rattle.format.specs.Format.{sheetWord, headLine, nameLine, withdrawalLine}
-use Rattle.format.specs.Withdrawals.{withdrawnBy}
+use Rattle.automaton.specs.declared.Edition.{Edition}
+use Rattle.automaton.specs.declared.Edition.the-variants.{StateBased, TransitionBased}
+use Rattle.format.specs.Format.{sheetWord, headLine, nameLine}
 
 pub name-stored : (out : List ℕ) (at l : ℕ) (name : List ℕ) →
     set (sets (set (sets (set out at 78) (at + 1) (column 3 l)) (at + 4) space) (at + 5) name) (at + 5 + length name) lf ≡ sets out at (nameLine l name)
@@ -31,22 +32,19 @@ last-stored out at a b e₁ e₂ =
     let six : at + 3 + 3 ≡ at + 6 = omega arith in
     rw (e₂, e₁) (rw (add-zero, six) at (numbers-stored out at [] (a ∷ b ∷ [])))
 
--- behind the word or the numbers that stand ahead of them
-pub head-stored : (out : List ℕ) (at n k : ℕ) {o₁ o₂ : List ℕ} →
-    o₁ ≡ sets out at sheetWord → o₂ ≡ sets o₁ (at + 5) (fields (n ∷ k ∷ []) (lf ∷ [])) → o₂ ≡ sets out at (headLine n k)
+-- numbers ahead of others, behind the byte of their kind, or behind a word
+pub ahead-stored : (out : List ℕ) (at behind v : ℕ) (vs : List ℕ) {o₁ o₂ : List ℕ} → at + 3 ≡ behind →
+    o₁ ≡ sets out at (column 3 v) → o₂ ≡ sets o₁ behind (fields vs (lf ∷ [])) → o₂ ≡ sets out at (fields (v ∷ vs) (lf ∷ []))
+ahead-stored out at behind v vs p e₁ e₂ =
+    let q : at + length (column 3 v) ≡ behind = omega (arith, column-length 3 v) in
+    rw (e₂, e₁) (sym (sets-part (column 3 v) (fields vs (lf ∷ [])) out at behind q))
+
+pub kind-stored : (out : List ℕ) (at kind : ℕ) (vs : List ℕ) {o : List ℕ} →
+    o ≡ sets (set out at kind) (at + 1) (fields vs (lf ∷ [])) → o ≡ sets out at (numbersLine (kind ∷ []) vs)
+kind-stored out at kind vs e = e ∙ sym (sets-append (kind ∷ []) (fields vs (lf ∷ [])) out at)
+
+pub head-stored : (e : Edition) (out : List ℕ) (at n k : ℕ) {o₁ o₂ : List ℕ} →
+    o₁ ≡ sets out at (sheetWord e) → o₂ ≡ sets o₁ (at + 5) (fields (n ∷ k ∷ []) (lf ∷ [])) → o₂ ≡ sets out at (headLine e n k)
 unfolding headLine
-head-stored out at n k e₁ e₂ = rw (e₂, e₁) (sym (sets-append sheetWord (fields (n ∷ k ∷ []) (lf ∷ [])) out at))
-
-pub withdrawal-stored : (out : List ℕ) (at letter by : ℕ) {o : List ℕ} →
-    o ≡ sets (set out at 87) (at + 1) (fields (letter ∷ by ∷ []) (lf ∷ [])) → o ≡ sets out at (withdrawalLine (withdrawnBy letter by))
-unfolding withdrawalLine
-withdrawal-stored out at letter by e = rw e (sym (sets-append (87 ∷ []) (fields (letter ∷ by ∷ []) (lf ∷ [])) out at))
-
-pub columns-stored : (out : List ℕ) (at kind a b c : ℕ) {o₁ o₂ : List ℕ} →
-    o₁ ≡ sets (set out at kind) (at + 1) (column 3 a) → o₂ ≡ sets o₁ (at + 4) (fields (b ∷ c ∷ []) (lf ∷ [])) →
-    o₂ ≡ sets out at (numbersLine (kind ∷ []) (a ∷ b ∷ c ∷ []))
-columns-stored out at kind a b c e₁ e₂ =
-    let rest = fields (b ∷ c ∷ []) (lf ∷ []) in
-    let four : at + 1 + length (column 3 a) ≡ at + 4 = omega (arith, column-length 3 a) in
-    rw (e₂, e₁)
-    (sym (sets-append (kind ∷ []) (fields (a ∷ b ∷ c ∷ []) (lf ∷ [])) out at ∙ sets-part (column 3 a) rest (set out at kind) (at + 1) (at + 4) four))
+head-stored StateBased out at n k e₁ e₂ = rw (e₂, e₁) (sym (sets-append (sheetWord StateBased) (fields (n ∷ k ∷ []) (lf ∷ [])) out at))
+head-stored TransitionBased out at n k e₁ e₂ = rw (e₂, e₁) (sym (sets-append (sheetWord TransitionBased) (fields (n ∷ k ∷ []) (lf ∷ [])) out at))

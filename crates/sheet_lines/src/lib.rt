@@ -7,10 +7,11 @@ ghost use mathlib.Core.List.{[], _∷_};
 ghost use Rattle.text.specs.Bytes.{lf};
 ghost use Rattle.columns.specs.Line.{fields, numbersLine};
 ghost use Rattle.sets.specs.Sets.{bit};
-ghost use Rattle.format.specs.Format.{headLine, nameLine, withdrawalLine, stateLine, transitionLine};
+ghost use Rattle.format.specs.Format.{sheetWord, headLine, nameLine, withdrawalLine, stateLine, transitionLine, stateWidth, transitionWidth};
 ghost use Rattle.format.specs.Withdrawals.{withdrawnBy};
-ghost use Rattle.format.specs.Written.{stateOf, placed};
+ghost use Rattle.format.specs.Written.{stateOf, placed, mostTransitions};
 ghost use Rattle.sheet_lines.specs.RowName.{rowName};
+use automaton::Edition;
 
 // The last two numbers of a line, and its end.
 fn put_last(out: &mut [u8], at: usize, a: usize, b: usize)
@@ -22,12 +23,23 @@ fn put_last(out: &mut [u8], at: usize, a: usize, b: usize)
     out[at + 6] = 10;
 }
 
-// The first line.
-pub fn put_head(out: &mut [u8], at: usize, n: usize, k: usize)
-    requires { ⌜ at + 12 ≤ length (now out) ⌝ }
-    ensures { λ _. ⌜ now (out .exit) ≡ sets (now (out .entry)) at (headLine n k) ⌝ }
+// The word of an edition.
+fn put_word(out: &mut [u8], at: usize, edition: Edition)
+    requires { ⌜ at + 5 ≤ length (now out) ⌝ }
+    ensures { λ _. ⌜ now (out .exit) ≡ sets (now (out .entry)) at (sheetWord edition) ⌝ }
 {
-    text::put_bytes(out, at, b"SHEET");
+    match edition {
+        Edition::StateBased => text::put_bytes(out, at, b"SHEET"),
+        Edition::TransitionBased => text::put_bytes(out, at, b"SHT-2"),
+    }
+}
+
+// The first line.
+pub fn put_head(out: &mut [u8], at: usize, edition: Edition, n: usize, k: usize)
+    requires { ⌜ at + 12 ≤ length (now out) ⌝ }
+    ensures { λ _. ⌜ now (out .exit) ≡ sets (now (out .entry)) at (headLine edition n k) ⌝ }
+{
+    put_word(out, at, edition);
     put_last(out, at + 5, n, k);
 }
 
@@ -72,23 +84,42 @@ pub fn put_row(out: &mut [u8], at: usize, rows: &[u8], l: usize) -> usize
     put_name(out, at, l, &rows[start..end])
 }
 
+// The byte `kind` and two numbers.
+fn put_two(out: &mut [u8], at: usize, kind: u8, a: usize, b: usize)
+    requires { ⌜ at + 8 ≤ length (now out) ⌝ }
+    ensures { λ _. ⌜ now (out .exit) ≡ sets (now (out .entry)) at (numbersLine (kind ∷ []) (a ∷ b ∷ [])) ⌝ }
+{
+    out[at] = kind;
+    put_last(out, at + 1, a, b);
+}
+
 // The line of a withdrawn letter: `by` supersedes it.
 pub fn put_withdrawal(out: &mut [u8], at: usize, letter: usize, by: usize)
     requires { ⌜ at + 8 ≤ length (now out) ⌝ }
     ensures { λ _. ⌜ now (out .exit) ≡ sets (now (out .entry)) at (withdrawalLine (withdrawnBy letter by)) ⌝ }
 {
-    out[at] = b'W';
-    put_last(out, at + 1, letter, by);
+    put_two(out, at, b'W', letter, by);
 }
 
-// The byte `kind` and three numbers: the line of a state or of a transition.
-fn put_columns(out: &mut [u8], at: usize, kind: u8, a: usize, b: usize, c: usize)
+// The byte `kind` and three numbers.
+fn put_three(out: &mut [u8], at: usize, kind: u8, a: usize, b: usize, c: usize)
     requires { ⌜ at + 11 ≤ length (now out) ⌝ }
     ensures { λ _. ⌜ now (out .exit) ≡ sets (now (out .entry)) at (numbersLine (kind ∷ []) (a ∷ b ∷ c ∷ [])) ⌝ }
 {
     out[at] = kind;
     columns::put_column(out, at + 1, 3, a);
     put_last(out, at + 4, b, c);
+}
+
+// The byte `kind` and four numbers.
+fn put_four(out: &mut [u8], at: usize, kind: u8, a: usize, b: usize, c: usize, d: usize)
+    requires { ⌜ at + 14 ≤ length (now out) ⌝ }
+    ensures { λ _. ⌜ now (out .exit) ≡ sets (now (out .entry)) at (numbersLine (kind ∷ []) (a ∷ b ∷ c ∷ d ∷ [])) ⌝ }
+{
+    out[at] = kind;
+    columns::put_column(out, at + 1, 3, a);
+    columns::put_column(out, at + 4, 3, b);
+    put_last(out, at + 7, c, d);
 }
 
 // 1 where q is a member of the set, and 0 where it is not.
@@ -103,17 +134,33 @@ fn flag(set: u16, q: usize) -> usize
 }
 
 // The line of state q.
-pub fn put_state(out: &mut [u8], at: usize, q: usize, initial: u16, recurring: u16)
-    requires { ⌜ (q < 16) × (at + 11 ≤ length (now out)) ⌝ }
-    ensures { λ _. ⌜ now (out .exit) ≡ sets (now (out .entry)) at (stateLine q (stateOf initial recurring q)) ⌝ }
+pub fn put_state(
+    out: &mut [u8],
+    at: usize,
+    edition: Edition,
+    q: usize,
+    initial: u16,
+    recurring: u16,
+)
+    requires { ⌜ (q < 16) × (at + stateWidth edition ≤ length (now out)) ⌝ }
+    ensures { λ _. ⌜ now (out .exit) ≡ sets (now (out .entry)) at (stateLine edition q (stateOf initial recurring q)) ⌝ }
 {
-    put_columns(out, at, b'S', q, flag(initial, q), flag(recurring, q));
+    match edition {
+        Edition::StateBased => put_three(out, at, b'S', q, flag(initial, q), flag(recurring, q)),
+        Edition::TransitionBased => put_two(out, at, b'S', q, flag(initial, q)),
+    }
 }
 
-// The line of the transition at place i.
-pub fn put_transition(out: &mut [u8], at: usize, i: usize)
-    requires { ⌜ at + 11 ≤ length (now out) ⌝ }
-    ensures { λ _. ⌜ now (out .exit) ≡ sets (now (out .entry)) at (transitionLine (placed i)) ⌝ }
+// The line of the transition at place i, with its mark.
+pub fn put_transition(out: &mut [u8], at: usize, edition: Edition, marks: &[u16], i: usize)
+    requires { ⌜ (i < mostTransitions) × (128 ≤ length (now marks)) × (at + transitionWidth edition ≤ length (now out)) ⌝ }
+    ensures { λ _. ⌜ now (out .exit) ≡ sets (now (out .entry)) at (transitionLine edition (placed (now (marks .entry)) i)) ⌝ }
 {
-    put_columns(out, at, b'T', i / 128, i / 16 % 8, i % 16);
+    match edition {
+        Edition::StateBased => put_three(out, at, b'T', i / 128, i / 16 % 8, i % 16),
+        Edition::TransitionBased => {
+            let mark = flag(marks[i / 16], i % 16);
+            put_four(out, at, b'T', i / 128, i / 16 % 8, i % 16, mark);
+        }
+    }
 }

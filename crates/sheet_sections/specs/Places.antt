@@ -8,8 +8,8 @@ use Rattle.format.specs.Format.{Transition}
 use Rattle.format.specs.Written.{mostTransitions, transitionsOf}
 
 -- the transitions at the places from i on
-abbrev pub transitionsFrom : List ℕ → ℕ → List Transition
-transitionsFrom table i = transitionsOf table i (mostTransitions - i)
+abbrev pub transitionsFrom : List ℕ → List ℕ → ℕ → List Transition
+transitionsFrom table marks i = transitionsOf table marks i (mostTransitions - i)
 
 -- a transition stands at place i
 abbrev pub At : List ℕ → ℕ → Type 0
@@ -20,8 +20,8 @@ pub record Stop (table : List ℕ) (i : ℕ) : Type 0 where
   pub most : i ≤ mostTransitions
   pub there : i < mostTransitions → At table i
 
--- i is the first such place from `start` on
+-- i is the first such place from `start` on, whatever is marked
 pub record NextPlace (table : List ℕ) (start i : ℕ) : Type 0 where
   pub from : start ≤ i
   pub stop : Stop table i
-  pub none-before : transitionsFrom table start ≡ transitionsFrom table i
+  pub none-before : (marks : List ℕ) → transitionsFrom table marks start ≡ transitionsFrom table marks i

@@ -16,8 +16,9 @@ textOf A names ws = lines (sheetOf A names ws) ++ endLine
 abbrev pub rowsText : Automaton → List ℕ → List ℕ
 rowsText A rows = textOf A (rowNames rows 0 (A .k)) (withdrawalsOf (supersedingIn rows) 0 (A .k))
 
--- an automaton that has a text: its letters have rows, and its cells a table
+-- an automaton that has a text: its letters have rows, and its cells tables
 pub record Writable (A : Automaton) : Type 0 where
   pub states : A .n ≤ 16
   pub letters : A .k ≤ 8
   pub table : 128 ≤ length (A .table)
+  pub marks : 128 ≤ length (A .marks)

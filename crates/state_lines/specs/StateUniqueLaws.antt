@@ -5,6 +5,7 @@ use mathlib.Core.List.{List, [], _∷_, _++_, append-assoc}
 use lib.ListN.{length}
 use native.Mathlib.Omega.{arith}
 use Rattle.lists.specs.AppendLaws.{append-same}
+use Rattle.automaton.specs.declared.Edition.{Edition}
 use Rattle.format.specs.Format.{State, stateLine, stateLines, FlagsRight, StatesRight}
 use Rattle.format.specs.FormatLaws.{state-length}
 use Rattle.state_lines.specs.declared.StateLine.the-variants as S
@@ -12,26 +13,26 @@ use Rattle.state_lines.specs.StateLines.{stateLineAt}
 use Rattle.state_lines.specs.StateLaws.{state-line-of}
 
 -- ONE LINE at the top of a text is one line
-module _ (r t : List ℕ) where
-  state-same : (q : ℕ) (z y : State) → q < 1000 → FlagsRight z → FlagsRight y → stateLine q z ++ r ≡ stateLine q y ++ t → (z ≡ y) × (r ≡ t)
-  state-same q z y hq h g e =
-      let s : List ℕ = stateLine q z ++ r in
-      let a : stateLineAt s 0 q ≡ S.Is (z .initial) (z .recurring) = state-line-of s 0 q z r hq h refl in
-      let b : stateLineAt s 0 q ≡ S.Is (y .initial) (y .recurring) = state-line-of s 0 q y t hq g e in
+module _ (e : Edition) (r t : List ℕ) where
+  state-same : (q : ℕ) (z y : State) → q < 1000 → FlagsRight e z → FlagsRight e y → stateLine e q z ++ r ≡ stateLine e q y ++ t → (z ≡ y) × (r ≡ t)
+  state-same q z y hq h g f =
+      let s : List ℕ = stateLine e q z ++ r in
+      let a : stateLineAt e s 0 q ≡ S.Is (z .initial) (z .recurring) = state-line-of e s 0 q z r hq h refl in
+      let b : stateLineAt e s 0 q ≡ S.Is (y .initial) (y .recurring) = state-line-of e s 0 q y t hq g f in
       let c : z .initial ≡ y .initial = cc in
       let d : z .recurring ≡ y .recurring = cc in
-      (λ i. record { initial = c i; recurring = d i }, append-same (stateLine q z) (stateLine q y) r t (state-length q z ∙ sym (state-length q y)) e .1)
+      (λ i. record { initial = c i; recurring = d i }, append-same (stateLine e q z) (stateLine e q y) r t (state-length e q z ∙ sym (state-length e q y)) f .1)
 
 -- AS MANY LINES are the same lines
 pub states-same :
-    (q : ℕ) (zs ys : List State) (r t : List ℕ) → q + length zs ≤ 1000 → length zs ≡ length ys → StatesRight zs → StatesRight ys →
-    stateLines q zs ++ r ≡ stateLines q ys ++ t → (zs ≡ ys) × (r ≡ t)
+    (e : Edition) (q : ℕ) (zs ys : List State) (r t : List ℕ) → q + length zs ≤ 1000 → length zs ≡ length ys → StatesRight e zs → StatesRight e ys →
+    stateLines e q zs ++ r ≡ stateLines e q ys ++ t → (zs ≡ ys) × (r ≡ t)
 unfolding stateLines
-states-same q [] [] r t hq c h g e = (refl, e)
-states-same q [] (y ∷ ys) r t hq c h g e = absurd (omega arith)
-states-same q (z ∷ zs) [] r t hq c h g e = absurd (omega arith)
-states-same q (z ∷ zs) (y ∷ ys) r t hq c h g e =
-    let f : stateLine q z ++ (stateLines (suc q) zs ++ r) ≡ stateLine q y ++ (stateLines (suc q) ys ++ t) = sym (append-assoc (stateLine q z) (stateLines (suc q) zs) r) ∙ (e ∙ append-assoc (stateLine q y) (stateLines (suc q) ys) t) in
-    let (a, b) = state-same (stateLines (suc q) zs ++ r) (stateLines (suc q) ys ++ t) q z y (omega arith) (h .0) (g .0) f in
-    let (p, o) = states-same (suc q) zs ys r t (omega arith) (omega arith) (h .1) (g .1) b in
+states-same e q [] [] r t hq c h g f = (refl, f)
+states-same e q [] (y ∷ ys) r t hq c h g f = absurd (omega arith)
+states-same e q (z ∷ zs) [] r t hq c h g f = absurd (omega arith)
+states-same e q (z ∷ zs) (y ∷ ys) r t hq c h g f =
+    let l : stateLine e q z ++ (stateLines e (suc q) zs ++ r) ≡ stateLine e q y ++ (stateLines e (suc q) ys ++ t) = sym (append-assoc (stateLine e q z) (stateLines e (suc q) zs) r) ∙ (f ∙ append-assoc (stateLine e q y) (stateLines e (suc q) ys) t) in
+    let (a, b) = state-same e (stateLines e (suc q) zs ++ r) (stateLines e (suc q) ys ++ t) q z y (omega arith) (h .0) (g .0) l in
+    let (p, o) = states-same e (suc q) zs ys r t (omega arith) (omega arith) (h .1) (g .1) b in
     (ap₂ _∷_ a p, o)

@@ -51,7 +51,7 @@ module _ (s text : List ℕ) (long : mostSheet < length s) where
 pub too-long-track : TooLong TrackOutput mostSheet (refusalLine 2 0)
 too-long-track s text long = (only-size s text long, by-size s text long)
 
--- the first 24,577 bytes of the input are enough
+-- the first 32,769 bytes of the input are enough
 pub track-enough : (s text : List ℕ) → TrackOutput s text ↔ TrackOutput (take (mostSheet + 1) s) text
 track-enough = enough too-long-track
 

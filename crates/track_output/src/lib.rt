@@ -9,7 +9,7 @@ ghost use Rattle.track_output.specs.Track.{longestTrack, TrackOutput};
 ghost use Rattle.track_output.specs.Parts.{Behind, Printing};
 
 // How many bytes of the input are read: one more than a sheet may have decides question 2, whatever follows.
-pub const INPUT: usize = 24577;
+pub const INPUT: usize = 32769;
 
 // The longest output: 17 + 1,024 lines of 146 + 4 bytes.
 pub const OUTPUT: usize = 149525;
@@ -31,6 +31,7 @@ fn list(input: &[u8], out: &mut [u8]) -> usize
     ensures { λ r. ⌜ Prints (TrackOutput (now (input .entry))) longestTrack (now (out .entry)) (now (out .exit)) r ⌝ }
 {
     let mut table = [0u16; 128];
+    let mut marks = [0u16; 128];
     let mut tuples = [0u16; 1024 * tuple_record::RECORD];
     let mut nexts = [0u16; 8192];
     let mut word = [0u16; 136];
@@ -40,6 +41,7 @@ fn list(input: &[u8], out: &mut [u8]) -> usize
         input,
         1024,
         &mut table,
+        &mut marks,
         &mut tuples,
         &mut nexts,
         &mut word,

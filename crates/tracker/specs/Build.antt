@@ -1,12 +1,11 @@
 -- What building a tracker answers, and what the lent tables hold then.
 use Prim.Native.Nat.{ℕ}
 use mathlib.Core.Path.{_≡_}
-use mathlib.Core.List.{List}
-use Rattle.gate.specs.Gate.{refusal, cleared}
+use Rattle.gate.specs.Gate.{refusal}
 use Rattle.gate.specs.declared.Refusal.{Refusal}
-use Rattle.automaton.specs.Automaton.{Automaton, graphOf, Fits, AreNumbers}
+use Rattle.automaton.specs.Automaton.{Automaton, TransitionSets, setsOfAutomaton, graphOf, Fits, AreNumbers}
 use Rattle.automaton.specs.Endless.{MeetingFree}
-use Rattle.lent.specs.Lent.{WitnessTables, EnoughForSheet, clearedWitness, NumbersRefuse}
+use Rattle.lent.specs.Lent.{WitnessTables, EnoughForSheet, clearedWitness, clearedSets, NumbersRefuse}
 use Rattle.numbering.specs.Numbering.{MoreThan}
 use Rattle.filling.specs.TrackerTables.{TrackerTables, clearedTracker, EnoughForTracker, Fitted}
 use Rattle.tracker.specs.declared.Built.{Built}
@@ -23,30 +22,30 @@ abbrev pub buildNumbersTables : WitnessTables → TrackerTables → BuildNumbers
 buildNumbersTables witness tracker = record { witness = witness; tracker = tracker }
 
 pub record BuildTables : Type 0 where
-  -- the successor sets
-  pub successors : List ℕ
+  -- the successor sets, and the marks
+  pub sets : TransitionSets
   pub witness : WitnessTables
   pub tracker : TrackerTables
 
-abbrev pub buildTables : List ℕ → WitnessTables → TrackerTables → BuildTables
-buildTables successors witness tracker = record { successors = successors; witness = witness; tracker = tracker }
+abbrev pub buildTables : TransitionSets → WitnessTables → TrackerTables → BuildTables
+buildTables sets witness tracker = record { sets = sets; witness = witness; tracker = tracker }
 
 -- each table all zero, as long as before
 abbrev pub clearedBuildNumbers : BuildNumbersTables → BuildNumbersTables
 clearedBuildNumbers before = buildNumbersTables (clearedWitness (before .witness)) (clearedTracker (before .tracker))
 
 abbrev pub clearedBuild : BuildTables → BuildTables
-clearedBuild before = buildTables (cleared (before .successors)) (clearedWitness (before .witness)) (clearedTracker (before .tracker))
+clearedBuild before = buildTables (clearedSets (before .sets)) (clearedWitness (before .witness)) (clearedTracker (before .tracker))
 
 -- QUESTION 1: "Are the lent tables long enough (128 successor sets; a witness of 136 letters and two walks of 137 states; for room R, .. tuple
 -- numbers and 8·R next numbers ..), and is R 1 to 1,024?", with R-7's 19 numbers a tuple
 pub record EnoughToBuild (room : ℕ) (before : BuildTables) : Type 0 where
-  pub lengths : EnoughForSheet (before .successors) (before .witness)
+  pub lengths : EnoughForSheet (before .sets) (before .witness)
   pub tracker : EnoughForTracker room (before .tracker)
 
 -- where the sheet comes as the numbers A, with its successor sets
 abbrev pub EnoughToBuildNumbers : Automaton → ℕ → BuildNumbersTables → Type 0
-EnoughToBuildNumbers A room before = EnoughToBuild room (buildTables (A .table) (before .witness) (before .tracker))
+EnoughToBuildNumbers A room before = EnoughToBuild room (buildTables (setsOfAutomaton A) (before .witness) (before .tracker))
 
 -- QUESTION 11 on the automaton A: the tracker, or 11 with both of its tables all zero
 abbrev pub Tracks : Automaton → ℕ → TrackerTables → TrackerTables → Built → Type 0

@@ -2,7 +2,7 @@
 use automaton::Numbers;
 use gate::Refusal;
 use walks::Checked;
-ghost use Rattle.automaton.specs.Automaton.{automaton, Fits};
+ghost use Rattle.automaton.specs.Automaton.{transitionSets, automaton, Fits};
 ghost use Rattle.gate.specs.Gate.{Decides};
 ghost use Rattle.lent.specs.Lent.{witnessTables};
 ghost use Rattle.filling.specs.TrackerTables.{trackerTables, EnoughForTracker};
@@ -23,6 +23,7 @@ pub enum Built {
 pub fn enough(
     room: usize,
     table: &[u16],
+    marks: &[u16],
     tuples: &[u16],
     nexts: &[u16],
     word: &[u16],
@@ -30,7 +31,7 @@ pub fn enough(
     other: &[u16],
 ) -> bool
     ensures { λ r. ⌜ Decides r (EnoughToBuild room
-        (buildTables (now (table .entry)) (witnessTables (now (word .entry)) (now (one .entry)) (now (other .entry))) (trackerTables (now (tuples .entry)) (now (nexts .entry))))) ⌝ }
+        (buildTables (transitionSets (now (table .entry)) (now (marks .entry))) (witnessTables (now (word .entry)) (now (one .entry)) (now (other .entry))) (trackerTables (now (tuples .entry)) (now (nexts .entry))))) ⌝ }
 {
     if room < 1 {
         return false;
@@ -44,17 +45,24 @@ pub fn enough(
     if nexts.len() < 8 * room {
         return false;
     }
-    lent::long_enough(table, word, one, other)
+    lent::long_enough(table, marks, word, one, other)
 }
 
 // Question 11 on an automaton that fits, in tables with any contents.
-pub fn track(a: Numbers, table: &[u16], room: usize, tuples: &mut [u16], nexts: &mut [u16]) -> Built
-    requires { ⌜ Fits (automaton a (now table)) × EnoughForTracker room (trackerTables (now tuples) (now nexts)) ⌝ }
-    ensures { λ r. ⌜ Tracks (automaton a (now (table .entry))) room
+pub fn track(
+    a: Numbers,
+    table: &[u16],
+    marks: &[u16],
+    room: usize,
+    tuples: &mut [u16],
+    nexts: &mut [u16],
+) -> Built
+    requires { ⌜ Fits (automaton a (now table) (now marks)) × EnoughForTracker room (trackerTables (now tuples) (now nexts)) ⌝ }
+    ensures { λ r. ⌜ Tracks (automaton a (now (table .entry)) (now (marks .entry))) room
         (trackerTables (now (tuples .entry)) (now (nexts .entry))) (trackerTables (now (tuples .exit)) (now (nexts .exit))) r ⌝ }
 {
     filling::clear(tuples, nexts);
-    let m = filling::fill(a, table, room, tuples, nexts);
+    let m = filling::fill(a, table, marks, room, tuples, nexts);
     if room < m {
         filling::clear(tuples, nexts);
         return Built::Refused(Refusal {
@@ -73,6 +81,7 @@ pub fn track(a: Numbers, table: &[u16], room: usize, tuples: &mut [u16], nexts: 
 pub fn build_numbers(
     a: Numbers,
     table: &[u16],
+    marks: &[u16],
     room: usize,
     tuples: &mut [u16],
     nexts: &mut [u16],
@@ -80,20 +89,20 @@ pub fn build_numbers(
     one: &mut [u16],
     other: &mut [u16],
 ) -> Built
-    ensures { λ r. ⌜ BuildsNumbers (automaton a (now (table .entry))) room
+    ensures { λ r. ⌜ BuildsNumbers (automaton a (now (table .entry)) (now (marks .entry))) room
         (buildNumbersTables (witnessTables (now (word .entry)) (now (one .entry)) (now (other .entry))) (trackerTables (now (tuples .entry)) (now (nexts .entry))))
         (buildNumbersTables (witnessTables (now (word .exit)) (now (one .exit)) (now (other .exit))) (trackerTables (now (tuples .exit)) (now (nexts .exit)))) r ⌝ }
 {
-    if !enough(room, table, tuples, nexts, word, one, other) {
+    if !enough(room, table, marks, tuples, nexts, word, one, other) {
         return Built::Refused(Refusal {
             number: 1,
             line: 0,
             length: 0,
         });
     }
-    if let Checked::Refused(r) = walks::check_long(a, table, word, one, other) {
+    if let Checked::Refused(r) = walks::check_long(a, table, marks, word, one, other) {
         filling::clear(tuples, nexts);
         return Built::Refused(r);
     }
-    track(a, table, room, tuples, nexts)
+    track(a, table, marks, room, tuples, nexts)
 }

@@ -1,4 +1,5 @@
 // The call that judges a plan.
+ghost use Rattle.automaton.specs.Automaton.{transitionSets};
 ghost use Rattle.lent.specs.Lent.{witnessTables};
 ghost use Rattle.filling.specs.TrackerTables.{trackerTables};
 ghost use Rattle.tracker.specs.Build.{buildTables};
@@ -13,6 +14,7 @@ pub extern "C" fn lunthomi_verdict(
     plan: &[u8],
     room: usize,
     table: &mut [u16],
+    marks: &mut [u16],
     tuples: &mut [u16],
     nexts: &mut [u16],
     word: &mut [u16],
@@ -21,10 +23,21 @@ pub extern "C" fn lunthomi_verdict(
     answer: &mut [usize],
 )
     ensures { λ _. ⌜ InNumbers (Judgement (now (sheet .entry)) (now (plan .entry)) room
-        (buildTables (now (table .entry)) (witnessTables (now (word .entry)) (now (one .entry)) (now (other .entry))) (trackerTables (now (tuples .entry)) (now (nexts .entry))))
-        (buildTables (now (table .exit)) (witnessTables (now (word .exit)) (now (one .exit)) (now (other .exit))) (trackerTables (now (tuples .exit)) (now (nexts .exit)))))
+        (buildTables (transitionSets (now (table .entry)) (now (marks .entry))) (witnessTables (now (word .entry)) (now (one .entry)) (now (other .entry))) (trackerTables (now (tuples .entry)) (now (nexts .entry))))
+        (buildTables (transitionSets (now (table .exit)) (now (marks .exit))) (witnessTables (now (word .exit)) (now (one .exit)) (now (other .exit))) (trackerTables (now (tuples .exit)) (now (nexts .exit)))))
         outcomeCells (now (answer .entry)) (now (answer .exit)) ⌝ }
 {
-    let r = judge::verdict(sheet, plan, room, table, tuples, nexts, word, one, other);
+    let r = judge::verdict(
+        sheet,
+        plan,
+        room,
+        table,
+        marks,
+        tuples,
+        nexts,
+        word,
+        one,
+        other,
+    );
     answers::put_outcome(r, answer);
 }

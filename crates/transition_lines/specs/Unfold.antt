@@ -4,5 +4,5 @@ use Rattle.format.specs.Unfold.{format·unfold}
 use Rattle.transition_lines.specs.TransitionLines
 
 unfoldable pub transition_lines·unfold : Unit {0}
-unfolding frame·unfold format·unfold TransitionLines.transitionOf TransitionLines.transitionLineAt TransitionLines.transitionsAt
+unfolding frame·unfold format·unfold TransitionLines.transitionOf TransitionLines.markedOne TransitionLines.lineFrom TransitionLines.transitionLineAt TransitionLines.transitionsAt
 transition_lines·unfold = tt

@@ -1,5 +1,5 @@
 -- The verdict is right: the least colour entered without end is even exactly if the sheet passes the word. Assumes nothing.
-use Prim.Native.Nat.{ℕ, zero, suc, _+_, _%_, _≤_, _<_}
+use Prim.Native.Nat.{ℕ, suc, _+_, _%_, _≤_, _<_}
 use mathlib.Core.Path.{_≡_, sym, subst, ap, _∙_}
 use mathlib.Core.Logic.{_↔_}
 use native.Mathlib.Omega.{arith}
@@ -11,20 +11,21 @@ use Rattle.automaton.specs.Graph.{Edge}
 use Rattle.automaton.specs.Meeting.{Walk, Meet, Free}
 use Rattle.automaton.specs.Endless.{EndlessFrom, MeetingFree}
 use Rattle.automaton.specs.EndlessLaws.{reading-endless, reading-walk}
-use Rattle.automaton.specs.Reading.{Reading, Recurs, Passes}
+use Rattle.automaton.specs.Reading.{Reading, Passes, Recurrent}
+use Rattle.automaton.specs.RecurrenceLaws.{recurs-takes}
 use Rattle.automaton.specs.EdgeLaws.{edge-dec}
 use Rattle.finite.specs.Paths.{glue, glue-lt, glue-ge, extend}
 use Rattle.finite.specs.Least.{lowest}
 use Rattle.theory.specs.Run.{Path, Often, Alone, Least}
 use Rattle.theory.specs.Endless.{LPO, least-endless}
 use Rattle.theory.specs.Theorem.{repeating, endless}
-use Rattle.tuple.specs.Step.{setAt, Recurrent, run, colourEntered}
+use Rattle.tuple.specs.Step.{setAt, run, colourEntered}
 use Rattle.tuple.specs.PassLaws.{In}
 use Rattle.tuple.specs.TupleLaws.{first-in, first-member}
 use Rattle.tuple.specs.RunLaws.{run-repeats, is-run, set-zero}
 
--- The readings of a sheet are the paths of the theory, and to visit must-recur states without end is to take recurrent transitions
--- without end
+-- The readings of a sheet are the paths of the theory, and to visit must-recur states, or to take marked transitions, without end is to take recurrent
+-- transitions without end
 
 abbrev Paths : Automaton → (ℕ → ℕ) → (ℕ → ℕ) → Type 0
 Paths A w x = Path (λ t. Edge (graphOf A) (w t)) (λ t. In (run A w t .sets)) x
@@ -37,20 +38,10 @@ reading-of : (A : Automaton) (w x : ℕ → ℕ) → Paths A w x → Reading (gr
 unfolding run
 reading-of A w x h = record { starts = first-in A 0 (x 0) (h .starts) .1; goes = h .goes }
 
-often-of : (A : Automaton) (w x : ℕ → ℕ) → Reading (graphOf A) w x → Recurs A x → Often (λ t. Recurrent A (w t)) x
-often-of A w x h recurs t = let (u, l, m) = recurs (suc t) in at u l m
-  where
-    at : (u : ℕ) → suc t < u → Member (A .recurring) (x u) → (u : ℕ) × (t < u) × Recurrent A (w u) (x u) (x (suc u))
-    at zero l m = absurd (omega arith)
-    at (suc u) l m = (u, omega arith, record { edge = h .goes u; into = m })
-
-recurs-of : (A : Automaton) (w x : ℕ → ℕ) → Often (λ t. Recurrent A (w t)) x → Recurs A x
-recurs-of A w x o t = let (u, l, m) = o t in (suc u, omega arith, m .into)
-
 passes-both : (A : Automaton) (w : ℕ → ℕ) → ((x : ℕ → ℕ) × Paths A w x × Often (λ t. Recurrent A (w t)) x) ↔ Passes A w
 passes-both A w = (
-  λ (x, h, o). (x, reading-of A w x h, recurs-of A w x o),
-  λ (x, h, r). (x, path-of A w x h, often-of A w x h r),
+  λ (x, h, o). let g = reading-of A w x h in (x, g, recurs-takes A w x g .1 o),
+  λ (x, h, r). (x, path-of A w x h, recurs-takes A w x h .0 r),
 )
 
 -- An automaton without walks that meet in states that count, and every state of a reading counts

@@ -2,11 +2,12 @@
 use mathlib.Core.Path.{_≡_, refl}
 use mathlib.Core.List.{[], _∷_, _++_, map}
 use Rattle.automaton.specs.Automaton.{Automaton}
+use Rattle.automaton.specs.declared.Edition.the-variants.{StateBased}
 use Rattle.tuple.specs.Step.{Tuple, first, next}
 use Rattle.tuple.specs.Unfold.{tuple·unfold}
 
 sheetB : Automaton
-sheetB = record { n = 2; k = 2; initial = 3; recurring = 2; table = 1 ∷ 3 ∷ 0 ∷ 0 ∷ 0 ∷ 0 ∷ 0 ∷ 0 ∷ 2 ∷ [] }
+sheetB = record { edition = StateBased; n = 2; k = 2; initial = 3; recurring = 2; table = 1 ∷ 3 ∷ 0 ∷ 0 ∷ 0 ∷ 0 ∷ 0 ∷ 0 ∷ 2 ∷ []; marks = [] }
 
 t0 : Tuple
 t0 = record { sets = 3 ∷ []; colour = 5 }

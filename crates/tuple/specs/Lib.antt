@@ -15,5 +15,7 @@ pub mod UnionLaws
 pub mod GatherLaws
 pub mod SweepLaws
 pub mod StepLaws
+pub mod SameSteps
+pub mod RewrittenStep
 pub mod EmptyPlaces
 pub mod Unfold

@@ -6,8 +6,10 @@ use mathlib.Core.Bool.{Bool, true, false}
 use mathlib.Core.List.{List, _++_, map}
 use lib.ListN.{length, getD, set, take, drop, replicate}
 use lib.Seq.{slice}
-use Rattle.sets.specs.Sets.{unionOf}
+use Rattle.sets.specs.Sets.{unionOf, interOf}
 use Rattle.automaton.specs.Automaton.{Automaton}
+use Rattle.automaton.specs.declared.Edition.{Edition}
+use Rattle.automaton.specs.declared.Edition.the-variants.{StateBased, TransitionBased}
 use Rattle.automaton.specs.Successors.{successorsOf}
 use Rattle.tuple.specs.Step.{places, unionAll, least, pass, colourOf, closeUp}
 use Rattle.tuple_record.specs.Record.{setCells}
@@ -22,6 +24,11 @@ outOf false out x = out
 pub record Advanced (table : List ℕ) (l : ℕ) (cells result : List ℕ) (count : ℕ) : Type 0 where
   pub counted : count ≡ length (setsOf cells)
   pub replaced : result ≡ map (successorsOf table l) (setsOf cells) ++ drop count cells
+
+-- the new set of point 2, from set 0 before the step and after it
+abbrev pub recurrentFrom : Edition → ℕ → List ℕ → ℕ → ℕ → ℕ → ℕ
+recurrentFrom StateBased recurring marks l old first = interOf first recurring
+recurrentFrom TransitionBased recurring marks l old first = successorsOf marks l old
 
 -- cell j of later has the members of the places behind j, of the first count places
 abbrev pub Unions : ℕ → List ℕ → List ℕ → Type 0

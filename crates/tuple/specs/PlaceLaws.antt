@@ -1,26 +1,24 @@
 -- The places before the marking pass: facts F1 and F2 of the theory. Assumes nothing.
-use Prim.Native.Nat.{ℕ, suc, _≤_, _<_}
+use Prim.Native.Nat.{ℕ, suc, _+_, _*_, _≤_, _<_}
 use mathlib.Core.Path.{_≡_, sym, subst, ap, _∙_}
-use mathlib.Core.Logic.{Dec·and, Dec·of-iff}
 use mathlib.Core.List.{List, [], _∷_, map}
 use native.Mathlib.Omega.{arith}
 use native.Mathlib.Decide.{decLt}
 use lib.ListN.{length, getD, length-append, length-map, List·getD-append, List·getD-map}
 use lib.Seq.{getD-at}
 use Rattle.sets.specs.Sets.{Member}
-use Rattle.sets.specs.SetLaws.{member-dec, inter-in, inter-of}
+use Rattle.sets.specs.SetLaws.{inter-in, inter-of}
 use Rattle.automaton.specs.Automaton.{Automaton, graphOf, Fits}
 use Rattle.automaton.specs.Graph.{Edge}
 use Rattle.automaton.specs.Successors.{successorsOf}
-use Rattle.automaton.specs.EdgeLaws.{edge-dec, edge-state}
-use Rattle.automaton.specs.QuestionLaws.{fits-graph}
-use Rattle.automaton.specs.SuccessorLaws.{successors-edge, successors-empty}
-use Rattle.tuple.specs.Step.{setAt, recurrent, Recurrent, places}
+use Rattle.automaton.specs.EdgeLaws.{edge-of, edge-state}
+use Rattle.automaton.specs.QuestionLaws.{fits-graph, marked-within}
+use Rattle.automaton.specs.Reading.{RecurrentBy, Recurrent}
+use Rattle.automaton.specs.SuccessorLaws.{successors-in, successors-of-member, successors-edge, successors-empty}
+use Rattle.automaton.specs.declared.Edition.{Edition}
+use Rattle.automaton.specs.declared.Edition.the-variants.{StateBased, TransitionBased}
+use Rattle.tuple.specs.Step.{setAt, recurrentBy, recurrent, places}
 use Rattle.tuple.specs.PassLaws.{In, front}
-
-pub recurrent-dec : (A : Automaton) (l q r : ℕ) → Dec (Recurrent A l q r)
-recurrent-dec A l q r =
-    Dec·of-iff (λ (a, b). record { edge = a; into = b }, λ e. (e .edge, e .into)) (Dec·and (edge-dec (graphOf A) l q r) (member-dec (A .recurring) r))
 
 pub places-length : (A : Automaton) (l : ℕ) (sets : List ℕ) → length (places A l sets) ≡ suc (length sets)
 unfolding places
@@ -36,14 +34,28 @@ module _ {A : Automaton} (fits : Fits A) where
     edges-in : (x r : ℕ) → Member (successorsOf (A .table) l x) r → (q : ℕ) × Member x q × Edge (graphOf A) l q r
     edges-in x r h = successors-edge (graphOf A) (fits-graph fits) l x letter r .0 h
 
-    recurrent-of : (x q r : ℕ) → Member x q → Recurrent A l q r → Member (recurrent A l x) r
-    recurrent-of x q r h e = inter-of (successorsOf (A .table) l x) (A .recurring) r (edges-of x q r h (e .edge)) (e .into)
+    pub recurrent-of : (x q r : ℕ) → Member x q → Recurrent A l q r → Member (recurrent A l x) r
+    recurrent-of x q r h e = by (A .edition) (e .rule)
+      where
+        by : (d : Edition) → RecurrentBy d A l q r → Member (recurrentBy d A l x) r
+        by StateBased m = inter-of (successorsOf (A .table) l x) (A .recurring) r (edges-of x q r h (e .edge)) m
+        by TransitionBased m =
+            let a = e .edge .from in
+            let b = fits .range .1 in
+            successors-of-member (A .marks) l x q r (omega arith) h m
 
-    recurrent-in : (x r : ℕ) → Member (recurrent A l x) r → (q : ℕ) × Member x q × Recurrent A l q r
-    recurrent-in x r h =
-        let (a, b) = inter-in (successorsOf (A .table) l x) (A .recurring) r h in
-        let (q, c, e) = edges-in x r a in
-        (q, c, record { edge = e; into = b })
+    pub recurrent-in : (x r : ℕ) → Member (recurrent A l x) r → (q : ℕ) × Member x q × Recurrent A l q r
+    recurrent-in x r h = let (q, c, e, m) = by (A .edition) h in (q, c, record { edge = e; rule = m })
+      where
+        by : (d : Edition) → Member (recurrentBy d A l x) r → (q : ℕ) × Member x q × Edge (graphOf A) l q r × RecurrentBy d A l q r
+        by StateBased h =
+            let (a, b) = inter-in (successorsOf (A .table) l x) (A .recurring) r h in
+            let (q, c, e) = edges-in x r a in
+            (q, c, e, b)
+        by TransitionBased h =
+            let (q, j, c, m) = successors-in (A .marks) l x r h in
+            let b = fits .range .3 in
+            (q, c, edge-of (graphOf A) (fits-graph fits) l q r (omega arith) (marked-within fits (8 * q + l) r m), m)
 
     -- F1: the successors of each set
     places-below : (sets : List ℕ) (j : ℕ) → j < length sets → setAt (places A l sets) j ≡ successorsOf (A .table) l (setAt sets j)

@@ -13,11 +13,13 @@ use Rattle.automaton.specs.Graph.{Edge}
 use Rattle.automaton.specs.Meeting.{Walk}
 use Rattle.theory.specs.Run.{Run}
 use Rattle.theory.specs.Basic.{is-reached, reaches}
-use Rattle.tuple.specs.Step.{colourEntered, Recurrent, setAt, places, Place, pass, first, next, run}
+use Rattle.automaton.specs.Reading.{Recurrent}
+use Rattle.automaton.specs.RecurrenceLaws.{recurrent-dec}
+use Rattle.tuple.specs.Step.{colourEntered, setAt, places, Place, pass, first, next, run}
 use Rattle.tuple.specs.PassLaws.{In, front, After, Marked, kept, gone, mark-some, mark-in, mark-out, turns-length}
 use Rattle.tuple.specs.CloseLaws.{rank, rank-some, rank-none, move, move⁻, dec-place}
 use Rattle.tuple.specs.ColourLaws.{col-mark, col-gone, col-pos, col-top, col-even, col-odd}
-use Rattle.tuple.specs.PlaceLaws.{recurrent-dec, places-old, places-old⁻, places-new, places-new⁻, places-none, places-length}
+use Rattle.tuple.specs.PlaceLaws.{places-old, places-old⁻, places-new, places-new⁻, places-none, places-length}
 use Rattle.tuple.specs.TupleLaws.{run-formed, first-in, first-member}
 
 -- from equal tuples on, over a word that repeats, the tuples repeat

@@ -5,8 +5,9 @@ use mathlib.Core.Bool.{Bool, true, false, not, _&&_}
 use mathlib.Core.List.{List, [], _∷_, _++_, map}
 use lib.ListN.{length, getD}
 use Rattle.sets.specs.Sets.{Member, unionOf, interOf, minusOf, isEmpty, isWithin}
-use Rattle.automaton.specs.Automaton.{Automaton, graphOf}
-use Rattle.automaton.specs.Graph.{Edge}
+use Rattle.automaton.specs.Automaton.{Automaton}
+use Rattle.automaton.specs.declared.Edition.{Edition}
+use Rattle.automaton.specs.declared.Edition.the-variants.{StateBased, TransitionBased}
 use Rattle.automaton.specs.Successors.{successorsOf}
 use Rattle.colour.specs.Colour.{neutral, isEmptied, colourAt, deadOr}
 
@@ -24,14 +25,14 @@ setAt sets i = getD sets i 0
 abbrev successorsEach : Automaton → ℕ → List ℕ → List ℕ
 successorsEach A l sets = map (successorsOf (A .table) l) sets
 
--- 2. "the must-recur states in the new set 0", where x is set 0 before the step
-abbrev pub recurrent : Automaton → ℕ → ℕ → ℕ
-recurrent A l x = interOf (successorsOf (A .table) l x) (A .recurring)
+-- 2. SHEET: "the must-recur states in the new set 0"; R-9, SHT-2: "the states reached from set 0 over a marked transition". x is set 0 before the step.
+abbrev pub recurrentBy : Edition → Automaton → ℕ → ℕ → ℕ
+recurrentBy StateBased A l x = interOf (successorsOf (A .table) l x) (A .recurring)
+recurrentBy TransitionBased A l x = successorsOf (A .marks) l x
 
--- these are the targets of recurrent transitions: those into a must-recur state
-pub record Recurrent (A : Automaton) (l q r : ℕ) : Type 0 where
-  pub edge : Edge (graphOf A) l q r
-  pub into : Member (A .recurring) r
+-- these are the targets of the recurrent transitions from x: `Recurrent` in automaton/specs/Reading.antt (`recurrent-of`, `recurrent-in` in PlaceLaws)
+abbrev pub recurrent : Automaton → ℕ → ℕ → ℕ
+recurrent A l x = recurrentBy (A .edition) A l x
 
 -- "At place p, the count of non-empty sets before the step, put" these. "This may be place n, a spare." The places behind it are
 -- empty, and change nothing (EmptyPlaces.antt).

@@ -10,8 +10,10 @@ use Rattle.sets.specs.Sets.{interOf, isEmpty}
 use Rattle.automaton.specs.Automaton.{Automaton}
 use Rattle.automaton.specs.Successors.{successorsOf}
 use Rattle.automaton.specs.SuccessorLaws.{successors-empty}
+use Rattle.automaton.specs.declared.Edition.{Edition}
+use Rattle.automaton.specs.declared.Edition.the-variants.{StateBased, TransitionBased}
 use Rattle.colour.specs.Colour.{deadOr}
-use Rattle.tuple.specs.Step.{setAt, recurrent, places, turns, pass, setAtPlace, colourOf, closeUp, next}
+use Rattle.tuple.specs.Step.{setAt, recurrentBy, recurrent, places, turns, pass, setAtPlace, colourOf, closeUp, next}
 use Rattle.tuple.specs.PassLaws.{turns-length}
 use Rattle.tuple.specs.CloseLaws.{closeUp-length}
 use Rattle.tuple.specs.PlaceLaws.{places-length}
@@ -20,7 +22,7 @@ use Rattle.tuple_record.specs.Record.{setCells}
 use Rattle.tuple.specs.Row.{setsOf, row, tupleOf, Steps}
 use Rattle.tuple.specs.RowLaws.{row-length, row-set}
 use Rattle.lists.specs.SearchLaws.{leading-length}
-use Rattle.tuple.specs.Parts.{Advanced, Swept, Placed, settled}
+use Rattle.tuple.specs.Parts.{Advanced, recurrentFrom, Swept, Placed, settled}
 
 -- the pass does not touch place 0
 pass-first : (l : List ℕ) → setAtPlace (pass l) 0 ≡ setAt l 0
@@ -76,21 +78,30 @@ module _ {A : Automaton} {l : ℕ} {cells : List ℕ} (steps : Steps A l cells) 
         by [] e f = rw e (f ∙ sym (successors-empty (A .table) l))
         by (x ∷ s) e f = refl
 
-    put : set w p (interOf (getD w 0 0) (A .recurring)) ≡ places A l (setsOf cells) ++ drop (p + 1) cells
+    abbrev new-set : ℕ
+    new-set = recurrentFrom (A .edition) (A .recurring) (A .marks) l (getD cells 0 0) (getD w 0 0)
+
+    new-recurrent : new-set ≡ recurrent A l (setAt (setsOf cells) 0)
+    new-recurrent = by (A .edition)
+      where
+        by : (d : Edition) → recurrentFrom d (A .recurring) (A .marks) l (getD cells 0 0) (getD w 0 0) ≡ recurrentBy d A l (setAt (setsOf cells) 0)
+        by StateBased = ap (λ (z : ℕ). interOf z (A .recurring)) new-first
+        by TransitionBased = ap (λ (z : ℕ). successorsOf (A .marks) l z) first-cell
+
+    put : set w p new-set ≡ places A l (setsOf cells) ++ drop (p + 1) cells
     unfolding places
     put =
         let s = setsOf cells in
         let f = successorsOf (A .table) l in
         let n : length (map f s) ≡ p = length-map s f ∙ sym (advanced .counted) in
-        let r : interOf (getD w 0 0) (A .recurring) ≡ recurrent A l (setAt s 0) = ap (λ (z : ℕ). interOf z (A .recurring)) new-first in
         let d : drop p cells ≡ getD cells p 0 ∷ drop (suc p) cells = drop-cons cells p 0 (omega (arith, cells-length, count-few)) in
-        ap₂ (λ (z : List ℕ) (x : ℕ). set z p x) (advanced .replaced ∙ ap (λ (z : List ℕ). map f s ++ z) d) r
+        ap₂ (λ (z : List ℕ) (x : ℕ). set z p x) (advanced .replaced ∙ ap (λ (z : List ℕ). map f s ++ z) d) new-recurrent
         ∙ set-at (map f s) (getD cells p 0) (drop (suc p) cells) (recurrent A l (setAt s 0)) p n
         ∙ sym (append-assoc (map f s) (recurrent A l (setAt s 0) ∷ []) (drop (suc p) cells))
         ∙ rw add-one
 
     -- the new set is put at place p
-    pub place-done : Placed A l cells (set w p (interOf (getD w 0 0) (A .recurring))) p
+    pub place-done : Placed A l cells (set w p new-set) p
     place-done = record { counted = advanced .counted; places-put = put }
 
   module _ {w : List ℕ} {p : ℕ} (placed : Placed A l cells w p) where

@@ -1,14 +1,14 @@
 // One step of the tuple, on its row: the sets, the non-empty ones first, and the colour.
+use automaton::Edition;
 use automaton::Numbers;
 use colour::Colour;
 ghost use mathlib.Core.Path.{_≡_};
 ghost use Prim.Native.Nat.{_+_, _≤_, _<_};
 ghost use lib.ListN.{length};
 ghost use Rattle.tuple_record.specs.Record.{rowCells};
-ghost use Rattle.sets.specs.Sets.{interOf};
 ghost use Rattle.automaton.specs.Automaton.{automaton};
 ghost use Rattle.tuple.specs.Step.{isMarked, next};
-ghost use Rattle.tuple.specs.Parts.{outOf, Advanced, Unions, Swept, Placed, settled};
+ghost use Rattle.tuple.specs.Parts.{outOf, Advanced, recurrentFrom, Unions, Swept, Placed, settled};
 ghost use Rattle.tuple.specs.Row.{row, tupleOf, Steps};
 
 // Is a place with set x marked, where the later places have the members given?
@@ -28,11 +28,16 @@ fn out_of(mark: bool, out: u16, x: u16) -> u16
     if mark { sets::union(out, x) } else { out }
 }
 
-// The must-recur states in the new set 0.
-fn recurrent_of(a: Numbers, first: u16) -> u16
-    ensures { λ r. ⌜ r ≡ interOf first (a .recurring) ⌝ }
+// The targets of the recurrent transitions from set 0, which was `old` before the step and is `first`.
+fn recurrent_of(a: Numbers, marks: &[u16], letter: usize, old: u16, first: u16) -> u16
+    requires { ⌜ letter < 8 ⌝ }
+    ensures { λ r. ⌜ r ≡ recurrentFrom (a .edition) (a .recurring) (now (marks .entry)) letter old first ⌝ }
 {
-    sets::inter(first, a.recurring)
+    let edition = a.edition;
+    match edition {
+        Edition::StateBased => sets::inter(first, a.recurring),
+        Edition::TransitionBased => automaton::successors(marks, letter, old),
+    }
 }
 
 // Replaces each set by its successors, and gives the count of sets.
@@ -92,13 +97,14 @@ fn sweep(n: usize, p: usize, later: &[u16], w: &mut [u16]) -> Colour
 }
 
 // Points 1 and 2 of the step: the successors of each set, and behind them the new set. Gives the count of sets before the step.
-fn place_sets(a: Numbers, table: &[u16], letter: usize, w: &mut [u16]) -> usize
-    requires { ⌜ Steps (automaton a (now table)) letter (now w) ⌝ }
-    ensures { λ r. ⌜ Placed (automaton a (now (table .entry))) letter (now (w .entry)) (now (w .exit)) r ⌝ }
+fn place_sets(a: Numbers, table: &[u16], marks: &[u16], letter: usize, w: &mut [u16]) -> usize
+    requires { ⌜ Steps (automaton a (now table) (now marks)) letter (now w) ⌝ }
+    ensures { λ r. ⌜ Placed (automaton a (now (table .entry)) (now (marks .entry))) letter (now (w .entry)) (now (w .exit)) r ⌝ }
 {
+    let old = w[0];
     let p = advance(table, letter, w);
     let first = w[0];
-    w[p] = recurrent_of(a, first);
+    w[p] = recurrent_of(a, marks, letter, old, first);
     p
 }
 
@@ -115,10 +121,10 @@ fn settle(n: usize, p: usize, w: &mut [u16])
 }
 
 // The step on a letter from the tuple whose row is given. The colour's cell serves as the spare place until the colour is known.
-pub fn step(a: Numbers, table: &[u16], letter: usize, w: &mut [u16])
-    requires { ⌜ Steps (automaton a (now table)) letter (now w) ⌝ }
-    ensures { λ _. ⌜ now (w .exit) ≡ row (next (automaton a (now (table .entry))) letter (tupleOf (now (w .entry)))) ⌝ }
+pub fn step(a: Numbers, table: &[u16], marks: &[u16], letter: usize, w: &mut [u16])
+    requires { ⌜ Steps (automaton a (now table) (now marks)) letter (now w) ⌝ }
+    ensures { λ _. ⌜ now (w .exit) ≡ row (next (automaton a (now (table .entry)) (now (marks .entry))) letter (tupleOf (now (w .entry)))) ⌝ }
 {
-    let p = place_sets(a, table, letter, w);
+    let p = place_sets(a, table, marks, letter, w);
     settle(a.n, p, w);
 }

@@ -21,7 +21,7 @@ use Rattle.report.specs.Output.{programRoom}
 abbrev pub longestVerdict : ℕ
 longestVerdict = 12
 
--- the most bytes that a sheet and a plan may have together: 36,864
+-- the most bytes that a sheet and a plan may have together: 45,056
 abbrev pub mostInput : ℕ
 mostInput = mostSheet + mostPlan
 

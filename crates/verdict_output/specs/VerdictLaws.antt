@@ -7,6 +7,7 @@ use native.Mathlib.Omega.{arith}
 use lib.ListN.{length, take, drop, length-drop}
 use lib.Seq.{length-take-le}
 use Rattle.gate.specs.Gate.{refusal, lentText}
+use Rattle.automaton.specs.Automaton.{transitionSets}
 use Rattle.lent.specs.Lent.{witnessTables}
 use Rattle.text.specs.Bytes.{stretch}
 use Rattle.text.specs.BytesLaws.{stretch-end}
@@ -42,7 +43,7 @@ only-size s p text not (VerdictOn.judged fit σ x before after count h lead cycl
 
 by-size : (s p text : List ℕ) → (SizesFit s p → ⊥) → text ≡ refusalLine 2 0 → VerdictOn s p text
 by-size s p text not q =
-    let none = buildTables [] (witnessTables [] [] []) (trackerTables [] []) in
+    let none = buildTables (transitionSets [] []) (witnessTables [] [] []) (trackerTables [] []) in
     VerdictOn.refused none none (refusal 2 0) (Refusing.by-size not refl refl) q
 
 pub too-long-verdict : TooLong VerdictOutput mostInput (refusalLine 2 0)
@@ -52,7 +53,7 @@ too-long-verdict s text long =
       λ q. record { end = e; split = split; on = by-size _ _ text (no-sizes s e long split) q },
     )
 
--- the first 36,865 bytes of the input are enough
+-- the first 45,057 bytes of the input are enough
 pub verdict-enough : (s text : List ℕ) → VerdictOutput s text ↔ VerdictOutput (take (mostInput + 1) s) text
 verdict-enough = enough too-long-verdict
 

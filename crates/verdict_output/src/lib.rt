@@ -8,7 +8,7 @@ ghost use Rattle.verdict_output.specs.Verdict.{longestVerdict, mostInput
 ghost use Rattle.verdict_output.specs.Parts.{judgedLine, outcomeLine};
 
 // How many bytes of the input are read: one more than a sheet and a plan may have together decides question 2, whatever follows.
-pub const INPUT: usize = 36865;
+pub const INPUT: usize = 45057;
 
 // The longest output: a line.
 pub const OUTPUT: usize = 12;
@@ -37,6 +37,7 @@ fn judge_input(input: &[u8]) -> Outcome
 {
     let e = sheet_end::sheet_end(input);
     let mut table = [0u16; 128];
+    let mut marks = [0u16; 128];
     let mut tuples = [0u16; 1024 * tuple_record::RECORD];
     let mut nexts = [0u16; 8192];
     let mut word = [0u16; 136];
@@ -47,6 +48,7 @@ fn judge_input(input: &[u8]) -> Outcome
         &input[e..],
         1024,
         &mut table,
+        &mut marks,
         &mut tuples,
         &mut nexts,
         &mut word,

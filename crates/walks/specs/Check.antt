@@ -4,7 +4,7 @@ use Prim.Native.Nat.{ℕ}
 use mathlib.Core.Path.{_≡_}
 use mathlib.Core.Logic.{_⊎_}
 use Rattle.gate.specs.Gate.{refusal}
-use Rattle.automaton.specs.Automaton.{Automaton, graphOf, Fits}
+use Rattle.automaton.specs.Automaton.{Automaton, setsOfAutomaton, graphOf, Fits}
 use Rattle.automaton.specs.Endless.{EndlessFrom, MeetingFree}
 use Rattle.automaton.specs.Graph.{Graph}
 use Rattle.lent.specs.Lent.{WitnessTables, EnoughForSheet, clearedWitness, NumbersRefuse}
@@ -19,9 +19,9 @@ AnsweredTen G before after r = Answered G (EndlessFrom G) before after r
 -- "Refusal 1 asked first touches nothing"; 4, 7, 8 and 10 are the next questions; "On success" the witness tables have no meaning: all zero
 abbrev pub Checks : Automaton → WitnessTables → WitnessTables → Checked → Type 0
 Checks A before after (Refused r) =
-    ((EnoughForSheet (A .table) before → ⊥) × (r ≡ refusal 1 0) × (after ≡ before))
-    ⊎ (EnoughForSheet (A .table) before × NumbersRefuse A before after r)
-Checks A before after Accepted = EnoughForSheet (A .table) before × Fits A × MeetingFree (graphOf A) × (after ≡ clearedWitness before)
+    ((EnoughForSheet (setsOfAutomaton A) before → ⊥) × (r ≡ refusal 1 0) × (after ≡ before))
+    ⊎ (EnoughForSheet (setsOfAutomaton A) before × NumbersRefuse A before after r)
+Checks A before after Accepted = EnoughForSheet (setsOfAutomaton A) before × Fits A × MeetingFree (graphOf A) × (after ≡ clearedWitness before)
 
 -- the same once the tables are long enough
 abbrev pub ChecksLong : Automaton → WitnessTables → WitnessTables → Checked → Type 0

@@ -2,9 +2,8 @@
 use Prim.Native.Nat.{ℕ}
 use mathlib.Core.Path.{_≡_, refl, sym, _∙_}
 use mathlib.Core.Logic.{inr}
-use mathlib.Core.List.{List}
 use native.Mathlib.Omega.{arith}
-use Rattle.automaton.specs.Automaton.{Automaton, graphOf, Fits}
+use Rattle.automaton.specs.Automaton.{Automaton, TransitionSets, setsOfAutomaton, graphOf, Fits}
 use Rattle.automaton.specs.Graph.{Graph}
 use Rattle.lent.specs.Lent.{WitnessTables, EnoughForSheet, clearedWitness, Meets}
 use Rattle.lent.specs.LentLaws.{lengths-cleared, tables-twice, refuse-cleared}
@@ -13,7 +12,7 @@ use Rattle.walks.specs.declared.Checked.the-variants.{Refused, Accepted}
 use Rattle.walks.specs.Check.{Checks, ChecksLong, AnsweredTen}
 
 -- question 1 is asked first, and answered yes
-pub checks-asked : (A : Automaton) (before after : WitnessTables) (c : Checked) → EnoughForSheet (A .table) before → ChecksLong A before after c → Checks A before after c
+pub checks-asked : (A : Automaton) (before after : WitnessTables) (c : Checked) → EnoughForSheet (setsOfAutomaton A) before → ChecksLong A before after c → Checks A before after c
 checks-asked A before after (Refused r) l j = inr (l, j)
 checks-asked A before after Accepted l (f, x, z) = (l, f, x, z)
 
@@ -23,7 +22,7 @@ checks-cleared A before after Accepted (f, x, z) = (f, x, z ∙ tables-twice bef
 
 -- the tables once they are cleared
 module _ (before : WitnessTables) {zeroed : WitnessTables} (e : zeroed ≡ clearedWitness before) where
-  pub ready : {t : List ℕ} → EnoughForSheet t before → EnoughForSheet t zeroed × (zeroed ≡ clearedWitness zeroed)
+  pub ready : {t : TransitionSets} → EnoughForSheet t before → EnoughForSheet t zeroed × (zeroed ≡ clearedWitness zeroed)
   ready l = rw e (lengths-cleared before l, sym (tables-twice before))
 
   pub checked : (A : Automaton) (after : WitnessTables) (c : Checked) → ChecksLong A zeroed after c → ChecksLong A before after c

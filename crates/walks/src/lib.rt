@@ -1,6 +1,6 @@
 // The walk check: question 10, and the whole check of a sheet that is handed over as numbers.
 ghost use mathlib.Core.Path.{_≡_};
-ghost use Rattle.automaton.specs.Automaton.{automaton};
+ghost use Rattle.automaton.specs.Automaton.{transitionSets, automaton};
 ghost use Rattle.automaton.specs.Graph.{graph};
 ghost use Rattle.lent.specs.Lent.{witnessTables, EnoughForSheet, clearedWitness};
 ghost use Rattle.meeting.specs.Answer.{Asked};
@@ -36,16 +36,17 @@ pub fn ask(
 fn check_cleared(
     a: Numbers,
     table: &[u16],
+    marks: &[u16],
     word: &mut [u16],
     one: &mut [u16],
     other: &mut [u16],
 ) -> Checked
-    requires { ⌜ EnoughForSheet (now table) (witnessTables (now word) (now one) (now other))
+    requires { ⌜ EnoughForSheet (transitionSets (now table) (now marks)) (witnessTables (now word) (now one) (now other))
         × (witnessTables (now word) (now one) (now other) ≡ clearedWitness (witnessTables (now word) (now one) (now other))) ⌝ }
-    ensures { λ r. ⌜ ChecksLong (automaton a (now (table .entry))) (witnessTables (now (word .entry)) (now (one .entry)) (now (other .entry)))
+    ensures { λ r. ⌜ ChecksLong (automaton a (now (table .entry)) (now (marks .entry))) (witnessTables (now (word .entry)) (now (one .entry)) (now (other .entry)))
         (witnessTables (now (word .exit)) (now (one .exit)) (now (other .exit))) r ⌝ }
 {
-    let number = automaton::first_no(a, table);
+    let number = automaton::first_no(a, table, marks);
     if number != 0 {
         return Checked::Refused(Refusal {
             number,
@@ -68,16 +69,17 @@ fn check_cleared(
 pub fn check_long(
     a: Numbers,
     table: &[u16],
+    marks: &[u16],
     word: &mut [u16],
     one: &mut [u16],
     other: &mut [u16],
 ) -> Checked
-    requires { ⌜ EnoughForSheet (now table) (witnessTables (now word) (now one) (now other)) ⌝ }
-    ensures { λ r. ⌜ ChecksLong (automaton a (now (table .entry))) (witnessTables (now (word .entry)) (now (one .entry)) (now (other .entry)))
+    requires { ⌜ EnoughForSheet (transitionSets (now table) (now marks)) (witnessTables (now word) (now one) (now other)) ⌝ }
+    ensures { λ r. ⌜ ChecksLong (automaton a (now (table .entry)) (now (marks .entry))) (witnessTables (now (word .entry)) (now (one .entry)) (now (other .entry)))
         (witnessTables (now (word .exit)) (now (one .exit)) (now (other .exit))) r ⌝ }
 {
     lent::clear_witness(word, one, other);
-    check_cleared(a, table, word, one, other)
+    check_cleared(a, table, marks, word, one, other)
 }
 
 // Questions 1, 4, 7, 8 and 10 on a sheet as numbers, with line 0. Question 1 touches nothing; with 10 the tables hold
@@ -85,19 +87,20 @@ pub fn check_long(
 pub fn check(
     a: Numbers,
     table: &[u16],
+    marks: &[u16],
     word: &mut [u16],
     one: &mut [u16],
     other: &mut [u16],
 ) -> Checked
-    ensures { λ r. ⌜ Checks (automaton a (now (table .entry)))
+    ensures { λ r. ⌜ Checks (automaton a (now (table .entry)) (now (marks .entry)))
         (witnessTables (now (word .entry)) (now (one .entry)) (now (other .entry))) (witnessTables (now (word .exit)) (now (one .exit)) (now (other .exit))) r ⌝ }
 {
-    if !lent::long_enough(table, word, one, other) {
+    if !lent::long_enough(table, marks, word, one, other) {
         return Checked::Refused(Refusal {
             number: 1,
             line: 0,
             length: 0,
         });
     }
-    check_long(a, table, word, one, other)
+    check_long(a, table, marks, word, one, other)
 }

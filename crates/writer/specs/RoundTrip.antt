@@ -1,12 +1,12 @@
 -- THE ROUND TRIP of numbers with names and withdrawals: what is written reads back as what it was written from, and is written again byte for byte. Assumes nothing.
-use Prim.Native.Nat.{ℕ, _≤_}
+use Prim.Native.Nat.{ℕ}
 use mathlib.Core.Path.{_≡_, refl, sym, ap, ap₂, _∙_, subst}
 use mathlib.Core.List.{List, [], _∷_, _++_, map}
-use lib.ListN.{length}
 use Rattle.names.specs.Name.{compose}
 use Rattle.names.specs.NameLaws.{compose-idempotent}
-use Rattle.automaton.specs.Automaton.{Automaton, graphOf, Fits}
+use Rattle.automaton.specs.Automaton.{Automaton, setsOfAutomaton, graphOf, Fits}
 use Rattle.automaton.specs.Endless.{MeetingFree}
+use Rattle.lent.specs.Lent.{EnoughForSets}
 use Rattle.format.specs.Format.{Withdrawal, Sheet, WithdrawalsRight, FileIs, lines, endLine}
 use Rattle.format.specs.Numbers.{numbers}
 use Rattle.format.specs.Written.{sheetOf, writtenSheet, written}
@@ -49,7 +49,7 @@ named-right {σ = σ} h =
     }
 
 -- FROM NUMBERS with names and withdrawals
-module _ (A : Automaton) (fits : Fits A) (long : 128 ≤ length (A .table)) (names : List (List ℕ)) (ws : List Withdrawal) (right : LettersRight A names ws) where
+module _ (A : Automaton) (fits : Fits A) (long : EnoughForSets (setsOfAutomaton A)) (names : List (List ℕ)) (ws : List Withdrawal) (right : LettersRight A names ws) where
   -- what is written is accepted, where no walks meet
   pub numbers-accepted : MeetingFree (graphOf A) → Accepted (written A names ws) (writtenSheet A names ws)
   numbers-accepted free = record {

@@ -3,12 +3,12 @@ use Prim.Native.Nat.{ℕ, _≤_}
 use mathlib.Core.Path.{_≡_, ap₂, _∙_, subst}
 use mathlib.Core.List.{List, map}
 use native.Mathlib.Omega.{arith}
-use lib.ListN.{length, length-map}
+use lib.ListN.{length-map}
 use Rattle.gate.specs.Gate.{Put}
 use Rattle.gate.specs.declared.Written.{Written}
 use Rattle.names.specs.Name.{compose}
-use Rattle.automaton.specs.Automaton.{Automaton, Fits}
-use Rattle.lent.specs.Lent.{EnoughForSheet}
+use Rattle.automaton.specs.Automaton.{Automaton, setsOfAutomaton, Fits}
+use Rattle.lent.specs.Lent.{EnoughForSets, EnoughForSheet}
 use Rattle.format.specs.Format.{Sheet, WithdrawalsRight}
 use Rattle.format.specs.Written.{written}
 use Rattle.walks.specs.declared.Checked.the-variants as K
@@ -32,11 +32,11 @@ named-text A few {σ} {rows} h = ap₂ (textOf A) names (rows-withdraw (σ .with
     right = subst (λ (k : ℕ). WithdrawalsRight k 0 (σ .withdrawals)) (h .letters) (h .withdrawals)
 
 -- numbers that fit can be written
-pub writable : {A : Automaton} → Fits A → 128 ≤ length (A .table) → Writable A
-writable fits h = record { states = omega (arith, fits .range); letters = omega (arith, fits .range); table = h }
+pub writable : {A : Automaton} → Fits A → EnoughForSets (setsOfAutomaton A) → Writable A
+writable fits long = record { states = omega (arith, fits .range); letters = omega (arith, fits .range); table = long .cells; marks = long .marks }
 
 -- the last question behind the others
-pub numbers-finishes : (A : Automaton) {s rows : List ℕ} {before after : WriteTables} {r : Written} → EnoughForSheet (A .table) (before .witness)
+pub numbers-finishes : (A : Automaton) {s rows : List ℕ} {before after : WriteTables} {r : Written} → EnoughForSheet (setsOfAutomaton A) (before .witness)
     → Asks A s rows (before .witness) (after .witness) K.Accepted → Put (rowsText A rows) (before .output) (after .output) r → WritesNumbers A s before after r
 numbers-finishes A {before = before} {after} {r} long (σ, ok, names, z) put =
     WritesNumbers.asked long σ ok z (subst (λ (text : List ℕ). Put text (before .output) (after .output) r) (named-text A (ok .fits .range .3) names) put)

@@ -9,9 +9,17 @@ use Rattle.format.specs.Numbers.{numbers}
 use Rattle.format.specs.Withdrawals.{EdgesInForce}
 use Rattle.format.specs.Written.{written}
 
--- an automaton with its 128 successor sets alone: cells behind them are zero in one that fits
+-- an automaton with its 128 successor sets and 128 sets of marked successors alone: cells behind them are zero in one that fits
 abbrev pub trimmed : Automaton → Automaton
-trimmed A = record { n = A .n; k = A .k; initial = A .initial; recurring = A .recurring; table = take 128 (A .table) }
+trimmed A = record {
+  edition = A .edition;
+  n = A .n;
+  k = A .k;
+  initial = A .initial;
+  recurring = A .recurring;
+  table = take 128 (A .table);
+  marks = take 128 (A .marks);
+}
 
 -- what is written of a sheet
 abbrev pub writing : Sheet → List ℕ

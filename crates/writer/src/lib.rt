@@ -14,9 +14,9 @@ use sheet_text::text_length;
 use walks::Checked;
 
 // The last question, whether the output is long enough, and the text with zeros behind it. The letters are in rows.
-pub fn finish(a: Numbers, table: &[u16], rows: &[u8], out: &mut [u8]) -> Written
-    requires { ⌜ Writable (automaton a (now table)) × (224 ≤ length (now rows)) ⌝ }
-    ensures { λ r. ⌜ Put (rowsText (automaton a (now (table .entry))) (now (rows .entry))) (now (out .entry)) (now (out .exit)) r ⌝ }
+pub fn finish(a: Numbers, table: &[u16], marks: &[u16], rows: &[u8], out: &mut [u8]) -> Written
+    requires { ⌜ Writable (automaton a (now table) (now marks)) × (224 ≤ length (now rows)) ⌝ }
+    ensures { λ r. ⌜ Put (rowsText (automaton a (now (table .entry)) (now (marks .entry))) (now (rows .entry))) (now (out .entry)) (now (out .exit)) r ⌝ }
 {
     let count = text_length(a, table, rows);
     if out.len() < count {
@@ -27,7 +27,7 @@ pub fn finish(a: Numbers, table: &[u16], rows: &[u8], out: &mut [u8]) -> Written
             length: 0,
         });
     }
-    put_text(a, table, rows, out);
+    put_text(a, table, marks, rows, out);
     gate::clear_bytes(&mut out[count..]);
     Written::Bytes(count)
 }
@@ -37,17 +37,18 @@ pub fn finish(a: Numbers, table: &[u16], rows: &[u8], out: &mut [u8]) -> Written
 pub fn write_numbers(
     a: Numbers,
     table: &[u16],
+    marks: &[u16],
     names: &[u8],
     word: &mut [u16],
     one: &mut [u16],
     other: &mut [u16],
     out: &mut [u8],
 ) -> Written
-    ensures { λ r. ⌜ WritesNumbers (automaton a (now (table .entry))) (now (names .entry))
+    ensures { λ r. ⌜ WritesNumbers (automaton a (now (table .entry)) (now (marks .entry))) (now (names .entry))
         (writeTables (witnessTables (now (word .entry)) (now (one .entry)) (now (other .entry))) (now (out .entry)))
         (writeTables (witnessTables (now (word .exit)) (now (one .exit)) (now (other .exit))) (now (out .exit))) r ⌝ }
 {
-    if !lent::long_enough(table, word, one, other) {
+    if !lent::long_enough(table, marks, word, one, other) {
         return Written::Refused(Refusal {
             number: 1,
             line: 0,
@@ -55,11 +56,11 @@ pub fn write_numbers(
         });
     }
     let mut rows = [0u8; 224];
-    match named_numbers::ask(a, table, names, &mut rows, word, one, other) {
+    match named_numbers::ask(a, table, marks, names, &mut rows, word, one, other) {
         Checked::Refused(r) => {
             gate::clear_bytes(out);
             Written::Refused(r)
         }
-        Checked::Accepted => finish(a, table, &rows, out),
+        Checked::Accepted => finish(a, table, marks, &rows, out),
     }
 }

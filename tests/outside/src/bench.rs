@@ -1,5 +1,6 @@
 //! Runs the built programs and counts what they are compared in.
 
+use crate::edition::Edition;
 use crate::expected::{self, accepted, refusal, ROOM};
 use crate::sheet::{read_sheet, write_sheet, No, Sheet};
 use crate::walks;
@@ -15,8 +16,8 @@ pub struct Bench {
     pub failed: usize,
     /// How many comparisons of each kind there were, by the refusal that was due (0 for none).
     kinds: BTreeMap<String, BTreeMap<u32, usize>>,
-    /// The refusals that each program gave where they were due.
-    pub refused: BTreeSet<(&'static str, u32)>,
+    /// The refusals that each program gave where they were due, with the edition that the file opened as.
+    refused: BTreeSet<(&'static str, Edition, u32)>,
 }
 
 /// The beginning of a text, for the report of a failure.
@@ -97,6 +98,21 @@ impl Bench {
         out.stdout
     }
 
+    /// A file that opens with neither word counts as one of the first edition.
+    pub fn refuses(&mut self, program: &'static str, file: &[u8], number: u32) {
+        self.refuses_edition(program, Edition::opening(file).unwrap_or(Edition::States), number);
+    }
+
+    pub fn refuses_edition(&mut self, program: &'static str, edition: Edition, number: u32) {
+        self.refused.insert((program, edition, number));
+    }
+
+    /// Holds that a program, or a call, has given this refusal on a sheet of this edition.
+    pub fn has_refused(&mut self, what: &str, program: &'static str, edition: Edition, number: u32) {
+        let given = self.refused.contains(&(program, edition, number));
+        self.expect(what, given, format!("{program}, {}, {number}", edition.word()).as_bytes());
+    }
+
     pub fn expect(&mut self, what: &str, good: bool, input: &[u8]) {
         self.count(what, 0, good, input);
     }
@@ -121,7 +137,7 @@ impl Bench {
         let want = expected.unwrap_or_else(refusal);
         let good = got == want.as_bytes();
         if good {
-            self.refused.insert((program, number));
+            self.refuses(program, input, number);
         } else {
             println!("want {}got {}", beginning(want.as_bytes()), beginning(got));
         }
@@ -170,7 +186,7 @@ impl Bench {
             Err((10, _)) => {
                 let good = prints_witness(&read_sheet(bytes).unwrap(), &got);
                 if good {
-                    self.refused.insert(("rewrite", 10));
+                    self.refuses("rewrite", bytes, 10);
                 }
                 self.count(what, 10, good, bytes);
             }

@@ -2,22 +2,27 @@
 //! a model of the call.
 
 mod arguments;
+pub mod both_editions;
 mod call;
 mod compare;
 pub mod every_tuple;
 mod facts;
 mod foreign;
+mod kinds;
 mod lent;
 mod model;
+mod number_damage;
 mod numbers;
 mod scenario;
 pub mod small_sheets;
 
 use crate::bench::Bench;
+use crate::edition::EDITIONS;
 use crate::effect::Effect;
 use crate::random::Random;
 use arguments::Arguments;
-use call::{Call, ALL, BY_FILE, HARMLESS, LATE, LONGER};
+use call::{Call, ALL};
+use kinds::{BY_FILE, HARMLESS, LATE, LONGER};
 use lent::Tables;
 use model::Want;
 use scenario::{Family, Scenario};
@@ -28,18 +33,22 @@ const SCENARIOS: u64 = 4000;
 const WITHDRAWN: u64 = 2000;
 /// How many more of them there are with dead ends.
 const DEAD_ENDS: u64 = 1500;
+/// How many more of them there are with marks on transitions.
+const MARKS: u64 = 2000;
 /// How often each call is tried on each of them.
 const TIMES: usize = 4;
 
 pub fn run(b: &mut Bench) {
-    for seed in 0..SCENARIOS + WITHDRAWN + DEAD_ENDS {
+    for seed in 0..SCENARIOS + WITHDRAWN + DEAD_ENDS + MARKS {
         let mut r = Random::new(seed << 20 | 0xca11);
         let family = if seed < SCENARIOS {
             Family::Any
         } else if seed < SCENARIOS + WITHDRAWN {
             Family::Withdrawn
-        } else {
+        } else if seed < SCENARIOS + WITHDRAWN + DEAD_ENDS {
             Family::DeadEnds
+        } else {
+            Family::Marks
         };
         let s = Scenario::new(&mut r, seed, family);
         for call in ALL {
@@ -50,10 +59,11 @@ pub fn run(b: &mut Bench) {
             }
         }
     }
-    for call in ALL {
-        for number in call.refusals() {
-            let given = b.refused.contains(&(call.name(), number));
-            b.expect("refusals of each call", given, format!("{}, {number}", call.name()).as_bytes());
+    for edition in EDITIONS {
+        for call in ALL {
+            for number in call.refusals(edition) {
+                b.has_refused("refusals of each call", call.name(), edition, number);
+            }
         }
     }
     b.at_least(100_000, "call ");
@@ -66,16 +76,18 @@ fn one(b: &mut Bench, r: &mut Random, s: &Scenario, call: Call) {
     // A short table for the answer may not tell which refusal it was.
     let told = call.program().is_some() || after.answer.len() >= 4;
     if good && told {
-        let kind = if want.late { LATE } else if want.by_file { BY_FILE } else { want.number };
-        b.refused.insert((call.name(), kind));
-        if kind == 0 && s.facts(call).effect == Effect::Accepted {
-            b.refused.insert((call.name(), HARMLESS));
+        let mut kinds = want.kinds.clone();
+        if !kinds.contains(&LATE) && !kinds.contains(&BY_FILE) {
+            kinds.push(want.number);
+        }
+        if kinds.contains(&0) && s.facts(call).effect == Effect::Accepted {
+            kinds.push(HARMLESS);
         }
         if want.meeting.map_or(false, |(sheet, length)| Effect::on(sheet, Some(length)) == Effect::LongerWord) {
-            b.refused.insert((call.name(), LONGER));
+            kinds.push(LONGER);
         }
-        if let Some(kind) = want.way {
-            b.refused.insert((call.name(), kind));
+        for kind in kinds {
+            b.refuses_edition(call.name(), s.edition(call), kind);
         }
     }
 }

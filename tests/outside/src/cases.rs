@@ -4,9 +4,13 @@
 //! verdict, the length and a sum of the listing, of the sheet written out, and of the way to one of the first 16 tuples, by the case's number;
 //! or a refusal in the place of each.
 
+mod marks;
+
 use super::*;
+use edition::Edition;
 use expected::{accepted, refusal, split};
 use sheet::{read_sheet, No, Plan, Sheet};
+use std::collections::BTreeSet;
 
 const A16: &str = "abcdefghijklmnop";
 
@@ -46,11 +50,13 @@ pub fn sheet_of(n: usize, k: usize, initial: &[usize], recurring: &[usize], edge
     edges.iter().for_each(|(q, l, r)| next[*q][*l].push(*r));
     next.iter_mut().flatten().for_each(|x| x.sort());
     Sheet {
+        edition: Edition::States,
         n,
         k,
         initial: (0..n).map(|q| initial.contains(&q)).collect(),
         recurring: (0..n).map(|q| recurring.contains(&q)).collect(),
         next,
+        marked: BTreeSet::new(),
         names: (0..k).map(|l| vec![A16.as_bytes()[l]]).collect(),
         withdrawn: Vec::new(),
     }
@@ -389,6 +395,8 @@ pub fn write(folder: &std::path::Path, inputs: &std::path::Path) {
     c.random(640);
     c.withdrawals(inputs);
     c.dead_ends();
+    // Cases that stand stay as they are: new ones come behind them.
+    c.marks(inputs);
     let data = folder.join("data");
     std::fs::create_dir_all(&data).unwrap();
     let mut out = String::new();

@@ -1,6 +1,6 @@
 //! What the programs have to print.
 
-use crate::sheet::{read_plan, read_sheet, No, Sheet};
+use crate::sheet::{read_plan, read_sheet, No, Sheet, PLAN_BYTES, SHEET_BYTES};
 use crate::{product, tuples, walks, ways};
 
 pub const ROOM: usize = 1024;
@@ -45,7 +45,7 @@ pub fn split(input: &[u8]) -> (&[u8], &[u8]) {
 
 pub fn verdict(input: &[u8], room: usize) -> Result<String, No> {
     let (sheet, plan) = split(input);
-    if sheet.len() > 24_576 || plan.len() > 12_288 {
+    if sheet.len() > SHEET_BYTES || plan.len() > PLAN_BYTES {
         return Err((2, 0));
     }
     let s = accepted(sheet)?;

@@ -2,11 +2,17 @@
 
 mod circles;
 mod dead_ends;
+mod edition_damage;
+mod marks;
 
+use crate::edition::Edition;
 use crate::random::Random;
 use crate::sheet::{Plan, Sheet};
 pub use circles::circles;
 pub use dead_ends::with_dead_ends;
+pub use edition_damage::edition_damaged;
+pub use marks::marked;
+use std::collections::BTreeSet;
 
 fn names(r: &mut Random, k: usize) -> Vec<Vec<u8>> {
     const PARTS: [&str; 12] = ["a", "B", "7", "~", "ä", "Ö", "ß", "u\u{308}", "A\u{308}", "o\u{308}", "-", "x"];
@@ -24,7 +30,7 @@ fn names(r: &mut Random, k: usize) -> Vec<Vec<u8>> {
         if r.chance(3) {
             name = "END".to_string();
         }
-        let same = |x: &Vec<u8>| crate::sheet::characters(x) == crate::sheet::characters(name.as_bytes());
+        let same = |x: &Vec<u8>| crate::names::characters(x) == crate::names::characters(name.as_bytes());
         if !name.is_empty() && !out.iter().any(same) {
             out.push(name.into_bytes());
         }
@@ -35,11 +41,13 @@ fn names(r: &mut Random, k: usize) -> Vec<Vec<u8>> {
 fn empty(r: &mut Random, n: usize, k: usize) -> Sheet {
     let some = [20, 50, 80][r.below(3)];
     Sheet {
+        edition: Edition::States,
         n,
         k,
         initial: (0..n).map(|_| r.chance(some)).collect(),
         recurring: (0..n).map(|_| r.chance(40)).collect(),
         next: vec![vec![Vec::new(); k]; n],
+        marked: BTreeSet::new(),
         names: names(r, k),
         withdrawn: Vec::new(),
     }
@@ -211,6 +219,7 @@ pub fn with_letters(s: &Sheet, k: usize) -> Sheet {
     out.k = k;
     out.next.iter_mut().for_each(|row| row.resize(k, Vec::new()));
     out.names.resize(k, Vec::new());
+    out.marked.retain(|(_, l, _)| *l < k);
     out
 }
 

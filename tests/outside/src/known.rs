@@ -1,5 +1,7 @@
 //! The requirements' own cases, and the judging programs against each other: what judges is judged first.
 
+mod marks;
+
 use super::*;
 use sheet::read_sheet;
 

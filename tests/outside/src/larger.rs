@@ -1,6 +1,7 @@
 //! Larger automata against Safra's construction: a fixed sample of each size from 10 to 16 states.
 
 use crate::bench::Bench;
+use crate::conversion::with_states;
 use crate::expected::ROOM;
 use crate::random::Random;
 use crate::sheet::{write_sheet, Sheet};
@@ -10,6 +11,9 @@ use crate::{equal, families, safra, tuples, walks};
 const SEEDS: u64 = 400;
 /// How many of them have to be left.
 const LEAST: usize = 200;
+/// How many of the seeds are tried with marks on transitions too, and how many of these have to be left.
+const MARKED: u64 = 120;
+const LEAST_MARKED: usize = 60;
 /// The most trees of Safra's automaton, and the most nodes of its product with the tracker.
 const TREES: usize = 20_000;
 const NODES: usize = 200_000;
@@ -20,7 +24,15 @@ pub fn same_as_safra(s: &Sheet) -> Option<bool> {
         return None;
     }
     let t = tuples::build(s, ROOM)?;
-    equal::same_sequences(&t, &safra::rabin(s, TREES)?, NODES)
+    equal::same_sequences(&t, &safra::rabin(&with_states(s), TREES)?, NODES)
+}
+
+fn compared(b: &mut Bench, what: &str, s: &Sheet) {
+    if let Some(same) = same_as_safra(s) {
+        let file = write_sheet(s, false);
+        b.expect(&format!("{what}, {} states", s.n), same, &file);
+        b.listed(&format!("{what}, listing"), &file);
+    }
 }
 
 pub fn run(b: &mut Bench) {
@@ -31,14 +43,14 @@ pub fn run(b: &mut Bench) {
             if s.n < 10 {
                 continue;
             }
-            if let Some(same) = same_as_safra(&s) {
-                let file = write_sheet(&s, false);
-                b.expect(&format!("Safra, {} states", s.n), same, &file);
-                b.listed("Safra, listing", &file);
+            compared(b, "Safra", &s);
+            if seed < MARKED {
+                compared(b, "Safra with marks", &families::marked(&mut r, &s));
             }
         }
     }
     for n in 10..=16 {
         b.at_least(LEAST, &format!("Safra, {n} states"));
+        b.at_least(LEAST_MARKED, &format!("Safra with marks, {n} states"));
     }
 }

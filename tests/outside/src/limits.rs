@@ -3,6 +3,7 @@
 
 mod counts;
 mod dead_ends;
+mod marks;
 mod meetings;
 mod refusals;
 mod sizes;
@@ -13,7 +14,7 @@ mod withdrawals;
 use crate::bench::Bench;
 use crate::random::Random;
 use crate::sheet::Sheet;
-pub use sizes::longest_sheet;
+pub use sizes::{longest_marked_sheet, longest_sheet};
 
 /// A sheet with about 1,024 tuples.
 pub fn many_tuples(r: &mut Random) -> Sheet {
@@ -25,11 +26,17 @@ pub fn most_tuples() -> Vec<Sheet> {
     counts::COUNTS.iter().map(|(seed, _)| counts::sheet(*seed)).collect()
 }
 
+/// Those with marks on transitions.
+pub fn most_marked_tuples() -> Vec<Sheet> {
+    counts::MARKED_COUNTS.iter().map(|(seed, _)| counts::marked_sheet(*seed)).collect()
+}
+
 pub fn run(b: &mut Bench) {
     meetings::run(b);
     dead_ends::run(b);
     counts::run(b);
     sizes::run(b);
+    marks::run(b);
     splits::run(b);
     withdrawals::run(b);
     refusals::run(b);

@@ -3,13 +3,15 @@
 //! bettering longer ones.
 //!
 //! outside PROGRAMS [COUNT]: PROGRAMS is the folder of the built programs `track`, `verdict` and `rewrite`; COUNT (4,000) is how many
-//! sheets are made, with half as many beside them that have withdrawn letters, and half as many that have dead ends. A line tells how many
-//! comparisons of each kind there were; the last one is `outside: N passed, M failed`.
+//! sheets are made, with half as many beside them that have withdrawn letters, half as many that have dead ends, and a quarter as many that
+//! have marks on transitions. A line tells how many comparisons of each kind there were; the last one is `outside: N passed, M failed`.
 //! outside cases FOLDER INPUTS: writes the case files of crates/cases and their answers; INPUTS is bench/inputs.
 
 mod bench;
 mod calls;
 mod cases;
+mod conversion;
+mod edition;
 mod effect;
 mod equal;
 mod expected;
@@ -19,6 +21,8 @@ mod graph;
 mod known;
 mod larger;
 mod limits;
+mod marked_sheets;
+mod names;
 mod product;
 mod random;
 mod safra;
@@ -123,17 +127,29 @@ fn main() {
             } else {
                 dead_end_sheet(b, &mut Random::new(1 << 33 | seed as u64), most);
             }
+            if seed / 4 % 4 == 0 {
+                marked_sheets::run(b, &mut Random::new(1 << 34 | seed as u64), most);
+            }
         }
     };
     let first_half = |b: &mut Bench| of_seeds(b, 0..count / 2);
     let second_half = |b: &mut Bench| of_seeds(b, count / 2..count);
     let mut b = Bench::side_by_side(
         programs,
-        &[&of_limits, &calls::run, &calls::small_sheets::run, &calls::every_tuple::run, &first_half, &second_half],
+        &[
+            &of_limits,
+            &calls::run,
+            &calls::small_sheets::run,
+            &calls::every_tuple::run,
+            &calls::both_editions::run,
+            &first_half,
+            &second_half,
+        ],
     );
     // Random sheets come upon what harmless dead ends change.
     b.at_least(count / 20, &dead_end_kind(Effect::Accepted, "listing"));
     b.at_least(count / 40, &dead_end_kind(Effect::LongerWord, "listing"));
+    b.at_least(count / 8, "marks: Safra");
     b.report();
     println!("outside: {} passed, {} failed", b.passed, b.failed);
     if b.failed > 0 {

@@ -1,17 +1,20 @@
-//! The verdict without tuples: a cycle through a must-recur state in the product of sheet and plan.
+//! The verdict without tuples: a cycle through a must-recur state, or over a marked transition, in the product of sheet and plan.
 
+use crate::edition::Edition;
 use crate::graph::Graph;
 use crate::sheet::{Plan, Sheet};
 
-/// Has some endless reading of the plan must-recur states without end?
+/// Has some endless reading of the plan must-recur states, or marked transitions, without end?
 pub fn passes(s: &Sheet, p: &Plan) -> bool {
     let letters: Vec<usize> = p.lead.iter().chain(&p.cycle).copied().collect();
     let after = |t: usize| if t + 1 == letters.len() { p.lead.len() } else { t + 1 };
     let node = |t: usize, q: usize| t * s.n + q;
     let mut edges = vec![Vec::new(); letters.len() * s.n];
-    for t in 0..letters.len() {
+    let mut marked = Vec::new();
+    for (t, l) in letters.iter().copied().enumerate() {
         for q in 0..s.n {
-            edges[node(t, q)] = s.next[q][letters[t]].iter().map(|r| node(after(t), *r)).collect();
+            edges[node(t, q)] = s.next[q][l].iter().map(|r| node(after(t), *r)).collect();
+            marked.extend(s.next[q][l].iter().filter(|r| s.marked.contains(&(q, l, **r))).map(|r| (node(t, q), node(after(t), *r))));
         }
     }
     let mut reached = vec![false; edges.len()];
@@ -22,5 +25,16 @@ pub fn passes(s: &Sheet, p: &Plan) -> bool {
         }
     }
     let alive: Vec<usize> = (0..edges.len()).filter(|x| reached[*x]).collect();
-    Graph::new(edges).components(&alive).iter().any(|c| c.iter().any(|x| s.recurring[x % s.n]))
+    let circles = Graph::new(edges).components(&alive);
+    match s.edition {
+        Edition::States => circles.iter().flatten().any(|x| s.recurring[x % s.n]),
+        // A transition is taken again and again where it leads back into its own component.
+        Edition::Marks => {
+            let mut circle = vec![None; reached.len()];
+            for (i, c) in circles.iter().enumerate() {
+                c.iter().for_each(|x| circle[*x] = Some(i));
+            }
+            marked.iter().any(|(x, y)| circle[*x].is_some() && circle[*x] == circle[*y])
+        }
+    }
 }

@@ -1,16 +1,28 @@
 //! A sheet and a plan, read by a reader of its own: lines are split at LF, and each is judged by itself.
 
+use crate::edition::Edition;
+use crate::names::characters;
+use std::collections::BTreeSet;
+
 /// A refusal: the question's number and the line.
 pub type No = (u32, usize);
 
+/// The most bytes of a sheet file, of either edition, and of a plan file.
+pub const SHEET_BYTES: usize = 32_768;
+pub const PLAN_BYTES: usize = 12_288;
+
 #[derive(Clone, PartialEq, Eq, Debug)]
 pub struct Sheet {
+    pub edition: Edition,
     pub n: usize,
     pub k: usize,
     pub initial: Vec<bool>,
+    /// None of them where transitions are marked.
     pub recurring: Vec<bool>,
     /// The states that state q may go to on letter l: `next[q][l]`.
     pub next: Vec<Vec<Vec<usize>>>,
+    /// The marked transitions, by state, letter and state. There are none where states must recur.
+    pub marked: BTreeSet<(usize, usize, usize)>,
     /// Names as they are spelled.
     pub names: Vec<Vec<u8>>,
     /// Withdrawn letters, each with its superseding letter, as their lines stand.
@@ -18,6 +30,12 @@ pub struct Sheet {
 }
 
 impl Sheet {
+    /// The transitions by state, letter and state, in the order of their lines.
+    pub fn transitions(&self) -> Vec<(usize, usize, usize)> {
+        let on = |q: usize, l: usize| self.next[q][l].iter().map(move |t| (q, l, *t));
+        (0..self.n).flat_map(|q| (0..self.k).flat_map(move |l| on(q, l))).collect()
+    }
+
     pub fn withdraws(&self, letter: usize) -> bool {
         self.withdrawn.iter().any(|(old, _)| *old == letter)
     }
@@ -55,53 +73,25 @@ fn number(columns: &[u8]) -> Option<usize> {
     digits.parse().ok()
 }
 
-/// The characters of a name, composed; None where the bytes are no name.
-pub fn characters(name: &[u8]) -> Option<Vec<char>> {
-    if name.is_empty() || name.len() > 24 {
-        return None;
+/// 0 or 1.
+fn flag(columns: &[u8]) -> Option<bool> {
+    match number(columns) {
+        Some(0) => Some(false),
+        Some(1) => Some(true),
+        _ => None,
     }
-    let text = std::str::from_utf8(name).ok()?;
-    let mut out: Vec<char> = Vec::new();
-    let mut plain = false;
-    for c in text.chars() {
-        match c {
-            '\u{21}'..='\u{7e}' => {
-                out.push(c);
-                plain = true;
-            }
-            'ä' | 'ö' | 'ü' | 'Ä' | 'Ö' | 'Ü' | 'ß' => {
-                out.push(c);
-                plain = false;
-            }
-            '\u{308}' => {
-                let umlaut = match out.last() {
-                    Some('a') if plain => 'ä',
-                    Some('o') if plain => 'ö',
-                    Some('u') if plain => 'ü',
-                    Some('A') if plain => 'Ä',
-                    Some('O') if plain => 'Ö',
-                    Some('U') if plain => 'Ü',
-                    _ => return None,
-                };
-                out.pop();
-                out.push(umlaut);
-                plain = false;
-            }
-            _ => return None,
-        }
-    }
-    Some(out)
 }
 
 pub fn read_sheet(bytes: &[u8]) -> Result<Sheet, No> {
-    if bytes.len() > 24_576 {
+    if bytes.len() > SHEET_BYTES {
         return Err((2, 0));
     }
     let (whole, rest) = lines(bytes);
     let line = |i: usize| whole.get(i - 1).copied();
     // Of the line behind the whole ones, too.
     let opens = |i: usize, byte: u8| line(i).map_or(rest.first(), |t| t.first()) == Some(&byte);
-    let head = line(1).filter(|l| l.len() == 11 && l.starts_with(b"SHEET")).ok_or((3, 1))?;
+    let head = line(1).filter(|l| l.len() == 11).ok_or((3, 1))?;
+    let edition = Edition::opening(head).ok_or((3, 1))?;
     let n = number(&head[5..8]).ok_or((3, 1))?;
     let k = number(&head[8..11]).ok_or((3, 1))?;
     if !(1..=16).contains(&n) || !(1..=8).contains(&k) {
@@ -133,25 +123,29 @@ pub fn read_sheet(bytes: &[u8]) -> Result<Sheet, No> {
         at += 1;
     }
     let (mut initial, mut recurring) = (Vec::new(), Vec::new());
+    // One edition has a third number on the state lines, the other a fourth on the transition lines.
+    let (state_line, transition_line) = match edition {
+        Edition::States => (10, 10),
+        Edition::Marks => (7, 13),
+    };
     for q in 0..n {
         let text = line(at)
-            .filter(|t| t.len() == 10 && t[0] == b'S' && number(&t[1..4]) == Some(q))
+            .filter(|t| t.len() == state_line && t[0] == b'S' && number(&t[1..4]) == Some(q))
             .ok_or((7, at))?;
-        for (set, flag) in [(&mut initial, &text[4..7]), (&mut recurring, &text[7..10])] {
-            match number(flag) {
-                Some(0) => set.push(false),
-                Some(1) => set.push(true),
-                _ => return Err((7, at)),
-            }
-        }
+        initial.push(flag(&text[4..7]).ok_or((7, at))?);
+        recurring.push(edition == Edition::States && flag(&text[7..10]).ok_or((7, at))?);
         at += 1;
     }
     let mut next = vec![vec![Vec::new(); k]; n];
+    let mut marked = BTreeSet::new();
     let mut last: Option<(usize, usize, usize)> = None;
     while opens(at, b'T') {
-        let text = line(at).filter(|t| t.len() == 10).ok_or((8, at))?;
+        let text = line(at).filter(|t| t.len() == transition_line).ok_or((8, at))?;
         let part = |a: usize| number(&text[a..a + 3]).ok_or((8, at));
         let t = (part(1)?, part(4)?, part(7)?);
+        if edition == Edition::Marks && flag(&text[10..13]).ok_or((8, at))? {
+            marked.insert(t);
+        }
         if t.0 >= n || t.1 >= k || t.2 >= n || last.map_or(false, |u| t <= u) {
             return Err((8, at));
         }
@@ -168,7 +162,7 @@ pub fn read_sheet(bytes: &[u8]) -> Result<Sheet, No> {
     if at < whole.len() || !rest.is_empty() {
         return Err((9, at + 1));
     }
-    Ok(Sheet { n, k, initial, recurring, next, names, withdrawn })
+    Ok(Sheet { edition, n, k, initial, recurring, next, marked, names, withdrawn })
 }
 
 pub fn read_plan(bytes: &[u8], sheet: &Sheet) -> Result<Plan, No> {
@@ -201,7 +195,7 @@ pub fn read_plan(bytes: &[u8], sheet: &Sheet) -> Result<Plan, No> {
 
 /// The sheet's file, with its names as they are spelled or composed.
 pub fn write_sheet(s: &Sheet, composed: bool) -> Vec<u8> {
-    let mut out = format!("SHEET{:3}{:3}\n", s.n, s.k).into_bytes();
+    let mut out = format!("{}{:3}{:3}\n", s.edition.word(), s.n, s.k).into_bytes();
     for (l, name) in s.names.iter().enumerate() {
         out.extend(format!("N{l:3} ").bytes());
         if composed {
@@ -215,14 +209,19 @@ pub fn write_sheet(s: &Sheet, composed: bool) -> Vec<u8> {
         out.extend(format!("W{old:3}{new:3}\n").bytes());
     }
     for q in 0..s.n {
-        out.extend(format!("S{:3}{:3}{:3}\n", q, s.initial[q] as u8, s.recurring[q] as u8).bytes());
+        let initial = s.initial[q] as u8;
+        let line = match s.edition {
+            Edition::States => format!("S{q:3}{initial:3}{:3}\n", s.recurring[q] as u8),
+            Edition::Marks => format!("S{q:3}{initial:3}\n"),
+        };
+        out.extend(line.bytes());
     }
-    for q in 0..s.n {
-        for l in 0..s.k {
-            for r in &s.next[q][l] {
-                out.extend(format!("T{q:3}{l:3}{r:3}\n").bytes());
-            }
-        }
+    for (q, l, t) in s.transitions() {
+        let line = match s.edition {
+            Edition::States => format!("T{q:3}{l:3}{t:3}\n"),
+            Edition::Marks => format!("T{q:3}{l:3}{t:3}{:3}\n", s.marked.contains(&(q, l, t)) as u8),
+        };
+        out.extend(line.bytes());
     }
     out.extend(b"END\n");
     out

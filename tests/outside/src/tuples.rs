@@ -1,5 +1,6 @@
 //! The tracker by the requirements' text, on sets of states as sorted lists: to compare the listing, cell by cell.
 
+use crate::edition::Edition;
 use crate::sheet::{Plan, Sheet};
 use std::collections::{BTreeSet, HashMap};
 
@@ -20,6 +21,11 @@ fn successors(s: &Sheet, set: &Set, l: usize) -> Set {
     set.iter().flat_map(|q| s.next[*q][l].iter().copied()).collect()
 }
 
+/// The states reached from a set over a marked transition.
+fn reached_by_marks(s: &Sheet, set: &Set, l: usize) -> Set {
+    set.iter().flat_map(|q| s.next[*q][l].iter().copied().filter(|t| s.marked.contains(&(*q, l, *t)))).collect()
+}
+
 pub fn first(s: &Sheet) -> Tuple {
     let mut sets = vec![Set::new(); s.n];
     sets[0] = (0..s.n).filter(|q| s.initial[*q]).collect();
@@ -30,7 +36,11 @@ pub fn step(s: &Sheet, u: &Tuple, l: usize) -> Tuple {
     let before = u.sets.iter().filter(|x| !x.is_empty()).count();
     let mut sets: Vec<Set> = u.sets.iter().map(|x| successors(s, x, l)).collect();
     sets.push(Set::new());
-    sets[before] = sets[0].iter().copied().filter(|q| s.recurring[*q]).collect();
+    sets[before] = match s.edition {
+        Edition::States => sets[0].iter().copied().filter(|q| s.recurring[*q]).collect(),
+        // From set 0 as it was before the step.
+        Edition::Marks => reached_by_marks(s, &u.sets[0], l),
+    };
     let mut colours = vec![2 * s.n + 1];
     for i in 0..sets.len() {
         let here = sets[i].clone();

@@ -12,11 +12,14 @@ put-refused-requires c κs = search needs
 enum-known-r-2 : tie.Need-enum-known-r-2
 enum-known-r-2 c = search needs
 
-cast-t9 : tie.Need-cast-t9
-cast-t9 c = search needs
+edition-cell-requires : tie.Need-edition-cell-requires
+edition-cell-requires c κs = search needs
 
-cast-t10 : tie.Need-cast-t10
-cast-t10 c = search needs
+cast-t11 : tie.Need-cast-t11
+cast-t11 c = search needs
+
+cast-t12 : tie.Need-cast-t12
+cast-t12 c = search needs
 
 slice-aggregate-copy-numbers : tie.Need-slice-aggregate-copy-numbers
 slice-aggregate-copy-numbers c = search needs
@@ -34,7 +37,8 @@ same-length-2 : tie.Need-same-length-2
 same-length-2 c = search needs
 
 returns-2 : tie.Need-returns-2
-returns-2 c = rw (c .before .before .before .before .before .before .before .before .r2 .given .1) (c .before .before .copy-numbers .ensures)
+returns-2 c =
+    rw (c .before .before .before .before .before .before .before .before .before .r2 .given .1, ← (c .before .before .before .before .before .before .before .edition-cell .ensures)) (c .before .before .copy-numbers .ensures)
 
 pub put-read-spec : {M : Type 1} → statement M
 put-read-spec =
@@ -43,8 +47,9 @@ put-read-spec =
     enum-known-r
     put-refused-requires
     enum-known-r-2
-    cast-t9
-    cast-t10
+    edition-cell-requires
+    cast-t11
+    cast-t12
     slice-aggregate-copy-numbers
     copy-numbers-requires
     same-length

@@ -1,4 +1,5 @@
 -- Each table is as long as it is made. Assumes nothing.
+use borrow.Author.Needs.{needs}
 use mathlib.Core.Path.{refl}
 use Rattle.cases.proofs.say_judgement.Statement.{statement}
 use Rattle.cases.proofs.say_judgement.Tie as tie
@@ -7,7 +8,7 @@ slice-aggregate-verdict : tie.Need-slice-aggregate-verdict
 slice-aggregate-verdict c = refl
 
 slice-aggregate-verdict-2 : tie.Need-slice-aggregate-verdict-2
-slice-aggregate-verdict-2 c = refl
+slice-aggregate-verdict-2 c = search needs
 
 slice-aggregate-verdict-3 : tie.Need-slice-aggregate-verdict-3
 slice-aggregate-verdict-3 c = refl
@@ -20,6 +21,9 @@ slice-aggregate-verdict-5 c = refl
 
 slice-aggregate-verdict-6 : tie.Need-slice-aggregate-verdict-6
 slice-aggregate-verdict-6 c = refl
+
+slice-aggregate-verdict-7 : tie.Need-slice-aggregate-verdict-7
+slice-aggregate-verdict-7 c = refl
 
 verdict-requires : tie.Need-verdict-requires
 verdict-requires c κs = tt
@@ -55,6 +59,7 @@ say-judgement-spec =
     slice-aggregate-verdict-4
     slice-aggregate-verdict-5
     slice-aggregate-verdict-6
+    slice-aggregate-verdict-7
     verdict-requires
     enum-known-v
     say-verdict-requires

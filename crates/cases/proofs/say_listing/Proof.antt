@@ -1,4 +1,5 @@
 -- Each table is as long as it is made. Assumes nothing.
+use borrow.Author.Needs.{needs}
 use mathlib.Core.Path.{refl, sym}
 use Rattle.cases.proofs.say_listing.Statement.{statement}
 use Rattle.cases.proofs.say_listing.Tie as tie
@@ -7,7 +8,7 @@ slice-aggregate-list : tie.Need-slice-aggregate-list
 slice-aggregate-list c = refl
 
 slice-aggregate-list-2 : tie.Need-slice-aggregate-list-2
-slice-aggregate-list-2 c = refl
+slice-aggregate-list-2 c = search needs
 
 slice-aggregate-list-3 : tie.Need-slice-aggregate-list-3
 slice-aggregate-list-3 c = refl
@@ -24,6 +25,9 @@ slice-aggregate-list-6 c = refl
 slice-aggregate-list-7 : tie.Need-slice-aggregate-list-7
 slice-aggregate-list-7 c = refl
 
+slice-aggregate-list-8 : tie.Need-slice-aggregate-list-8
+slice-aggregate-list-8 c = refl
+
 list-requires : tie.Need-list-requires
 list-requires c κs = tt
 
@@ -34,7 +38,7 @@ slice-aggregate-say-text : tie.Need-slice-aggregate-say-text
 slice-aggregate-say-text c = refl
 
 slice-aggregate-say-text-2 : tie.Need-slice-aggregate-say-text-2
-slice-aggregate-say-text-2 c = sym (c .before .before .before .before .before .before .before .before .before .before .before .before .list .kept .1 .1 .1 .1 .1 .1 .1 .1 .0)
+slice-aggregate-say-text-2 c = sym (c .before .before .before .before .before .before .before .before .before .before .before .before .before .list .kept .1 .1 .1 .1 .1 .1 .1 .1 .1 .0)
 
 say-text-requires : tie.Need-say-text-requires
 say-text-requires c κs = tt
@@ -65,6 +69,7 @@ say-listing-spec =
     slice-aggregate-list-5
     slice-aggregate-list-6
     slice-aggregate-list-7
+    slice-aggregate-list-8
     list-requires
     enum-known-n
     slice-aggregate-say-text

@@ -1,7 +1,8 @@
 -- Each way through the step answers as the laws of the tables say. Assumes nothing.
 use mathlib.Core.Path.{refl}
-use Prim.Native.Nat.{_/_, _%_}
+use Prim.Native.Nat.{_*_, _/_, _%_, _≤_, _<_}
 use native.Mathlib.Omega.{arith}
+use lib.ListN.{length}
 use Rattle.automaton.specs.Automaton.{Automaton, automaton}
 use Rattle.expanding.specs.Expand.{Taken}
 use Rattle.expanding.specs.ExpandLaws.{fill-steps, Looked, goes-skip, goes-old, goes-new, goes-over}
@@ -11,13 +12,17 @@ use Rattle.expanding.proofs.expand.Tie as tie
 
 -- behind the first test the step can be taken
 abbrev start : tie.Else1 → tie.Start
-start c = c .before .before .before .before .before .before .before
+start c = c .before .before .before .before .before .before .before .before
 
 abbrev given : tie.Start → Automaton
-given c = automaton (c .args .a) (c .args .table .now)
+given c = automaton (c .args .a) (c .args .table .now) (c .args .marks .now)
 
 taken : (c : tie.Else1) → Taken (given (start c)) (start c .args .c) (start c .args .m)
 taken c = record { from = start c .pre .1; letter = c .if1 .left }
+
+-- there are few tuples, and a cell for the step's number
+bounds : (c : tie.Else1) → let a = start c .args in (a .c / 8 < a .m) × (a .m ≤ a .room) × (a .room ≤ 1024) × (8 * a .room ≤ length (a .nexts .now))
+bounds c = let (f, from) = start c .pre in (from, f .room-is, f .room-fits .most, f .room-fits .nexts)
 
 -- its row, once its number is told
 abbrev entered : tie.After-find-or-add → tie.After-enter
@@ -30,12 +35,12 @@ looked : (c : tie.After-find-or-add) →
     let s = start (passed c) in
     let a = s .args in
     let d = c .find-or-add in
-    Looked (given s) (a .room) (a .c) (a .m) (a .tuples .now) (a .nexts .now) (a .head .now) (a .link .now) (entered c .enter .last .1 .1 .1 .1 .0)
+    Looked (given s) (a .room) (a .c) (a .m) (a .tuples .now) (a .nexts .now) (a .head .now) (a .link .now) (entered c .enter .last .1 .1 .1 .1 .1 .0)
     (record { from = a .c / 8; letter = a .c % 8 }) (d .last .0) (d .last .1 .1 .1 .1 .1 .0) (d .last .1 .1 .1 .1 .1 .1 .0) (d .result)
 looked c = record { filled = start (passed c) .pre .0; taken = taken (passed c); gives = entered c .enter .ensures; from = refl; letter = refl; placed = c .find-or-add .ensures }
 
 returns : tie.Need-returns
-returns c = goes-skip (c .before .before .before .before .before .before .before .pre .0) (c .if1 .taken)
+returns c = goes-skip (c .before .before .before .before .before .before .before .before .pre .0) (c .if1 .taken)
 
 slice-aggregate-enter : tie.Need-slice-aggregate-enter
 slice-aggregate-enter c = search needs
@@ -50,14 +55,8 @@ enter-requires c κs =
     let t = f .room-fits .tuples in
     (fill-steps f (taken tested), record { small = omega arith; row = omega arith; cells = refl })
 
-cast-t20 : tie.Need-cast-t20
-cast-t20 c =
-    let s = start (c .before .before .before .before) in
-    let f = s .pre .0 in
-    let p = s .pre .1 in
-    let q = f .room-is in
-    let r = f .room-fits .most in
-    omega arith
+cast-t21 : tie.Need-cast-t21
+cast-t21 c = let h = bounds (c .before .before .before .before) in omega arith
 
 cast-nexts : tie.Need-cast-nexts
 cast-nexts c = omega arith
@@ -69,7 +68,7 @@ find-or-add-requires : tie.Need-find-or-add-requires
 find-or-add-requires c κs = search needs
 
 add-result : tie.Need-add-result
-add-result c = search needs
+add-result c = let h = bounds (passed (c .before .before .before .before .before .before .before)) in omega arith
 
 same-length : tie.Need-same-length
 same-length c = search needs
@@ -84,13 +83,13 @@ returns-2 : tie.Need-returns-2
 returns-2 c = goes-over (looked (c .before .before .before .before .before .before .before)) (c .if2 .taken)
 
 cast-nexts-2 : tie.Need-cast-nexts-2
-cast-nexts-2 c = search needs
+cast-nexts-2 c = let h = bounds (passed (c .before .before .before .before .before .before .before)) in omega arith
 
 mul-nexts : tie.Need-mul-nexts
-mul-nexts c = search needs
+mul-nexts c = let h = bounds (passed (c .before .before .before .before .before .before .before)) in omega arith
 
 slice-write-nexts : tie.Need-slice-write-nexts
-slice-write-nexts c = search needs
+slice-write-nexts c = let h = bounds (passed (c .before .before .before .before .before .before .before)) in omega arith
 
 same-length-4 : tie.Need-same-length-4
 same-length-4 c = search needs
@@ -132,7 +131,7 @@ expand-spec =
     returns
     slice-aggregate-enter
     enter-requires
-    cast-t20
+    cast-t21
     cast-nexts
     slice-aggregate-find-or-add
     find-or-add-requires

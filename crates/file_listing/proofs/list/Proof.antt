@@ -1,7 +1,9 @@
 -- Each answer is that of building, or of the last question. Assumes nothing.
-use mathlib.Core.Path.{subst, _∙_}
+use mathlib.Core.Path.{subst}
 use native.Mathlib.Omega.{arith}
+use Rattle.automaton.specs.Automaton.{transitionSets}
 use Rattle.lent.specs.Lent.{witnessTables}
+use Rattle.lent.specs.LentLaws.{sets-cleared-alike}
 use Rattle.filling.specs.TrackerTables.{trackerTables}
 use Rattle.tracker.specs.Build.{BuildTables, buildTables}
 use Rattle.building.specs.FileBuild.{Builds}
@@ -12,35 +14,35 @@ use Rattle.file_listing.proofs.list.Statement.{statement}
 use Rattle.file_listing.proofs.list.Tie as tie
 
 abbrev start : tie.After-build → tie.Start
-start c = c .before .before .before .before .before .before .before .before .before .before .before .before .before .before .before
+start c = c .before .before .before .before .before .before .before .before .before .before .before .before .before .before .before .before .before
 
 -- the tables before and behind building
 abbrev before : tie.Start → BuildTables
 before s =
     let a = s .args in
-    buildTables (a .table .now) (witnessTables (a .word .now) (a .one .now) (a .other .now)) (trackerTables (a .tuples .now) (a .nexts .now))
+    buildTables (transitionSets (a .table .now) (a .marks .now)) (witnessTables (a .word .now) (a .one .now) (a .other .now)) (trackerTables (a .tuples .now) (a .nexts .now))
 
 abbrev built : tie.After-build → BuildTables
 built c =
     let w = c .build .last .1 .1 in
-    buildTables (w .0) (witnessTables (w .1 .1 .1 .0) (w .1 .1 .1 .1 .0) (w .1 .1 .1 .1 .1 .0)) (trackerTables (w .1 .0) (w .1 .1 .0))
+    buildTables (transitionSets (w .0) (w .1 .0)) (witnessTables (w .1 .1 .1 .1 .0) (w .1 .1 .1 .1 .1 .0) (w .1 .1 .1 .1 .1 .1 .0)) (trackerTables (w .1 .1 .0) (w .1 .1 .1 .0))
 
 abbrev Built-as : tie.After-build → Built → Type 0
 Built-as c z = Builds (start c .args .sheet .now) (start c .args .room) (before (start c)) (built c) z
 
 -- building, from behind its tables
-abbrev behind : tie.After-slice-known13 → tie.After-build
-behind c = c .before .before .before .before .before .before .before .before .before .before .before .before
+abbrev behind : tie.After-slice-known15 → tie.After-build
+behind c = c .before .before .before .before .before .before .before .before .before .before .before .before .before .before
 
 -- building and the last question, from the ends: building refused, the tracker is listed
-abbrev refused-at : tie.After-slice-known14 → tie.After-build
+abbrev refused-at : tie.After-slice-known16 → tie.After-build
 refused-at c = behind (c .before .before .before .before .before .before .before)
 
-abbrev listed-at : tie.After-slice-known18 → tie.After-build
-listed-at c = behind (c .before .before .before .before .before .before .before .before .before .before .before .before .before .before .before .before .before)
+abbrev listed-at : tie.After-slice-known20 → tie.After-build
+listed-at c = behind (c .before .before .before .before .before .before .before .before .before .before .before .before .before .before .before .before .before .before)
 
-abbrev finished-at : tie.After-slice-known18 → tie.After-finish
-finished-at c = c .before .before .before .before .before .before .before .before .before .before
+abbrev finished-at : tie.After-slice-known20 → tie.After-finish
+finished-at c = c .before .before .before .before .before .before .before .before .before .before .before
 
 abbrev building : tie.After-x → tie.After-build
 building c = behind (c .before .before)
@@ -87,7 +89,10 @@ same-length-6 : tie.Need-same-length-6
 same-length-6 c = refused-at c .build .kept .1 .1 .1 .1 .1 .1 .1 .0
 
 same-length-7 : tie.Need-same-length-7
-same-length-7 c = c .before .before .refuse .kept .1 .0
+same-length-7 c = refused-at c .build .kept .1 .1 .1 .1 .1 .1 .1 .1 .0
+
+same-length-8 : tie.Need-same-length-8
+same-length-8 c = c .before .before .refuse .kept .1 .0
 
 returns : tie.Need-returns
 returns c =
@@ -96,34 +101,53 @@ returns c =
     let b = behind (told .before .before) in
     list-file-refused (subst (Built-as b) (told .r .given .1) (b .build .ensures)) (refused .refuse .ensures)
 
--- by arithmetic the lengths hold whichever table is cleared: the answer alone tells which one must be (so 9 too)
-same-length-8 : tie.Need-same-length-8
-same-length-8 c = omega (arith, c .before .before .clear-refused .kept .1 .0, listed-at c .build .kept .1 .1 .0)
-
+-- by arithmetic the lengths hold whichever tables are cleared: the answer alone tells which ones must be (so 9 to 12)
 same-length-9 : tie.Need-same-length-9
-same-length-9 c = omega (arith, c .before .before .clear-refused .kept .1 .0, finished-at c .finish .kept .1 .1 .1 .0, listed-at c .build .kept .1 .1 .1 .0)
+same-length-9 c =
+    let left = c .before .before .before .before .clear-refused .kept .1 in
+    let lent = listed-at (c .before .before) .build .kept .1 .1 in
+    let done = finished-at (c .before .before) .finish .kept .1 .1 .1 in
+    omega (arith, left .0, left .1 .0, done .0, done .1 .0, lent .0, lent .1 .0, lent .1 .1 .0, lent .1 .1 .1 .0)
 
 same-length-10 : tie.Need-same-length-10
-same-length-10 c = finished-at c .finish .kept .1 .1 .1 .1 .0 ∙ listed-at c .build .kept .1 .1 .1 .1 .0
+same-length-10 c =
+    let left = c .before .before .before .before .clear-refused .kept .1 in
+    let lent = listed-at (c .before .before) .build .kept .1 .1 in
+    let done = finished-at (c .before .before) .finish .kept .1 .1 .1 in
+    omega (arith, left .0, left .1 .0, done .0, done .1 .0, lent .0, lent .1 .0, lent .1 .1 .0, lent .1 .1 .1 .0)
 
 same-length-11 : tie.Need-same-length-11
-same-length-11 c = listed-at c .build .kept .1 .1 .1 .1 .1 .0
+same-length-11 c =
+    let left = c .before .before .before .before .clear-refused .kept .1 in
+    let lent = listed-at (c .before .before) .build .kept .1 .1 in
+    let done = finished-at (c .before .before) .finish .kept .1 .1 .1 in
+    omega (arith, left .0, left .1 .0, done .0, done .1 .0, lent .0, lent .1 .0, lent .1 .1 .0, lent .1 .1 .1 .0)
 
 same-length-12 : tie.Need-same-length-12
-same-length-12 c = listed-at c .build .kept .1 .1 .1 .1 .1 .1 .0
+same-length-12 c =
+    let left = c .before .before .before .before .clear-refused .kept .1 in
+    let lent = listed-at (c .before .before) .build .kept .1 .1 in
+    let done = finished-at (c .before .before) .finish .kept .1 .1 .1 in
+    omega (arith, left .0, left .1 .0, done .0, done .1 .0, lent .0, lent .1 .0, lent .1 .1 .0, lent .1 .1 .1 .0)
 
 same-length-13 : tie.Need-same-length-13
-same-length-13 c = listed-at c .build .kept .1 .1 .1 .1 .1 .1 .1 .0
+same-length-13 c = listed-at (c .before .before) .build .kept .1 .1 .1 .1 .1 .1 .0
 
 same-length-14 : tie.Need-same-length-14
-same-length-14 c = finished-at c .finish .kept .1 .1 .1 .1 .1 .0
+same-length-14 c = listed-at (c .before .before) .build .kept .1 .1 .1 .1 .1 .1 .1 .0
+
+same-length-15 : tie.Need-same-length-15
+same-length-15 c = listed-at (c .before .before) .build .kept .1 .1 .1 .1 .1 .1 .1 .1 .0
+
+same-length-16 : tie.Need-same-length-16
+same-length-16 c = finished-at (c .before .before) .finish .kept .1 .1 .1 .1 .1 .0
 
 returns-2 : tie.Need-returns-2
 returns-2 c =
-    let over = c .before .before in
-    let finished = over .before .before .before .before .before .before .before .before in
+    let over = c .before .before .before .before in
+    let finished = over .before .before .before .before .before .before .before .before .before in
     let told = finished .before .before .before .before .before in
-    file-finished (accepted told) (building told .build .kept .1 .1 .0) (finished .finish .ensures) (over .clear-refused .ensures)
+    file-finished (accepted told) (sets-cleared-alike (before (start (building told)) .sets) (built (building told) .sets) (building told .build .kept .1 .1 .0) (building told .build .kept .1 .1 .1 .0)) (finished .finish .ensures) (over .clear-refused .ensures)
 
 pub list-spec : {M : Type 1} → statement M
 list-spec =
@@ -142,12 +166,14 @@ list-spec =
     same-length-5
     same-length-6
     same-length-7
-    returns
     same-length-8
+    returns
     same-length-9
     same-length-10
     same-length-11
     same-length-12
     same-length-13
     same-length-14
+    same-length-15
+    same-length-16
     returns-2)

@@ -3,6 +3,7 @@ use mathlib.Core.Path.{refl, subst}
 use native.Mathlib.Omega.{arith}
 use lib.ListN.{replicate}
 use borrow.Author.Tests.{not-true, not-false}
+use Rattle.automaton.specs.Automaton.{transitionSets}
 use Rattle.lent.specs.Lent.{WitnessTables, witnessTables, EnoughForWitness}
 use Rattle.reading.specs.declared.Read.{Read}
 use Rattle.reading.specs.declared.Read.the-variants as R
@@ -14,7 +15,7 @@ use Rattle.file_writer.proofs.write.Statement.{statement}
 use Rattle.file_writer.proofs.write.Tie as tie
 
 abbrev start : tie.Else1 → tie.Start
-start c = c .before .before .before .before .before .before .before .before .before .before .before
+start c = c .before .before .before .before .before .before .before .before .before .before .before .before
 
 abbrev lent : tie.Start → WitnessTables
 lent s = witnessTables (s .args .word .now) (s .args .one .now) (s .args .other .now)
@@ -25,26 +26,29 @@ enough c = c .before .long-enough .ensures .0 (not-false _ (c .if1 .left)) .long
 
 -- the file is read
 abbrev asked : tie.After-read-long → tie.Else1
-asked c = c .before .before .before .before .before .before
+asked c = c .before .before .before .before .before .before .before
 
 abbrev after : tie.After-read-long → ReadTables
 after c =
     let w = c .read-long .last .1 in
-    readTables (w .0) (w .1 .0) (witnessTables (w .1 .1 .0) (w .1 .1 .1 .0) (w .1 .1 .1 .1 .0))
+    readTables (transitionSets (w .0) (w .1 .0)) (w .1 .1 .0) (witnessTables (w .1 .1 .1 .0) (w .1 .1 .1 .1 .0) (w .1 .1 .1 .1 .1 .0))
 
 abbrev Read-as : tie.After-read-long → Read → Type 0
 Read-as c x =
     let s = start (asked c) in
-    ReadsNamed (s .args .sheet .now) (readTables (replicate 128 0) (replicate 224 0) (lent s)) (after c) x
+    ReadsNamed (s .args .sheet .now) (readTables (transitionSets (replicate 128 0) (replicate 128 0)) (replicate 224 0) (lent s)) (after c) x
 
 abbrev reading : tie.After-a → tie.After-read-long
-reading c = c .before .before .before .before .before .before .before .before .before .before
+reading c = c .before .before .before .before .before .before .before .before .before .before .before
 
 accepted : (c : tie.After-a) → Read-as (reading c) (R.Is (c .a .given .0 .0))
 accepted c = subst (Read-as (reading c)) (c .a .given .1) (reading c .read-long .ensures)
 
 slice-aggregate-long-enough : tie.Need-slice-aggregate-long-enough
 slice-aggregate-long-enough c = search needs
+
+slice-aggregate-long-enough-2 : tie.Need-slice-aggregate-long-enough-2
+slice-aggregate-long-enough-2 c = search needs
 
 long-enough-requires : tie.Need-long-enough-requires
 long-enough-requires c κs = search needs
@@ -59,7 +63,7 @@ same-length-3 : tie.Need-same-length-3
 same-length-3 c = search needs
 
 returns : tie.Need-returns
-returns c = Writes.short (λ l. c .before .long-enough .ensures .1 (not-true _ (c .if1 .taken)) (record { cells = omega arith; long = l })) refl refl
+returns c = Writes.short (λ l. c .before .long-enough .ensures .1 (not-true _ (c .if1 .taken)) (record { tables = record { cells = omega arith; marks = omega arith }; long = l })) refl refl
 
 slice-aggregate-read-long : tie.Need-slice-aggregate-read-long
 slice-aggregate-read-long c = search needs
@@ -67,8 +71,11 @@ slice-aggregate-read-long c = search needs
 slice-aggregate-read-long-2 : tie.Need-slice-aggregate-read-long-2
 slice-aggregate-read-long-2 c = search needs
 
+slice-aggregate-read-long-3 : tie.Need-slice-aggregate-read-long-3
+slice-aggregate-read-long-3 c = search needs
+
 read-long-requires : tie.Need-read-long-requires
-read-long-requires c κs = (record { cells = omega arith; long = enough (c .before .before .before .before .before) }, omega arith)
+read-long-requires c κs = (record { tables = record { cells = omega arith; marks = omega arith }; long = enough (c .before .before .before .before .before .before) }, omega arith)
 
 enum-known-r : tie.Need-enum-known-r
 enum-known-r c = search needs
@@ -85,10 +92,13 @@ slice-aggregate-finish c = search needs
 slice-aggregate-finish-2 : tie.Need-slice-aggregate-finish-2
 slice-aggregate-finish-2 c = search needs
 
+slice-aggregate-finish-3 : tie.Need-slice-aggregate-finish-3
+slice-aggregate-finish-3 c = search needs
+
 finish-requires : tie.Need-finish-requires
 finish-requires c κs =
-    let told = c .before .before .before .before in
-    let z = reading told .read-long .kept .1 .1 .0 in
+    let told = c .before .before .before .before .before in
+    let z = reading told .read-long .kept .1 .1 .1 .0 in
     (write-asks (accepted told), omega arith)
 
 same-length-4 : tie.Need-same-length-4
@@ -106,7 +116,7 @@ same-length-7 c = search needs
 returns-2 : tie.Need-returns-2
 returns-2 c =
     let told = c .before .before .before .before .before in
-    let read = told .before .before .before .before .before .before .before .before .before .before in
+    let read = told .before .before .before .before .before .before .before .before .before .before .before in
     let refused = subst (Read-as read) (told .r .given .1) (read .read-long .ensures) in
     Writes.refused (enough (asked read)) (told .r .given .0 .0) (refused .0) refl (c .before .before .clear-bytes .ensures)
 
@@ -124,7 +134,7 @@ same-length-11 c = search needs
 
 returns-3 : tie.Need-returns-3
 returns-3 c =
-    let told = c .before .before .before .before .before .before .before in
+    let told = c .before .before .before .before .before .before .before .before in
     write-finishes (accepted told) (enough (asked (reading told))) (c .before .before .finish .ensures)
 
 pub write-spec : {M : Type 1} → statement M
@@ -132,6 +142,7 @@ write-spec =
     tie.close
     (tie.spec
     slice-aggregate-long-enough
+    slice-aggregate-long-enough-2
     long-enough-requires
     same-length
     same-length-2
@@ -139,12 +150,14 @@ write-spec =
     returns
     slice-aggregate-read-long
     slice-aggregate-read-long-2
+    slice-aggregate-read-long-3
     read-long-requires
     enum-known-r
     clear-bytes-requires
     enum-known-a
     slice-aggregate-finish
     slice-aggregate-finish-2
+    slice-aggregate-finish-3
     finish-requires
     same-length-4
     same-length-5

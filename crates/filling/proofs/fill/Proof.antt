@@ -12,14 +12,14 @@ use Rattle.filling.proofs.fill.Statement.{statement}
 use Rattle.filling.proofs.fill.Tie as tie
 
 abbrev Inv-loop : tie.InvT-loop
-Inv-loop a table room tuples₀ nexts₀ head₀ link₀ m₀ c₀ tuples nexts head link m c = Filled (automaton a table) room c m tuples nexts head link × (length tuples ≡ length tuples₀) × (length nexts ≡ length nexts₀)
+Inv-loop a table marks room tuples₀ nexts₀ head₀ link₀ m₀ c₀ tuples nexts head link m c = Filled (automaton a table marks) room c m tuples nexts head link × (length tuples ≡ length tuples₀) × (length nexts ≡ length nexts₀)
 
 abbrev μ-loop : tie.MeasureT-loop
-μ-loop a table room tuples₀ nexts₀ head₀ link₀ m₀ c₀ tuples nexts head link m c = 8 * room - c
+μ-loop a table marks room tuples₀ nexts₀ head₀ link₀ m₀ c₀ tuples nexts head link m c = 8 * room - c
 
 -- the states that the later ones go back to
 abbrev start : tie.After-begin Inv-loop μ-loop → tie.Start Inv-loop μ-loop
-start c = c .before .before .before .before .before .before .before
+start c = c .before .before .before .before .before .before .before .before
 
 abbrev begun : tie.At-loop Inv-loop μ-loop → tie.After-begin Inv-loop μ-loop
 begun c = c .before .before .before .before .before
@@ -46,7 +46,7 @@ slice-aggregate-begin-2 c = search needs
 
 begin-requires : tie.Need-begin-requires Inv-loop μ-loop
 begin-requires c κs =
-    let p = c .before .before .before .before .before .before .pre in
+    let p = c .before .before .before .before .before .before .before .pre in
     let n = p .fits .range .1 in
     let r = p .room-fits .some in
     let t = p .room-fits .tuples in
@@ -85,7 +85,8 @@ same-length-2 c = search needs
 returns : tie.Need-returns Inv-loop μ-loop
 returns c =
     let e = c .before .before .before .before .before .before .before in
-    fills-over (inside e .before .loop .c + 1) (c .if1 .taken) (e .expand .ensures .over (c .if1 .taken))
+    let g = start (begun (inside e .before)) .args in
+    fills-over {A = automaton (g .a) (g .table .now) (g .marks .now)} (inside e .before .loop .c + 1) (c .if1 .taken) (e .expand .ensures .over (c .if1 .taken))
 
 add-c : tie.Need-add-c Inv-loop μ-loop
 add-c c = let h = few (inside (expanded c)) in omega arith
@@ -97,7 +98,7 @@ loop-again : tie.Need-loop-again Inv-loop μ-loop
 loop-again c =
     let l = inside (expanded c) .before .loop in
     let e = expanded c .expand in
-    (e .ensures .fitting (c .if1 .left), e .kept .1 .1 .1 .1 .1 .0 ∙ l .inv .1, e .kept .1 .1 .1 .1 .1 .1 .0 ∙ l .inv .2)
+    (e .ensures .fitting (c .if1 .left), e .kept .1 .1 .1 .1 .1 .1 .0 ∙ l .inv .1, e .kept .1 .1 .1 .1 .1 .1 .1 .0 ∙ l .inv .2)
 
 same-length-3 : tie.Need-same-length-3 Inv-loop μ-loop
 same-length-3 c = search needs

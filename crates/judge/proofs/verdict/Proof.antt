@@ -8,8 +8,8 @@ use Rattle.judge.proofs.verdict.Statement.{statement}
 use Rattle.judge.proofs.verdict.Tie as tie
 
 -- the other questions, from the end
-abbrev asked-at : tie.After-slice-known18 → tie.After-judge-long
-asked-at c = c .before .before .before .before .before .before .before .before .before .before .before .before
+abbrev asked-at : tie.After-slice-known21 → tie.After-judge-long
+asked-at c = c .before .before .before .before .before .before .before .before .before .before .before .before .before .before
 
 enough-requires : tie.Need-enough-requires
 enough-requires c κs = search needs
@@ -32,75 +32,84 @@ same-length-5 c = search needs
 same-length-6 : tie.Need-same-length-6
 same-length-6 c = search needs
 
+same-length-7 : tie.Need-same-length-7
+same-length-7 c = search needs
+
 returns : tie.Need-returns
 returns c = short-judged (c .before .enough .ensures .1 (not-true _ (c .if1 .taken)))
 
 sizes-fit-requires : tie.Need-sizes-fit-requires
 sizes-fit-requires c κs = search needs
 
+clear-sets-requires : tie.Need-clear-sets-requires
+clear-sets-requires c κs = search needs
+
 clear-requires : tie.Need-clear-requires
 clear-requires c κs = search needs
-
-clear-requires-2 : tie.Need-clear-requires-2
-clear-requires-2 c κs = search needs
 
 clear-witness-requires : tie.Need-clear-witness-requires
 clear-witness-requires c κs = search needs
 
-same-length-7 : tie.Need-same-length-7
-same-length-7 c = c .before .before .before .before .before .before .before .before .before .before .before .before .before .before .before .before .before .before .before .clear .kept .0
-
 same-length-8 : tie.Need-same-length-8
-same-length-8 c = c .before .before .before .before .before .before .before .before .before .before .before .before .before .before .clear2 .kept .0
+same-length-8 c = c .before .before .before .before .before .before .before .before .before .before .before .before .before .before .before .before .before .before .before .before .before .clear-sets .kept .0
 
 same-length-9 : tie.Need-same-length-9
-same-length-9 c = c .before .before .before .before .before .before .before .before .before .before .before .before .before .before .clear2 .kept .1 .0
+same-length-9 c = c .before .before .before .before .before .before .before .before .before .before .before .before .before .before .before .before .before .before .before .before .before .clear-sets .kept .1 .0
 
 same-length-10 : tie.Need-same-length-10
-same-length-10 c = c .before .before .before .before .before .before .clear-witness .kept .0
+same-length-10 c = c .before .before .before .before .before .before .before .before .before .before .before .before .before .before .clear .kept .0
 
 same-length-11 : tie.Need-same-length-11
-same-length-11 c = c .before .before .before .before .before .before .clear-witness .kept .1 .0
+same-length-11 c = c .before .before .before .before .before .before .before .before .before .before .before .before .before .before .clear .kept .1 .0
 
 same-length-12 : tie.Need-same-length-12
-same-length-12 c = c .before .before .before .before .before .before .clear-witness .kept .1 .1 .0
+same-length-12 c = c .before .before .before .before .before .before .clear-witness .kept .0
+
+same-length-13 : tie.Need-same-length-13
+same-length-13 c = c .before .before .before .before .before .before .clear-witness .kept .1 .0
+
+same-length-14 : tie.Need-same-length-14
+same-length-14 c = c .before .before .before .before .before .before .clear-witness .kept .1 .1 .0
 
 returns-2 : tie.Need-returns-2
 returns-2 c =
     let witness = c .before .before .before .before .before .before in
     let tracker = witness .before .before .before .before .before .before .before .before in
-    let sets = tracker .before .before .before .before .before in
-    let large = sets .before .before in
+    let sets = tracker .before .before .before .before .before .before .before in
+    let large = sets .before .before .before in
     let sizes = large .before in
     let long = sizes .before in
     Judgement.refused (long .before .enough .ensures .0 (not-false _ (long .if1 .left))) _
     (Refusing.by-size (sizes .sizes-fit .ensures .1 (not-true _ (large .if2 .taken))) refl (witness .clear-witness .ensures))
-    refl (sets .clear .ensures) (tracker .clear2 .ensures)
+    refl (sets .clear-sets .ensures) (tracker .clear .ensures)
 
 judge-long-requires : tie.Need-judge-long-requires
 judge-long-requires c κs =
-    let fit = c .before .before .before .before .before .before in
+    let fit = c .before .before .before .before .before .before .before in
     let sizes = fit .before in
     let long = sizes .before in
     (long .before .enough .ensures .0 (not-false _ (long .if1 .left)), sizes .sizes-fit .ensures .0 (not-false _ (fit .if2 .left)))
 
-same-length-13 : tie.Need-same-length-13
-same-length-13 c = asked-at c .judge-long .kept .1 .1 .1 .0
-
-same-length-14 : tie.Need-same-length-14
-same-length-14 c = asked-at c .judge-long .kept .1 .1 .1 .1 .0
-
 same-length-15 : tie.Need-same-length-15
-same-length-15 c = asked-at c .judge-long .kept .1 .1 .1 .1 .1 .0
+same-length-15 c = asked-at c .judge-long .kept .1 .1 .1 .0
 
 same-length-16 : tie.Need-same-length-16
-same-length-16 c = asked-at c .judge-long .kept .1 .1 .1 .1 .1 .1 .0
+same-length-16 c = asked-at c .judge-long .kept .1 .1 .1 .1 .0
 
 same-length-17 : tie.Need-same-length-17
-same-length-17 c = asked-at c .judge-long .kept .1 .1 .1 .1 .1 .1 .1 .0
+same-length-17 c = asked-at c .judge-long .kept .1 .1 .1 .1 .1 .0
 
 same-length-18 : tie.Need-same-length-18
-same-length-18 c = asked-at c .judge-long .kept .1 .1 .1 .1 .1 .1 .1 .1 .0
+same-length-18 c = asked-at c .judge-long .kept .1 .1 .1 .1 .1 .1 .0
+
+same-length-19 : tie.Need-same-length-19
+same-length-19 c = asked-at c .judge-long .kept .1 .1 .1 .1 .1 .1 .1 .0
+
+same-length-20 : tie.Need-same-length-20
+same-length-20 c = asked-at c .judge-long .kept .1 .1 .1 .1 .1 .1 .1 .1 .0
+
+same-length-21 : tie.Need-same-length-21
+same-length-21 c = asked-at c .judge-long .kept .1 .1 .1 .1 .1 .1 .1 .1 .1 .0
 
 returns-3 : tie.Need-returns-3
 returns-3 c = asked-at c .judge-long .ensures
@@ -116,23 +125,26 @@ verdict-spec =
     same-length-4
     same-length-5
     same-length-6
+    same-length-7
     returns
     sizes-fit-requires
+    clear-sets-requires
     clear-requires
-    clear-requires-2
     clear-witness-requires
-    same-length-7
     same-length-8
     same-length-9
     same-length-10
     same-length-11
     same-length-12
-    returns-2
-    judge-long-requires
     same-length-13
     same-length-14
+    returns-2
+    judge-long-requires
     same-length-15
     same-length-16
     same-length-17
     same-length-18
+    same-length-19
+    same-length-20
+    same-length-21
     returns-3)

@@ -15,7 +15,7 @@ slice-aggregate-explore c = search needs
 explore-requires : tie.Need-explore-requires
 explore-requires c κs =
     let p = c .before .before .before .before .before .pre in
-    (p .0 .fits, p .0 .lengths .cells, p .1, record { size = length-replicate {A = ℕ} 528 0; zeros = zeros 528 })
+    (p .0 .fits, p .0 .cells, p .1, record { size = length-replicate {A = ℕ} 528 0; zeros = zeros 528 })
 
 slice-aggregate-witness : tie.Need-slice-aggregate-witness
 slice-aggregate-witness c = search needs

@@ -36,7 +36,7 @@ joining-requires c κs = search needs
 
 common-requires : tie.Need-common-requires
 common-requires c κs =
-    (omega arith, omega arith, low c, start (c .before) .pre .0 .lengths .cells)
+    (omega arith, omega arith, low c, start (c .before) .pre .0 .cells)
 
 member-requires : tie.Need-member-requires
 member-requires c κs =
@@ -49,7 +49,7 @@ note-requires : tie.Need-note-requires
 note-requires c κs =
     let joined = c .before .before .before .before .before in
     let d = deep (joined .before) in
-    let long = start (joined .before) .pre .0 .lengths .long in
+    let long = start (joined .before) .pre .0 .long in
     (low joined, omega arith, omega arith, omega arith)
 
 add-one : tie.Need-add-one
@@ -76,7 +76,7 @@ trace-requires c κs =
     let s = start (numbered n) in
     let d = deep (numbered n) in
     let k = n .note .kept in
-    let long = s .pre .0 .lengths .long in
+    let long = s .pre .0 .long in
     record {
       size = s .pre .1 .size;
       some = s .pre .1 .some;

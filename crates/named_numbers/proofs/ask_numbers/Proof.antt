@@ -19,10 +19,10 @@ use Rattle.named_numbers.proofs.ask_numbers.Statement.{statement}
 use Rattle.named_numbers.proofs.ask_numbers.Tie as tie
 
 abbrev start : tie.After-first-no → tie.Start
-start c = c .before .before .before .before .before .before
+start c = c .before .before .before .before .before .before .before
 
 abbrev given : tie.Start → Automaton
-given s = automaton (s .args .a) (s .args .table .now)
+given s = automaton (s .args .a) (s .args .table .now) (s .args .marks .now)
 
 abbrev lent : tie.Start → WitnessTables
 lent s = witnessTables (s .args .word .now) (s .args .one .now) (s .args .other .now)
@@ -43,8 +43,8 @@ in-force c ws tell = edges-in-force (fits (passed c)) tell (c .before .in-force 
 -- the graph that is asked is the automaton's
 same : (c : tie.After-graph-of) →
     let a = start (passed (c .before) .before) .args in
-    graph (c .graph-of .result) (a .table .now) ≡ graphOf (automaton (a .a) (a .table .now))
-same c = let a = start (passed (c .before) .before) .args in same-graph (a .a) (a .table .now) (c .graph-of .ensures)
+    graph (c .graph-of .result) (a .table .now) ≡ graphOf (automaton (a .a) (a .table .now) (a .marks .now))
+same c = let a = start (passed (c .before) .before) .args in same-graph (a .a) (a .table .now) (a .marks .now) (c .graph-of .ensures)
 
 -- question 10, from behind its tables
 abbrev asked : tie.After-slice-known6 → tie.After-ask
@@ -89,7 +89,7 @@ ask-requires : tie.Need-ask-requires
 ask-requires c κs =
     let fit = passed (c .before .before .before .before) in
     let s = start (fit .before) in
-    subst (λ (G : Graph). Asked G (lent s)) (sym (same (c .before .before .before))) (record { fits = fits-graph (fits fit); lengths = s .pre .0; zeros = s .pre .1 })
+    subst (λ (G : Graph). Asked G (lent s)) (sym (same (c .before .before .before))) (record { fits = fits-graph (fits fit); cells = s .pre .0 .tables .cells; long = s .pre .0 .long; zeros = s .pre .1 })
 
 same-length : tie.Need-same-length
 same-length c = search needs

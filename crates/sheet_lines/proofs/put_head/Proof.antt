@@ -4,11 +4,8 @@ use Rattle.sheet_lines.specs.LineLaws.{head-stored}
 use Rattle.sheet_lines.proofs.put_head.Statement.{statement}
 use Rattle.sheet_lines.proofs.put_head.Tie as tie
 
-slice-aggregate-put-bytes : tie.Need-slice-aggregate-put-bytes
-slice-aggregate-put-bytes c = search needs
-
-put-bytes-requires : tie.Need-put-bytes-requires
-put-bytes-requires c κs = search needs
+put-word-requires : tie.Need-put-word-requires
+put-word-requires c κs = search needs
 
 add-put-last : tie.Need-add-put-last
 add-put-last c = search needs
@@ -22,16 +19,9 @@ same-length c = search needs
 returns : tie.Need-returns
 returns c =
     let word = c .before .before .before .before .before .before in
-    let a = word .before .before .before .before .args in
-    head-stored (a .out .now) (a .at) (a .n) (a .k) (word .put-bytes .ensures) (c .before .before .put-last .ensures)
+    let a = word .before .before .before .args in
+    head-stored (a .edition) (a .out .now) (a .at) (a .n) (a .k) (word .put-word .ensures) (c .before .before .put-last .ensures)
 
 pub put-head-spec : {M : Type 1} → statement M
 put-head-spec =
-    tie.close
-    (tie.spec
-    slice-aggregate-put-bytes
-    put-bytes-requires
-    add-put-last
-    put-last-requires
-    same-length
-    returns)
+    tie.close (tie.spec put-word-requires add-put-last put-last-requires same-length returns)

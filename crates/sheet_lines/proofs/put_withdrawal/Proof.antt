@@ -1,28 +1,18 @@
--- `sheet_lines::put_withdrawal` meets its contract: the parts are stored one behind the other. Assumes nothing.
-use native.Mathlib.Omega.{arith}
+-- `sheet_lines::put_withdrawal` meets its contract: a withdrawal has two numbers. Assumes nothing.
 use borrow.Author.Needs.{needs}
-use lib.ListN.{length-set}
-use Rattle.sheet_lines.specs.LineLaws.{withdrawal-stored}
+use Rattle.format.specs.Format.{withdrawalLine}
 use Rattle.sheet_lines.proofs.put_withdrawal.Statement.{statement}
 use Rattle.sheet_lines.proofs.put_withdrawal.Tie as tie
 
-slice-write-out : tie.Need-slice-write-out
-slice-write-out c = search needs
-
-add-put-last : tie.Need-add-put-last
-add-put-last c = search needs
-
-put-last-requires : tie.Need-put-last-requires
-put-last-requires c κs = simp length-set (omega arith)
+put-two-requires : tie.Need-put-two-requires
+put-two-requires c κs = search needs
 
 same-length : tie.Need-same-length
-same-length c = simp length-set at (c .before .before .put-last .kept .0)
+same-length c = search needs
 
 returns : tie.Need-returns
-returns c =
-    let a = c .before .before .before .before .before .args in
-    withdrawal-stored (a .out .now) (a .at) (a .letter) (a .by) (c .before .before .put-last .ensures)
+unfolding withdrawalLine
+returns c = c .before .before .put-two .ensures
 
 pub put-withdrawal-spec : {M : Type 1} → statement M
-put-withdrawal-spec =
-    tie.close (tie.spec slice-write-out add-put-last put-last-requires same-length returns)
+put-withdrawal-spec = tie.close (tie.spec put-two-requires same-length returns)

@@ -16,7 +16,7 @@ use Rattle.sheet_text.proofs.put_text.Tie as tie
 
 -- what is written
 abbrev numbers : tie.Start → Automaton
-numbers s = automaton (s .args .a) (s .args .table .now)
+numbers s = automaton (s .args .a) (s .args .table .now) (s .args .marks .now)
 
 abbrev names : tie.Start → List (List ℕ)
 names s = rowNames (s .args .rows .now) 0 (s .args .a .k)
@@ -31,7 +31,7 @@ fits s = omega (arith, s .pre .2, text-length (numbers s) (names s) (withdrawals
 
 -- the states in which the parts are stored, one by one, in an output that keeps its length
 abbrev start : tie.After-put-head → tie.Start
-start c = c .before .before .before .before .before
+start c = c .before .before .before .before .before .before
 
 abbrev head : tie.After-put-names → tie.After-put-head
 head c = c .before .before .before .before
@@ -55,7 +55,7 @@ kept-states : (c : tie.After-put-states) → length (c .put-states .last .0) ≡
 kept-states c = c .put-states .kept .0 ∙ kept-withdrawals (withdrawn c)
 
 put-head-requires : tie.Need-put-head-requires
-put-head-requires c κs = omega (arith, fits (c .before .before .before .before))
+put-head-requires c κs = omega (arith, fits (c .before .before .before .before .before))
 
 put-names-requires : tie.Need-put-names-requires
 put-names-requires c κs =
@@ -70,13 +70,17 @@ put-withdrawals-requires c κs =
 put-states-requires : tie.Need-put-states-requires
 put-states-requires c κs =
     let k = c .before .before .before in
-    omega (arith, kept-withdrawals k, fits (start (head (named k))))
+    let s = start (head (named k)) in
+    (s .pre .0 .states, omega (arith, k .put-withdrawals .ensures .0, named k .put-names .ensures .0, kept-withdrawals k, fits s))
 
 put-transitions-requires : tie.Need-put-transitions-requires
 put-transitions-requires c κs =
     let k = c .before .before .before in
-    let s = start (head (named (withdrawn k))) in
-    (s .pre .0 .table, omega (arith, kept-states k, fits s))
+    let s = start (head (named (withdrawn k))) in (
+      s .pre .0 .table,
+      s .pre .0 .marks,
+      omega (arith, k .put-states .ensures .0, withdrawn k .put-withdrawals .ensures .0, named (withdrawn k) .put-names .ensures .0, kept-states k, fits s),
+    )
 
 slice-aggregate-put-bytes : tie.Need-slice-aggregate-put-bytes
 slice-aggregate-put-bytes c = search needs

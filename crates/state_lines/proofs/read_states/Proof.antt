@@ -5,6 +5,7 @@ use native.Mathlib.Nat.{sub-zero}
 use native.Mathlib.Omega.{arith}
 use denote.Ref.{now}
 use lib.Pow.{pow-mono}
+use Rattle.format.specs.Format.{stateWidth}
 use Rattle.state_lines.specs.declared.StateLine.{StateLine}
 use Rattle.state_lines.specs.StateLines.{withFlags, statesAt, statesAnswer}
 use Rattle.frame.specs.Phase.{refused}
@@ -14,24 +15,24 @@ use Rattle.state_lines.proofs.read_states.Statement.{statement}
 use Rattle.state_lines.proofs.read_states.Tie as tie
 
 abbrev Inv-loop : tie.InvT-loop
-Inv-loop s first start n line₀ at₀ q₀ bit₀ initial₀ recurring₀ line at q bit initial recurring =
+Inv-loop edition s first start n line₀ at₀ q₀ bit₀ initial₀ recurring₀ size line at q bit initial recurring =
     (q ≤ n) × (at ≤ start + 11 * q) × (line ≡ first + q) × (bit ≡ 2 ^ q) × (initial < bit) × (recurring < bit) ×
-    (statesAt s line at q initial recurring (n - q) ≡ statesAt s first start 0 0 0 n)
+    (statesAt edition s line at q initial recurring (n - q) ≡ statesAt edition s first start 0 0 0 n)
 
 abbrev μ-loop : tie.MeasureT-loop
-μ-loop s first start n line₀ at₀ q₀ bit₀ initial₀ recurring₀ line at q bit initial recurring = n - q
+μ-loop edition s first start n line₀ at₀ q₀ bit₀ initial₀ recurring₀ size line at q bit initial recurring = n - q
 
 -- what a line holds decides what is left of the definition
 turn : (c : tie.After-state-line Inv-loop μ-loop) →
     let l = c .before .before .loop in
-    let a = c .before .before .before .before .args in
+    let a = c .before .before .before .before .before .args in
     (w : StateLine) → c .state-line .result ≡ w →
-    withFlags w (λ i r. statesAt (a .s .now) (l .line + 1) (l .at + 11) (l .q + 1) (l .initial + i * 2 ^ l .q) (l .recurring + r * 2 ^ l .q) (a .n - (l .q + 1))) (refused 7 (l .line)) ≡
-    statesAt (a .s .now) (a .first) (a .start) 0 0 0 (a .n)
+    withFlags w (λ i r. statesAt (a .edition) (a .s .now) (l .line + 1) (l .at + stateWidth (a .edition)) (l .q + 1) (l .initial + i * 2 ^ l .q) (l .recurring + r * 2 ^ l .q) (a .n - (l .q + 1))) (refused 7 (l .line)) ≡
+    statesAt (a .edition) (a .s .now) (a .first) (a .start) 0 0 0 (a .n)
 turn c w e =
     let l = c .before .before .loop in
-    let a = c .before .before .before .before .args in
-    sym (states-turn (a .s .now) (l .line) (l .at) (l .q) (l .initial) (l .recurring) (a .n) (omega arith) (sym (c .state-line .ensures .0) ∙ e)) ∙ l .inv .6
+    let a = c .before .before .before .before .before .args in
+    sym (states-turn (a .edition) (a .s .now) (l .line) (l .at) (l .q) (l .initial) (l .recurring) (a .n) (omega arith) (sym (c .state-line .ensures .0) ∙ e)) ∙ l .inv .6
 
 -- both flags of the line are 0 or 1
 small : (c : tie.After-known-told Inv-loop μ-loop) → (c .before .i .given .0 .0 ≤ 1) × (c .before .i .given .0 .1 .0 ≤ 1)
@@ -45,6 +46,9 @@ parts :
 parts c =
     let l = c .before .before .before .before .before .loop in
     (flag-part _ _ (small c .0), flag-part _ _ (small c .1), omega (arith, pow-mono {i = l .q} {j = 16} (omega arith)))
+
+state-width-requires : tie.Need-state-width-requires Inv-loop μ-loop
+state-width-requires c κs = search needs
 
 loop-holds : tie.Need-loop-holds Inv-loop μ-loop
 loop-holds c = (omega arith, omega arith, omega arith, refl, omega arith, omega arith, rw sub-zero)
@@ -98,20 +102,20 @@ loop-again c =
       rw b (double (l .q)),
       omega (arith, parts c),
       omega (arith, parts c),
-      rw b (turn (c .before .before .before) _ (c .before .i .given .1)),
+      rw (b, c .before .before .before .before .before .before .state-width .ensures .0) (turn (c .before .before .before) _ (c .before .i .given .1)),
     )
 
-cast-t17 : tie.Need-cast-t17 Inv-loop μ-loop
-cast-t17 c = omega (arith, pow-mono {i = c .before .loop .q} {j = 16} (omega arith))
+cast-t19 : tie.Need-cast-t19 Inv-loop μ-loop
+cast-t19 c = omega (arith, pow-mono {i = c .before .loop .q} {j = 16} (omega arith))
 
-cast-t18 : tie.Need-cast-t18 Inv-loop μ-loop
-cast-t18 c = omega (arith, pow-mono {i = c .before .loop .q} {j = 16} (omega arith))
+cast-t20 : tie.Need-cast-t20 Inv-loop μ-loop
+cast-t20 c = omega (arith, pow-mono {i = c .before .loop .q} {j = 16} (omega arith))
 
 returns-2 : tie.Need-returns-2 Inv-loop μ-loop
 returns-2 c =
     let l = c .before .loop in
-    let a = c .before .before .before .args in
-    let e = sym (states-done (now (a .s)) (l .line) (l .at) (l .q) (l .initial) (l .recurring) (a .n) (omega arith)) ∙ l .inv .6 in
+    let a = c .before .before .before .before .args in
+    let e = sym (states-done (a .edition) (now (a .s)) (l .line) (l .at) (l .q) (l .initial) (l .recurring) (a .n) (omega arith)) ∙ l .inv .6 in
     (ap statesAnswer e, (omega arith, omega arith))
 
 pub read-states-spec : {M : Type 1} → statement M
@@ -120,6 +124,7 @@ read-states-spec =
     (tie.spec
     Inv-loop
     μ-loop
+    state-width-requires
     loop-holds
     state-line-requires
     enum-known-i
@@ -135,6 +140,6 @@ read-states-spec =
     add-q
     loop-less
     loop-again
-    cast-t17
-    cast-t18
+    cast-t19
+    cast-t20
     returns-2)

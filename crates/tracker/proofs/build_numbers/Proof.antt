@@ -13,7 +13,7 @@ use Rattle.tracker.proofs.build_numbers.Statement.{statement}
 use Rattle.tracker.proofs.build_numbers.Tie as tie
 
 abbrev start : tie.Else1 → tie.Start
-start c = c .before .before .before .before .before .before .before .before .before .before .before .before .before
+start c = c .before .before .before .before .before .before .before .before .before .before .before .before .before .before
 
 abbrev witness : tie.Start → WitnessTables
 witness s = witnessTables (s .args .word .now) (s .args .one .now) (s .args .other .now)
@@ -21,7 +21,7 @@ witness s = witnessTables (s .args .word .now) (s .args .one .now) (s .args .oth
 -- question 1 is passed
 lent : (c : tie.Else1) →
     let a = start c .args in
-    EnoughToBuildNumbers (automaton (a .a) (a .table .now)) (a .room) (buildNumbersTables (witness (start c)) (trackerTables (a .tuples .now) (a .nexts .now)))
+    EnoughToBuildNumbers (automaton (a .a) (a .table .now) (a .marks .now)) (a .room) (buildNumbersTables (witness (start c)) (trackerTables (a .tuples .now) (a .nexts .now)))
 lent c = c .before .enough .ensures .0 (not-false _ (c .if1 .left))
 
 -- the numbers are checked
@@ -31,8 +31,8 @@ asked c = c .before .before .before .before
 abbrev Checked-as : tie.After-check-long → Checked → Type 0
 Checked-as c x =
     let s = start (asked c) in
-    let w = c .check-long .last .1 .1 in
-    ChecksLong (automaton (s .args .a) (s .args .table .now)) (witness s) (witnessTables (w .0) (w .1 .0) (w .1 .1 .0)) x
+    let w = c .check-long .last .1 .1 .1 in
+    ChecksLong (automaton (s .args .a) (s .args .table .now) (s .args .marks .now)) (witness s) (witnessTables (w .0) (w .1 .0) (w .1 .1 .0)) x
 
 -- an accepted sheet
 abbrev checking : tie.After-enum-told → tie.After-check-long
@@ -85,13 +85,13 @@ same-length-7 : tie.Need-same-length-7
 same-length-7 c = c .before .before .before .before .clear .kept .1 .0
 
 same-length-8 : tie.Need-same-length-8
-same-length-8 c = refused-at c .check-long .kept .1 .1 .0
+same-length-8 c = refused-at c .check-long .kept .1 .1 .1 .0
 
 same-length-9 : tie.Need-same-length-9
-same-length-9 c = refused-at c .check-long .kept .1 .1 .1 .0
+same-length-9 c = refused-at c .check-long .kept .1 .1 .1 .1 .0
 
 same-length-10 : tie.Need-same-length-10
-same-length-10 c = refused-at c .check-long .kept .1 .1 .1 .1 .0
+same-length-10 c = refused-at c .check-long .kept .1 .1 .1 .1 .1 .0
 
 returns-2 : tie.Need-returns-2
 returns-2 c =
@@ -109,19 +109,19 @@ track-requires c κs =
     (accepted told .0, lent (asked (checking told)) .tracker)
 
 same-length-11 : tie.Need-same-length-11
-same-length-11 c = c .before .before .before .before .track .kept .1 .1 .1 .0
+same-length-11 c = c .before .before .before .before .track .kept .1 .1 .1 .1 .0
 
 same-length-12 : tie.Need-same-length-12
-same-length-12 c = c .before .before .before .before .track .kept .1 .1 .1 .1 .0
+same-length-12 c = c .before .before .before .before .track .kept .1 .1 .1 .1 .1 .0
 
 same-length-13 : tie.Need-same-length-13
-same-length-13 c = tracked-at c .check-long .kept .1 .1 .0
+same-length-13 c = tracked-at c .check-long .kept .1 .1 .1 .0
 
 same-length-14 : tie.Need-same-length-14
-same-length-14 c = tracked-at c .check-long .kept .1 .1 .1 .0
+same-length-14 c = tracked-at c .check-long .kept .1 .1 .1 .1 .0
 
 same-length-15 : tie.Need-same-length-15
-same-length-15 c = tracked-at c .check-long .kept .1 .1 .1 .1 .0
+same-length-15 c = tracked-at c .check-long .kept .1 .1 .1 .1 .1 .0
 
 returns-3 : tie.Need-returns-3
 returns-3 c =

@@ -1,19 +1,16 @@
--- Each answer is what the tests passed make of the definition. Assumes nothing.
-use Prim.Native.Nat.{_+_}
+-- The line's first number, and behind it each edition has its form. Assumes nothing.
 use mathlib.Core.Path.{_≡_, sym, _∙_}
 use denote.Ref.{now}
-use Rattle.columns.specs.Pair.{pairAt, withPair}
-use Rattle.transition_lines.specs.TransitionLines.{transitionOf, transitionLineAt}
-use Rattle.transition_lines.specs.declared.TransitionLine.the-variants as T
 use borrow.Author.Needs.{needs}
+use Rattle.transition_lines.specs.TransitionLines.{lineFrom, transitionLineAt}
 use Rattle.transition_lines.proofs.transition_line.Statement.{statement}
 use Rattle.transition_lines.proofs.transition_line.Tie as tie
 
 -- what is left of the definition behind the line's first number
 behind : (c : tie.After-from) →
     let a = c .before .before .before .before .args in
-    transitionLineAt (now (a .s)) (a .at) (a .n) (a .k) (a .least) ≡
-    withPair (pairAt (now (a .s)) (a .at + 4)) (λ letter to. transitionOf (a .n) (a .k) (a .least) (c .from .given .0 .0) letter to) T.Bad
+    transitionLineAt (a .edition) (now (a .s)) (a .at) (a .n) (a .k) (a .least) ≡
+    lineFrom (a .edition) (now (a .s)) (a .at) (a .n) (a .k) (a .least) (c .from .given .0 .0)
 unfolding transitionLineAt
 behind c = simp (sym (c .before .before .number-at .ensures), c .from .given .1)
 
@@ -33,28 +30,23 @@ returns : tie.Need-returns
 unfolding transitionLineAt
 returns c = (simp (sym (c .before .before .number-at .ensures), c .enum-told .given .1), tt)
 
-add-pair-at : tie.Need-add-pair-at
-add-pair-at c = search needs
-
-pair-at-requires : tie.Need-pair-at-requires
-pair-at-requires c κs = search needs
-
-enum-known-letter : tie.Need-enum-known-letter
-enum-known-letter c = search needs
-
 enum-told-2 : tie.Need-enum-told-2
 enum-told-2 c = search needs
 
-returns-2 : tie.Need-returns-2
-returns-2 c = (sym (behind (c .before .before .before .before) ∙ simp (sym (c .before .before .pair-at .ensures), c .enum-told2 .given .1)), tt)
+unmarked-line-requires : tie.Need-unmarked-line-requires
+unmarked-line-requires c κs = search needs
 
-transition-of-requires : tie.Need-transition-of-requires
-transition-of-requires c κs = search needs
+enum-told-3 : tie.Need-enum-told-3
+enum-told-3 c = search needs
+
+marked-line-requires : tie.Need-marked-line-requires
+marked-line-requires c κs = search needs
+
+returns-2 : tie.Need-returns-2
+returns-2 c = (sym (behind (c .before .before .before .before) ∙ rw (c .before .enum-told2 .given .1) (sym (c .unmarked-line .ensures .0))), c .unmarked-line .ensures .1)
 
 returns-3 : tie.Need-returns-3
-returns-3 c =
-    let p = c .before .before in
-    (sym (behind (p .before .before .before .before) ∙ simp (sym (p .before .before .pair-at .ensures), p .letter .given .1, sym (c .transition-of .ensures .0))), c .transition-of .ensures .1)
+returns-3 c = (sym (behind (c .before .before .before .before) ∙ rw (c .before .enum-told3 .given .1) (sym (c .marked-line .ensures .0))), c .marked-line .ensures .1)
 
 pub transition-line-spec : {M : Type 1} → statement M
 transition-line-spec =
@@ -65,10 +57,9 @@ transition-line-spec =
     enum-known-from
     enum-told
     returns
-    add-pair-at
-    pair-at-requires
-    enum-known-letter
     enum-told-2
+    unmarked-line-requires
+    enum-told-3
+    marked-line-requires
     returns-2
-    transition-of-requires
     returns-3)

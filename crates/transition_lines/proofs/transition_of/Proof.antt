@@ -16,7 +16,7 @@ use Rattle.transition_lines.proofs.transition_of.Tie as tie
 ordered : (c : tie.Else3) →
     let a = c .before .before .before .args in
     (t : Bool) → leb (a .least) ((8 * a .from + a .letter) * 16 + a .to) ≡ t →
-    choose t (Is (a .from) (a .letter) (a .to)) Bad ≡ transitionOf (a .n) (a .k) (a .least) (a .from) (a .letter) (a .to)
+    choose t (Is (a .from) (a .letter) (a .to) (a .mark)) Bad ≡ transitionOf (a .n) (a .k) (a .least) (a .from) (a .letter) (a .to) (a .mark)
 unfolding transitionOf
 ordered c t e = simp (lt-ltb _ _ (c .before .before .if1 .left), lt-ltb _ _ (c .before .if2 .left), lt-ltb _ _ (c .if3 .left), e)
 

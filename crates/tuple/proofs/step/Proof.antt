@@ -10,16 +10,16 @@ place-sets-requires c κs = search needs
 
 settle-requires : tie.Need-settle-requires
 settle-requires c κs =
-    let s = c .before .before .before .before .before .before .before .pre in
+    let s = c .before .before .before .before .before .before .before .before .pre in
     let v = c .before .before .before .place-sets in
-    (s .fits .range .1, placed-few s (v .ensures), v .kept .1 .1 .1 .0 ∙ cells-length s)
+    (s .fits .range .1, placed-few s (v .ensures), v .kept .1 .1 .1 .1 .0 ∙ cells-length s)
 
 same-length : tie.Need-same-length
 same-length c = search needs
 
 returns : tie.Need-returns
 returns c =
-    let s = c .before .before .before .before .before .before .before .before .before .before .pre in
+    let s = c .before .before .before .before .before .before .before .before .before .before .before .pre in
     c .before .before .settle .ensures ∙ step-done s (c .before .before .before .before .before .before .place-sets .ensures)
 
 pub step-spec : {M : Type 1} → statement M

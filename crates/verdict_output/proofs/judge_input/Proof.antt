@@ -39,13 +39,16 @@ slice-aggregate-verdict-6 c = search needs
 slice-aggregate-verdict-7 : tie.Need-slice-aggregate-verdict-7
 slice-aggregate-verdict-7 c = search needs
 
+slice-aggregate-verdict-8 : tie.Need-slice-aggregate-verdict-8
+slice-aggregate-verdict-8 c = search needs
+
 verdict-requires : tie.Need-verdict-requires
 verdict-requires c κs = search needs
 
 returns : tie.Need-returns
 returns c =
-    let judged = c .before .before .before .before .before .before in
-    let split = judged .before .before .before .before .before .before .before .before .before in
+    let judged = c .before .before .before .before .before .before .before in
+    let split = judged .before .before .before .before .before .before .before .before .before .before in
     judgement-output (split .sheet-end .result) (split .sheet-end .ensures .0) (search needs) (judged .verdict .ensures)
 
 pub judge-input-spec : {M : Type 1} → statement M
@@ -63,5 +66,6 @@ judge-input-spec =
     slice-aggregate-verdict-5
     slice-aggregate-verdict-6
     slice-aggregate-verdict-7
+    slice-aggregate-verdict-8
     verdict-requires
     returns)

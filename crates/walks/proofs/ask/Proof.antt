@@ -8,7 +8,7 @@ use Rattle.walks.proofs.ask.Tie as tie
 states-requires : tie.Need-states-requires
 states-requires c κs =
     let p = c .before .before .before .before .pre in
-    (p .fits, p .lengths .cells)
+    (p .fits, p .cells)
 
 search-requires : tie.Need-search-requires
 search-requires c κs =

@@ -2,7 +2,7 @@
 use mathlib.Core.Path.{refl}
 use mathlib.Core.Logic.{inl}
 use borrow.Author.Tests.{not-true, not-false}
-use Rattle.automaton.specs.Automaton.{automaton}
+use Rattle.automaton.specs.Automaton.{transitionSets, automaton}
 use Rattle.lent.specs.Lent.{WitnessTables, witnessTables, EnoughForSheet}
 use Rattle.walks.specs.CheckLaws.{checks-asked}
 use borrow.Author.Needs.{needs}
@@ -10,12 +10,12 @@ use Rattle.walks.proofs.check.Statement.{statement}
 use Rattle.walks.proofs.check.Tie as tie
 
 abbrev start : tie.Else1 → tie.Start
-start c = c .before .before .before .before .before .before .before .before .before
+start c = c .before .before .before .before .before .before .before .before .before .before
 
 abbrev lent : tie.Start → WitnessTables
 lent s = witnessTables (s .args .word .now) (s .args .one .now) (s .args .other .now)
 
-enough : (c : tie.Else1) → EnoughForSheet (start c .args .table .now) (lent (start c))
+enough : (c : tie.Else1) → EnoughForSheet (transitionSets (start c .args .table .now) (start c .args .marks .now)) (lent (start c))
 enough c = c .before .long-enough .ensures .0 (not-false _ (c .if1 .left))
 
 long-enough-requires : tie.Need-long-enough-requires
@@ -50,8 +50,8 @@ returns-2 c =
     let g = c .before .before .before .before .before .before .check-long in
     let asked = c .before .before .before .before .before .before .before .before .before .before in
     let a = start asked .args in
-    checks-asked (automaton (a .a) (a .table .now)) (lent (start asked))
-    (witnessTables (g .last .1 .1 .0) (g .last .1 .1 .1 .0) (g .last .1 .1 .1 .1 .0)) (g .result) (enough asked) (g .ensures)
+    checks-asked (automaton (a .a) (a .table .now) (a .marks .now)) (lent (start asked))
+    (witnessTables (g .last .1 .1 .1 .0) (g .last .1 .1 .1 .1 .0) (g .last .1 .1 .1 .1 .1 .0)) (g .result) (enough asked) (g .ensures)
 
 pub check-spec : {M : Type 1} → statement M
 check-spec =

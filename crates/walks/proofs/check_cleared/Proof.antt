@@ -12,7 +12,7 @@ use Rattle.walks.proofs.check_cleared.Statement.{statement}
 use Rattle.walks.proofs.check_cleared.Tie as tie
 
 abbrev start : tie.After-first-no → tie.Start
-start c = c .before .before .before .before .before
+start c = c .before .before .before .before .before .before
 
 abbrev lent : tie.Start → WitnessTables
 lent s = witnessTables (s .args .word .now) (s .args .one .now) (s .args .other .now)
@@ -20,7 +20,7 @@ lent s = witnessTables (s .args .word .now) (s .args .one .now) (s .args .other 
 -- behind questions 4, 7 and 8 the numbers fit
 fits : (c : tie.Else1) →
     let a = start (c .before) .args in
-    Fits (automaton (a .a) (a .table .now))
+    Fits (automaton (a .a) (a .table .now) (a .marks .now))
 fits c = c .before .first-no .ensures .0 (c .if1 .left)
 
 -- question 10, from behind its tables
@@ -30,14 +30,14 @@ asked c = c .before .before .before .before .before .before
 -- the graph that is asked is the automaton's
 same : (c : tie.After-graph-of) →
     let a = start (c .before .before) .args in
-    graph (c .graph-of .result) (a .table .now) ≡ graphOf (automaton (a .a) (a .table .now))
-same c = let a = start (c .before .before) .args in same-graph (a .a) (a .table .now) (c .graph-of .ensures)
+    graph (c .graph-of .result) (a .table .now) ≡ graphOf (automaton (a .a) (a .table .now) (a .marks .now))
+same c = let a = start (c .before .before) .args in same-graph (a .a) (a .table .now) (a .marks .now) (c .graph-of .ensures)
 
 -- its answer
 answer : (c : tie.After-ask) →
     let s = start (c .before .before .before .before .before .before) in
     let l = c .ask .last .1 .1 in
-    AnsweredTen (graphOf (automaton (s .args .a) (s .args .table .now))) (lent s) (witnessTables (l .0) (l .1 .0) (l .1 .1 .0)) (c .ask .result)
+    AnsweredTen (graphOf (automaton (s .args .a) (s .args .table .now) (s .args .marks .now))) (lent s) (witnessTables (l .0) (l .1 .0) (l .1 .1 .0)) (c .ask .result)
 answer c =
     let s = start (c .before .before .before .before .before .before) in
     let l = c .ask .last .1 .1 in
@@ -60,7 +60,7 @@ ask-requires c κs =
     let passed = c .before .before .before .before in
     let p = start (passed .before) .pre in
     subst (λ (G : Graph). Asked G (lent (start (passed .before)))) (sym (same (c .before .before .before)))
-    (record { fits = fits-graph (fits passed); lengths = p .0; zeros = p .1 })
+    (record { fits = fits-graph (fits passed); cells = p .0 .tables .cells; long = p .0 .long; zeros = p .1 })
 
 same-length : tie.Need-same-length
 same-length c = search needs

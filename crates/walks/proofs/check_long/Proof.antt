@@ -7,7 +7,7 @@ use Rattle.walks.proofs.check_long.Statement.{statement}
 use Rattle.walks.proofs.check_long.Tie as tie
 
 abbrev start : tie.After-clear-witness → tie.Start
-start c = c .before .before .before .before .before .before .before .before
+start c = c .before .before .before .before .before .before .before .before .before
 
 abbrev lent : tie.Start → WitnessTables
 lent s = witnessTables (s .args .word .now) (s .args .one .now) (s .args .other .now)
@@ -34,8 +34,8 @@ returns c =
     let g = c .before .before .before .before .before .before in
     let k = g .before .before .before .before .before .before .before .before .before .before in
     let a = start k .args in
-    checked (lent (start k)) (k .clear-witness .ensures) (automaton (a .a) (a .table .now))
-    (witnessTables (g .check-cleared .last .1 .1 .0) (g .check-cleared .last .1 .1 .1 .0) (g .check-cleared .last .1 .1 .1 .1 .0)) (g .check-cleared .result)
+    checked (lent (start k)) (k .clear-witness .ensures) (automaton (a .a) (a .table .now) (a .marks .now))
+    (witnessTables (g .check-cleared .last .1 .1 .1 .0) (g .check-cleared .last .1 .1 .1 .1 .0) (g .check-cleared .last .1 .1 .1 .1 .1 .0)) (g .check-cleared .result)
     (g .check-cleared .ensures)
 
 pub check-long-spec : {M : Type 1} → statement M

@@ -2,7 +2,7 @@
 use mathlib.Core.Path.{refl, subst}
 use native.Mathlib.Omega.{arith}
 use borrow.Author.Tests.{not-true, not-false}
-use Rattle.automaton.specs.Automaton.{Automaton, automaton}
+use Rattle.automaton.specs.Automaton.{Automaton, automaton, setsOfAutomaton}
 use Rattle.lent.specs.Lent.{WitnessTables, witnessTables, EnoughForSheet}
 use Rattle.walks.specs.declared.Checked.{Checked}
 use Rattle.walks.specs.declared.Checked.the-variants as K
@@ -14,16 +14,16 @@ use Rattle.writer.proofs.write_numbers.Statement.{statement}
 use Rattle.writer.proofs.write_numbers.Tie as tie
 
 abbrev start : tie.Else1 → tie.Start
-start c = c .before .before .before .before .before .before .before .before .before .before .before
+start c = c .before .before .before .before .before .before .before .before .before .before .before .before
 
 abbrev given : tie.Start → Automaton
-given s = automaton (s .args .a) (s .args .table .now)
+given s = automaton (s .args .a) (s .args .table .now) (s .args .marks .now)
 
 abbrev lent : tie.Start → WitnessTables
 lent s = witnessTables (s .args .word .now) (s .args .one .now) (s .args .other .now)
 
 -- question 1 is passed
-enough : (c : tie.Else1) → EnoughForSheet (given (start c) .table) (lent (start c))
+enough : (c : tie.Else1) → EnoughForSheet (setsOfAutomaton (given (start c))) (lent (start c))
 enough c = c .before .long-enough .ensures .0 (not-false _ (c .if1 .left))
 
 -- the questions are asked
@@ -33,7 +33,7 @@ long c = c .before .before .before .before .before
 abbrev Asked-as : tie.After-ask → Checked → Type 0
 Asked-as c x =
     let s = start (long c) in
-    let w = c .ask .last .1 .1 .1 in
+    let w = c .ask .last .1 .1 .1 .1 in
     Asks (given s) (s .args .names .now) (w .0) (lent s) (witnessTables (w .1 .0) (w .1 .1 .0) (w .1 .1 .1 .0)) x
 
 abbrev asking : tie.After-enum-told → tie.After-ask
@@ -85,16 +85,16 @@ slice-aggregate-finish c = search needs
 finish-requires : tie.Need-finish-requires
 finish-requires c κs =
     let told = c .before .before in
-    (writable (accepted told .1 .fits) (enough (long (asking told)) .cells), omega (arith, asking told .ask .kept .1 .1 .1 .0))
+    (writable (accepted told .1 .fits) (enough (long (asking told)) .tables), omega (arith, asking told .ask .kept .1 .1 .1 .1 .0))
 
 same-length-4 : tie.Need-same-length-4
-same-length-4 c = refused-at c .ask .kept .1 .1 .1 .1 .0
+same-length-4 c = refused-at c .ask .kept .1 .1 .1 .1 .1 .0
 
 same-length-5 : tie.Need-same-length-5
-same-length-5 c = refused-at c .ask .kept .1 .1 .1 .1 .1 .0
+same-length-5 c = refused-at c .ask .kept .1 .1 .1 .1 .1 .1 .0
 
 same-length-6 : tie.Need-same-length-6
-same-length-6 c = refused-at c .ask .kept .1 .1 .1 .1 .1 .1 .0
+same-length-6 c = refused-at c .ask .kept .1 .1 .1 .1 .1 .1 .1 .0
 
 same-length-7 : tie.Need-same-length-7
 same-length-7 c = c .before .before .clear-bytes .kept .0
@@ -107,23 +107,23 @@ returns-2 c =
     (c .before .before .clear-bytes .ensures)
 
 same-length-8 : tie.Need-same-length-8
-same-length-8 c = finished-at c .ask .kept .1 .1 .1 .1 .0
+same-length-8 c = finished-at c .ask .kept .1 .1 .1 .1 .1 .0
 
 same-length-9 : tie.Need-same-length-9
-same-length-9 c = finished-at c .ask .kept .1 .1 .1 .1 .1 .0
+same-length-9 c = finished-at c .ask .kept .1 .1 .1 .1 .1 .1 .0
 
 same-length-10 : tie.Need-same-length-10
-same-length-10 c = finished-at c .ask .kept .1 .1 .1 .1 .1 .1 .0
+same-length-10 c = finished-at c .ask .kept .1 .1 .1 .1 .1 .1 .1 .0
 
 same-length-11 : tie.Need-same-length-11
-same-length-11 c = c .before .before .finish .kept .1 .1 .1 .0
+same-length-11 c = c .before .before .finish .kept .1 .1 .1 .1 .0
 
 returns-3 : tie.Need-returns-3
 returns-3 c =
     let told = c .before .before .before .before .before in
     let end = c .before .before .finish in
-    let w = asking told .ask .last .1 .1 .1 .1 in
-    numbers-finishes (given (start (long (asking told)))) {after = writeTables (witnessTables (w .0) (w .1 .0) (w .1 .1 .0)) (end .last .1 .1 .1 .0)}
+    let w = asking told .ask .last .1 .1 .1 .1 .1 in
+    numbers-finishes (given (start (long (asking told)))) {after = writeTables (witnessTables (w .0) (w .1 .0) (w .1 .1 .0)) (end .last .1 .1 .1 .1 .0)}
     (enough (long (asking told))) (accepted told) (end .ensures)
 
 pub write-numbers-spec : {M : Type 1} → statement M

@@ -13,6 +13,7 @@ pub struct Arguments {
     pub file: Vec<u8>,
     pub plan: Vec<u8>,
     pub name: Vec<u8>,
+    pub edition: usize,
     pub n: usize,
     pub k: usize,
     pub initial: u16,
@@ -26,7 +27,7 @@ pub struct Arguments {
 impl std::fmt::Debug for Arguments {
     fn fmt(&self, f: &mut std::fmt::Formatter) -> std::fmt::Result {
         let text = |x: &[u8]| String::from_utf8_lossy(x).into_owned();
-        write!(f, "n {}, k {}, sets {:#x} and {:#x}, ", self.n, self.k, self.initial, self.recurring)?;
+        write!(f, "edition {}, n {}, k {}, sets {:#x} and {:#x}, ", self.edition, self.n, self.k, self.initial, self.recurring)?;
         write!(f, "letter {}, set {:#x}, room {}, tuple {}, name {:?}\n", self.letter, self.set, self.room, self.tuple, text(&self.name))?;
         write!(f, "plan {}file of {} bytes {}", text(&self.plan), self.file.len(), text(&self.file))
     }
@@ -118,16 +119,15 @@ fn name(r: &mut Random, s: &Scenario) -> Vec<u8> {
     name
 }
 
-/// The table of a sheet as numbers; now and then too short.
-fn given_sets(r: &mut Random, s: &Scenario) -> Lent<u16> {
-    let sets = &s.numbers.sets;
+/// A table of a sheet as numbers; now and then too short.
+fn given(r: &mut Random, sets: &[u16]) -> Lent<u16> {
     let cut = if r.chance(5) { [127, 0, 1, r.below(128)][r.below(4)] } else { sets.len() };
     Lent::holding(r, &sets[..cut])
 }
 
 fn successors_table(r: &mut Random, s: &Scenario) -> Lent<u16> {
     if r.chance(50) {
-        return given_sets(r, s);
+        return given(r, &s.numbers.sets);
     }
     let cells = r.below(160);
     Lent::rubbish(r, cells)
@@ -158,6 +158,7 @@ pub fn of(r: &mut Random, s: &Scenario, call: Call) -> (Arguments, Tables) {
         file: if call == Call::VerdictProgram { s.input.clone() } else { s.file.clone() },
         plan: s.plan.clone(),
         name: name(r, s),
+        edition: s.numbers.edition,
         n: s.numbers.n,
         k: s.numbers.k,
         initial: s.numbers.initial,
@@ -170,10 +171,11 @@ pub fn of(r: &mut Random, s: &Scenario, call: Call) -> (Arguments, Tables) {
     let rows = |cells: usize| room.wrapping_mul(cells).min(20_000);
     let lent = |r: &mut Random, taken: bool, need: usize| if taken { rubbish(r, need) } else { no_cells(r) };
     let sets = match call {
-        _ if call.takes_numbers() => given_sets(r, s),
+        _ if call.takes_numbers() => given(r, &s.numbers.sets),
         Call::Successors => successors_table(r, s),
         _ => lent(r, call.lends_sets(), SETS),
     };
+    let marks = if call.takes_numbers() { given(r, &s.numbers.marks) } else { lent(r, call.lends_sets(), SETS) };
     let word = lent(r, call.lends_witness(), WORD);
     let one = lent(r, call.lends_witness(), WALK);
     let other = lent(r, call.lends_witness(), WALK);
@@ -181,22 +183,28 @@ pub fn of(r: &mut Random, s: &Scenario, call: Call) -> (Arguments, Tables) {
     let nexts = lent(r, call.lends_room(), rows(NEXTS));
     let out = if call.writes() || call == Call::Name || call.program().is_some() { out_length(r, call, s) } else { 0 };
     let out = Lent::rubbish(r, out);
-    let cells = r.below(9);
+    let cells = r.below(10);
     let answer = Lent::rubbish(r, cells);
     let letters = if call.lends_letters() { rubbish(r, rows(1)) } else { Lent::none() };
-    (a, Tables { sets, word, one, other, tuples, nexts, letters, out, answer })
+    (a, Tables { sets, marks, word, one, other, tuples, nexts, letters, out, answer })
 }
 
 /// The arguments of a call that asks question 10, with a room for all tuples and every table as long as is asked.
 pub fn exact(r: &mut Random, s: &Scenario, call: Call) -> (Arguments, Tables) {
     let facts = s.facts(call);
     let room = if call.lends_room() { facts.tracker.as_ref().map_or(1, |t| t.tuples.len()) } else { 0 };
-    let Numbers { n, k, initial, recurring, .. } = s.numbers;
-    let a = Arguments { file: s.file.clone(), plan: s.plan.clone(), name: Vec::new(), n, k, initial, recurring, letter: 0, set: 0, room, tuple: 0 };
-    let sets = if call.takes_numbers() { Lent::holding(r, &s.numbers.sets) } else { Lent::rubbish(r, SETS) };
+    let Numbers { edition, n, k, initial, recurring, .. } = s.numbers;
+    let (file, plan, name) = (s.file.clone(), s.plan.clone(), Vec::new());
+    let a = Arguments { file, plan, name, edition, n, k, initial, recurring, letter: 0, set: 0, room, tuple: 0 };
+    let table = |r: &mut Random, given: &[u16]| match call {
+        _ if call.takes_numbers() => Lent::holding(r, given),
+        _ if call.lends_sets() => Lent::rubbish(r, SETS),
+        _ => Lent::none(),
+    };
+    let (sets, marks) = (table(r, &s.numbers.sets), table(r, &s.numbers.marks));
     let (word, one, other) = (Lent::rubbish(r, WORD), Lent::rubbish(r, WALK), Lent::rubbish(r, WALK));
     let (tuples, nexts) = (Lent::rubbish(r, TUPLE * room), Lent::rubbish(r, NEXTS * room));
     let letters = if call.lends_letters() { Lent::rubbish(r, room) } else { Lent::none() };
-    let out = Lent::rubbish(r, if call.writes() { facts.listing.len() } else { 0 });
-    (a, Tables { sets, word, one, other, tuples, nexts, letters, out, answer: Lent::rubbish(r, 6) })
+    let out = Lent::rubbish(r, if call.writes() { text_length(call, s) } else { 0 });
+    (a, Tables { sets, marks, word, one, other, tuples, nexts, letters, out, answer: Lent::rubbish(r, 7) })
 }

@@ -21,22 +21,9 @@ pub enum Call {
     Way,
 }
 
+use super::kinds::*;
+use crate::edition::Edition;
 use Call::*;
-
-/// Stands for refusal 1 asked last of all, and for a program's buffer that is too short.
-pub const LATE: u32 = 100;
-/// Stands for refusal 16 of numbers, by the file that gives the names.
-pub const BY_FILE: u32 = 101;
-/// Stands for no refusal where walks come together, but in dead ends only.
-pub const HARMLESS: u32 = 102;
-/// Stands for refusal 10 with a word that is longer than one to a dead end.
-pub const LONGER: u32 = 103;
-/// Stands for refusal 1 for the letters' table alone.
-pub const FEW_LETTERS: u32 = 104;
-/// Of a way that is not refused: these stand for no such tuple, a word of no letters and a word of some.
-pub const NO_TUPLE: u32 = 105;
-pub const EMPTY_WORD: u32 = 106;
-pub const SOME_WORD: u32 = 107;
 
 pub const ALL: [Call; 17] = [
     Check, ReadSheet, Write, WriteNumbers, Name, NameNumber, Find, Successors, Build, BuildNumbers, List, ListNumbers, Verdict, Track,
@@ -66,12 +53,12 @@ impl Call {
         }
     }
 
-    /// A sheet as numbers, whose table is only read.
+    /// A sheet as numbers, whose tables are only read.
     pub fn takes_numbers(self) -> bool {
         matches!(self, Check | WriteNumbers | BuildNumbers | ListNumbers)
     }
 
-    /// A table for the successor sets.
+    /// Tables for the successor sets and for the marked ones among them.
     pub fn lends_sets(self) -> bool {
         matches!(self, ReadSheet | Build | List | Verdict | Way)
     }
@@ -101,13 +88,13 @@ impl Call {
         match self {
             Track => Some(149_525),
             VerdictProgram => Some(12),
-            Rewrite => Some(22_960),
+            Rewrite => Some(29_056),
             _ => None,
         }
     }
 
-    /// The refusals that the call can give, with 0 for none.
-    pub fn refusals(self) -> Vec<u32> {
+    /// The refusals that the call can give on a sheet of an edition, with 0 for none.
+    pub fn refusals(self, edition: Edition) -> Vec<u32> {
         let mut out = self.numbers();
         if self.writes() || self.program().is_some() {
             out.push(LATE);
@@ -120,6 +107,16 @@ impl Call {
         }
         if self.lends_letters() {
             out.extend([FEW_LETTERS, NO_TUPLE, EMPTY_WORD, SOME_WORD]);
+        }
+        if self.lends_sets() || self.takes_numbers() {
+            out.push(FEW_MARKS);
+        }
+        if self.takes_numbers() {
+            out.push(BEHIND);
+            out.extend(if edition == Edition::Marks { &[RECURRING, NO_TRANSITION][..] } else { &[MARKED] });
+        }
+        if self == WriteNumbers {
+            out.push(OTHER_NAMES);
         }
         out
     }

@@ -47,6 +47,7 @@ fn is_witness(s: &Sheet, length: usize, t: &Tables) -> bool {
 fn tables_differ(want: &Tables, got: &Tables) -> Option<String> {
     differs("answer", &want.answer, &got.answer)
         .or_else(|| differs("successor sets", &want.sets, &got.sets))
+        .or_else(|| differs("marked successors", &want.marks, &got.marks))
         .or_else(|| differs("word", &want.word, &got.word))
         .or_else(|| differs("one walk", &want.one, &got.one))
         .or_else(|| differs("other walk", &want.other, &got.other))

@@ -109,13 +109,16 @@ pub fn run(b: &mut Bench) {
         let most = [3, 5, 8, 16][seed % 4];
         let plain = families::sheet(&mut r, most);
         of_sheet(b, &mut r, "ways, random sheets", &plain);
-        let withdrawn = families::withdrawn(&mut r, plain);
+        let withdrawn = families::withdrawn(&mut r, plain.clone());
         of_sheet(b, &mut r, "ways, withdrawn letters", &withdrawn);
         let dead_ends = families::with_dead_ends(&mut r, most);
         of_sheet(b, &mut r, "ways, dead ends", &dead_ends);
         let (n, k) = (1 + r.below(most.min(8)), 1 + r.below(3));
         let circles = families::circles(&mut r, n, k);
         of_sheet(b, &mut r, "ways, circles", &circles);
+        let any = [&plain, &withdrawn, &dead_ends, &circles][r.below(4)];
+        let marked = families::marked(&mut r, any);
+        of_sheet(b, &mut r, "ways, marks", &marked);
     }
     for n in 10..=16 {
         for seed in 0..LARGER {
@@ -132,8 +135,12 @@ pub fn run(b: &mut Bench) {
     for s in limits::most_tuples() {
         of_sheet(b, &mut r, "ways, most tuples", &s);
     }
-    for family in ["random sheets", "withdrawn letters", "dead ends", "circles", "larger sheets", "long words"] {
+    for s in &limits::most_marked_tuples()[1..3] {
+        of_sheet(b, &mut r, "ways, most tuples with marks", s);
+    }
+    for family in ["random sheets", "withdrawn letters", "dead ends", "circles", "marks", "larger sheets", "long words"] {
         b.at_least(LEAST, &format!("ways, {family}: shortest"));
     }
     b.at_least(LEAST_OF_MOST, "ways, most tuples: shortest");
+    b.at_least(LEAST, "ways, most tuples with marks: shortest");
 }

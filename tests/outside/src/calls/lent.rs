@@ -74,7 +74,8 @@ impl<T: Cell> Lent<T> {
     }
 }
 
-/// How many cells question 1 asks for: the successor sets, the word and the walks of a witness, and for each tuple its next numbers and its own.
+/// How many cells question 1 asks for: the successor sets and as many sets of marked ones, the word and the walks of a witness, and for each
+/// tuple its next numbers and its own.
 pub const SETS: usize = 128;
 pub const WORD: usize = 136;
 pub const WALK: usize = 137;
@@ -89,6 +90,7 @@ pub const BY: usize = 18;
 #[derive(Clone, PartialEq)]
 pub struct Tables {
     pub sets: Lent<u16>,
+    pub marks: Lent<u16>,
     pub word: Lent<u16>,
     pub one: Lent<u16>,
     pub other: Lent<u16>,
@@ -101,7 +103,8 @@ pub struct Tables {
 
 impl Tables {
     pub fn clear(&mut self) {
-        for table in [&mut self.sets, &mut self.word, &mut self.one, &mut self.other, &mut self.tuples, &mut self.nexts, &mut self.letters] {
+        let witness = [&mut self.word, &mut self.one, &mut self.other];
+        for table in [&mut self.sets, &mut self.marks, &mut self.tuples, &mut self.nexts, &mut self.letters].into_iter().chain(witness) {
             table.clear();
         }
         self.out.clear();
@@ -109,8 +112,9 @@ impl Tables {
 
     pub fn lengths(&self) -> String {
         format!(
-            "lengths: sets {}, word {}, walks {} and {}, tuples {}, nexts {}, letters {}, out {}, answer {}",
+            "lengths: sets {}, marks {}, word {}, walks {} and {}, tuples {}, nexts {}, letters {}, out {}, answer {}",
             self.sets.len(),
+            self.marks.len(),
             self.word.len(),
             self.one.len(),
             self.other.len(),

@@ -1,34 +1,33 @@
 //! What each call answers, and what every table holds then: the questions in their order, by the requirements' text.
 
 use super::arguments::Arguments;
-use super::call::{Call, EMPTY_WORD, FEW_LETTERS, NO_TUPLE, SOME_WORD};
+use super::call::Call;
 use super::facts::Refusal;
+use super::kinds::{fault_of_marks, BY_FILE, EMPTY_WORD, FEW_LETTERS, FEW_MARKS, LATE, NO_TUPLE, OTHER_NAMES, SOME_WORD};
 use super::lent::{Tables, BY, COLOUR, FROM, NEXTS, SETS, TUPLE, WALK, WORD};
 use super::numbers::{mask, Numbers};
 use super::scenario::{print, Scenario};
 use crate::expected::ROOM;
-use crate::sheet::{characters, read_plan, write_sheet, No, Sheet};
+use crate::names::characters;
+use crate::sheet::{read_plan, write_sheet, No, Sheet, PLAN_BYTES, SHEET_BYTES};
 use crate::tuples::{self, Tracker};
 use crate::ways;
 
 pub struct Want<'a> {
     pub tables: Tables,
     pub returned: usize,
-    /// The refusal, or 0; and was it a 1 asked last, or a program's buffer that is too short?
+    /// The refusal, or 0.
     pub number: u32,
-    pub late: bool,
-    /// Was it a 16 of numbers, by the file that gives the names?
-    pub by_file: bool,
+    /// What else is told apart of the answer.
+    pub kinds: Vec<u32>,
     /// With 10 the sheet and the length of its shortest words. Which word and walks stand in the tables is free.
     pub meeting: Option<(&'a Sheet, usize)>,
     /// Do the word and the walks stand in the buffer, as `rewrite` prints them?
     pub printed: bool,
-    /// What kind of answer it is to a way that is asked for.
-    pub way: Option<u32>,
 }
 
 pub fn want<'a>(call: Call, s: &'a Scenario, a: &Arguments, before: &Tables) -> Want<'a> {
-    let mut w = Want { tables: before.clone(), returned: 0, number: 0, late: false, by_file: false, meeting: None, printed: false, way: None };
+    let mut w = Want { tables: before.clone(), returned: 0, number: 0, kinds: Vec::new(), meeting: None, printed: false };
     match call {
         Call::Successors => w.returned = successors(before.sets.inside(), a.letter, a.set) as usize,
         Call::Name | Call::NameNumber => about_a_letter(call, s, a, &mut w),
@@ -71,7 +70,7 @@ fn program<'a>(call: Call, s: &'a Scenario, w: &mut Want<'a>) {
         (_, Ok(_)) => s.of_file.tracked(ROOM).map(|_| s.of_file.listing.clone()).map_err(|_| (11, 0)),
     };
     if w.tables.out.len() < call.program().unwrap() {
-        w.late = true;
+        w.kinds.push(LATE);
         return;
     }
     let text = print(&printed);
@@ -84,12 +83,16 @@ fn program<'a>(call: Call, s: &'a Scenario, w: &mut Want<'a>) {
     }
 }
 
-/// Question 1, as far as it is asked first, but for the letters.
+/// Question 1, as far as it is asked first, but for the marks and the letters.
 fn long_enough(call: Call, a: &Arguments, t: &Tables) -> bool {
     let sets = !(call.lends_sets() || call.takes_numbers()) || t.sets.len() >= SETS;
     let witness = t.word.len() >= WORD && t.one.len() >= WALK && t.other.len() >= WALK;
     let room = !call.lends_room() || (1..=1024).contains(&a.room) && t.tuples.len() >= TUPLE * a.room && t.nexts.len() >= NEXTS * a.room;
     sets && witness && room
+}
+
+fn enough_marks(call: Call, t: &Tables) -> bool {
+    !(call.lends_sets() || call.takes_numbers()) || t.marks.len() >= SETS
 }
 
 fn enough_letters(call: Call, a: &Arguments, t: &Tables) -> bool {
@@ -123,7 +126,7 @@ fn uses_withdrawn(file: &Sheet, sheet: &Sheet) -> bool {
 fn questions<'a>(call: Call, s: &'a Scenario, a: &Arguments, t: &Tables) -> Result<Done<'a>, Refusal<'a>> {
     let no = |number: u32| Refusal::Plain((number, 0));
     let mut done = Done::default();
-    if call == Call::Verdict && (s.file.len() > 24_576 || s.plan.len() > 12_288) {
+    if call == Call::Verdict && (s.file.len() > SHEET_BYTES || s.plan.len() > PLAN_BYTES) {
         return Err(no(2));
     }
     if call == Call::WriteNumbers {
@@ -140,7 +143,7 @@ fn questions<'a>(call: Call, s: &'a Scenario, a: &Arguments, t: &Tables) -> Resu
     let sheet = facts.accepted()?;
     let numbers = Numbers::of(sheet);
     done.sheet = Some(sheet);
-    done.cells = vec![1, sheet.n, sheet.k, numbers.initial as usize, numbers.recurring as usize];
+    done.cells = vec![1, numbers.edition, sheet.n, sheet.k, numbers.initial as usize, numbers.recurring as usize];
     if call.lends_room() {
         let tracker = facts.tracked(a.room)?;
         done.cells.push(tracker.tuples.len());
@@ -181,24 +184,29 @@ fn questions<'a>(call: Call, s: &'a Scenario, a: &Arguments, t: &Tables) -> Resu
 }
 
 fn whole_sheet<'a>(call: Call, s: &'a Scenario, a: &Arguments, w: &mut Want<'a>) {
-    let (enough, letters) = (long_enough(call, a, &w.tables), enough_letters(call, a, &w.tables));
-    if !enough || !letters {
-        w.way = enough.then_some(FEW_LETTERS);
+    let (enough, marks, letters) = (long_enough(call, a, &w.tables), enough_marks(call, &w.tables), enough_letters(call, a, &w.tables));
+    if !enough || !marks || !letters {
+        w.kinds.extend((enough && letters).then_some(FEW_MARKS));
+        w.kinds.extend((enough && marks).then_some(FEW_LETTERS));
         w.number = 1;
         w.tables.answer.set(&[0, 1, 0, 0]);
         return;
     }
     let asked = questions(call, s, a, &w.tables);
-    let given = w.tables.sets.clone();
+    let given = (w.tables.sets.clone(), w.tables.marks.clone());
     w.tables.clear();
     if call.takes_numbers() {
-        w.tables.sets = given;
+        (w.tables.sets, w.tables.marks) = given;
     }
     match asked {
         Err(Refusal::Plain((number, line))) => {
             w.number = number;
-            w.late = number == 1;
-            w.by_file = (number, line) == (16, 0);
+            match (number, line) {
+                (1, _) => w.kinds.push(LATE),
+                (16, 0) => w.kinds.push(BY_FILE),
+                (7 | 8, 0) => w.kinds.extend(fault_of_marks(&s.numbers)),
+                _ => {}
+            }
             w.tables.answer.set(&[0, number as usize, line, 0]);
         }
         Err(Refusal::Meeting(sheet, length)) => {
@@ -210,9 +218,16 @@ fn whole_sheet<'a>(call: Call, s: &'a Scenario, a: &Arguments, w: &mut Want<'a>)
             w.tables.answer.set(&done.cells);
             w.tables.out.set(&done.text);
             w.tables.letters.set(done.letters.as_deref().unwrap_or(&[]));
-            w.way = call.lends_letters().then(|| done.letters.map_or(NO_TUPLE, |x| if x.is_empty() { EMPTY_WORD } else { SOME_WORD }));
+            if call.lends_letters() {
+                w.kinds.push(done.letters.map_or(NO_TUPLE, |x| if x.is_empty() { EMPTY_WORD } else { SOME_WORD }));
+            }
+            if call == Call::WriteNumbers && s.of_file.sheet.as_ref().map_or(false, |x| x.edition != s.numbers.edition()) {
+                w.kinds.push(OTHER_NAMES);
+            }
             if call.lends_sets() {
-                w.tables.sets.set(&Numbers::of(done.sheet.unwrap()).sets);
+                let numbers = Numbers::of(done.sheet.unwrap());
+                w.tables.sets.set(&numbers.sets);
+                w.tables.marks.set(&numbers.marks);
             }
             if let Some(t) = done.tracker {
                 put_tracker(t, &mut w.tables);

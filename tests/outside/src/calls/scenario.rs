@@ -2,10 +2,13 @@
 
 use super::call::Call;
 use super::facts::Facts;
+use super::number_damage::{damage_marks, damage_numbers};
 use super::numbers::Numbers;
+use crate::edition::Edition;
 use crate::expected::{self, refusal, ROOM};
+use crate::names::characters;
 use crate::random::Random;
-use crate::sheet::{characters, read_plan, write_plan, write_sheet, No, Plan, Sheet};
+use crate::sheet::{read_plan, read_sheet, write_plan, write_sheet, No, Plan, Sheet, PLAN_BYTES, SHEET_BYTES};
 use crate::{families, limits, tuples};
 
 pub struct Scenario {
@@ -25,12 +28,15 @@ pub enum Family {
     Any,
     Withdrawn,
     DeadEnds,
+    /// Any of them, with marks on transitions: the file, the numbers or both.
+    Marks,
 }
 
 impl Family {
     fn sheet(self, r: &mut Random, most: usize) -> Sheet {
         match self {
             Family::DeadEnds => families::with_dead_ends(r, most),
+            Family::Marks if r.chance(40) => families::with_dead_ends(r, most),
             _ => families::sheet(r, most),
         }
     }
@@ -40,7 +46,16 @@ impl Family {
             Family::Any => false,
             Family::Withdrawn => true,
             Family::DeadEnds => r.chance(15),
+            Family::Marks => r.chance(35),
         }
+    }
+
+    /// The sheet in the edition that it is tried in.
+    fn told(self, r: &mut Random, s: Sheet) -> Sheet {
+        if self == Family::Marks && r.chance(80) {
+            return families::marked(r, &s);
+        }
+        s
     }
 }
 
@@ -52,16 +67,24 @@ impl Scenario {
         if withdrawn {
             s = families::withdrawn(r, s);
         }
-        let mut file = sheet_file(r, &s);
+        let told = family.told(r, s.clone());
+        let mut file = sheet_file(r, &told);
         if withdrawn && r.chance(20) {
             file = families::withdrawal_damaged(r, &file);
         }
-        let mut numbers = Numbers::of(&s);
+        if family == Family::Marks && r.chance(20) && !file.is_empty() {
+            file = families::edition_damaged(r, &file);
+        }
+        let mut numbers = Numbers::of(&told);
         if r.chance(40) {
             let other = family.sheet(r, [3, 5, 8][seed as usize % 3]);
-            numbers = Numbers::of(&if r.chance(70) { families::with_letters(&other, s.k) } else { other });
+            let other = if r.chance(70) { families::with_letters(&other, s.k) } else { other };
+            numbers = Numbers::of(&family.told(r, other));
+        } else if r.chance(40) {
+            numbers = Numbers::of(&family.told(r, s.clone()));
         }
         damage_numbers(r, &mut numbers);
+        damage_marks(r, &mut numbers, if family == Family::Marks { 50 } else { 15 });
         let plan = plan_file(r, &s);
         Scenario::of(file, numbers, plan)
     }
@@ -71,11 +94,10 @@ impl Scenario {
         Scenario { file, of_file, numbers, of_numbers, plan: Vec::new(), input: Vec::new(), printed: Err((3, 1)) }.with_plan(plan)
     }
 
-    /// Numbers that no more than question 10 is asked of; file and plan are empty.
-    pub fn of_walks(numbers: Numbers) -> Self {
-        let of_numbers = Facts::of_walks(numbers.sheet());
-        let of_file = Facts::of_file(&[]);
-        Scenario { file: Vec::new(), of_file, numbers, of_numbers, plan: Vec::new(), input: Vec::new(), printed: Err((3, 1)) }
+    /// A file and numbers that no more than question 10 is asked of; the plan is empty.
+    pub fn of_walks(file: Vec<u8>, numbers: Numbers) -> Self {
+        let (of_file, of_numbers) = (Facts::of_walks(read_sheet(&file)), Facts::of_walks(numbers.sheet()));
+        Scenario { file, of_file, numbers, of_numbers, plan: Vec::new(), input: Vec::new(), printed: Err((3, 1)) }
     }
 
     /// The same sheet with another plan.
@@ -83,6 +105,14 @@ impl Scenario {
         let input = [&self.file[..], &plan].concat();
         let printed = printed(&input, &self.file, &self.of_file);
         Scenario { plan, input, printed, ..self }
+    }
+
+    /// The edition of the sheet that a call is about; a file that opens with neither word counts as one of the first edition.
+    pub fn edition(&self, call: Call) -> Edition {
+        if call.takes_numbers() {
+            return self.numbers.edition();
+        }
+        Edition::opening(&self.file).unwrap_or(Edition::States)
     }
 
     /// What is known of the sheet that a call is about.
@@ -99,7 +129,7 @@ impl Scenario {
 fn printed(input: &[u8], file: &[u8], of_file: &Facts) -> Result<String, No> {
     let (sheet, plan) = expected::split(input);
     match &of_file.tracker {
-        Some(t) if sheet == file && plan.len() <= 12_288 => {
+        Some(t) if sheet == file && plan.len() <= PLAN_BYTES => {
             let p = read_plan(plan, of_file.sheet.as_ref().unwrap())?;
             let (yes, least, passes) = tuples::verdict(t, &p);
             Ok(format!("{}{least:3}{passes:5}\n", if yes { "YES" } else { " NO" }))
@@ -153,22 +183,24 @@ fn sheet_file(r: &mut Random, s: &Sheet) -> Vec<u8> {
         }
         16 => same_names(r, s),
         17 => {
-            let size = [24_575, 24_576, 24_577, 24_578, 100_000][r.below(5)];
+            let size = [24_577, SHEET_BYTES - 1, SHEET_BYTES, SHEET_BYTES + 1, SHEET_BYTES + 2, 100_000][r.below(6)];
             filled(r, &file, size)
         }
         18 => {
             let text = String::from_utf8(file).unwrap();
             let sizes = ["  0", " 17", " 16", "999", "  9", "  8", "  1"];
             let (n, k) = (sizes[r.below(7)], sizes[r.below(7)]);
-            format!("SHEET{n}{k}{}", &text[11..]).into_bytes()
+            format!("{}{n}{k}{}", &text[..5], &text[11..]).into_bytes()
         }
         _ => {
             if r.chance(20) {
-                return write_sheet(&limits::longest_sheet(r.chance(30)), false);
+                let longest = if s.edition == Edition::Marks { limits::longest_marked_sheet } else { limits::longest_sheet };
+                return write_sheet(&longest(r.chance(30)), false);
             }
             const BYTES: &[u8] = b"SHEET  1N\nD\xc3\xa4";
-            let size = r.below(40);
-            (0..size).map(|_| BYTES[r.below(BYTES.len())]).collect()
+            let (size, word) = (r.below(40), s.edition.word().as_bytes());
+            let bytes = (0..size).map(|_| BYTES[r.below(BYTES.len())]);
+            if s.edition == Edition::Marks { word.iter().copied().chain(bytes).collect() } else { bytes.collect() }
         }
     }
 }
@@ -197,7 +229,7 @@ fn plan_file(r: &mut Random, s: &Sheet) -> Vec<u8> {
             [format!("PLAN{lead}{cycle}\n").as_bytes(), &file[11..]].concat()
         }
         17 => {
-            let size = [12_287, 12_288, 12_289, 20_000][r.below(4)];
+            let size = [PLAN_BYTES - 1, PLAN_BYTES, PLAN_BYTES + 1, 20_000][r.below(4)];
             filled(r, &file, size)
         }
         18 => {
@@ -205,30 +237,5 @@ fn plan_file(r: &mut Random, s: &Sheet) -> Vec<u8> {
             write_plan(s, &all)
         }
         _ => Vec::new(),
-    }
-}
-
-/// Numbers out of range, states beyond n, cells outside n and k: one fault, two or none.
-fn damage_numbers(r: &mut Random, a: &mut Numbers) {
-    const HUGE: [usize; 6] = [usize::MAX, 1 << 32, (1 << 32) + 2, 65_536, 256, 1 << 63];
-    if r.chance(25) {
-        a.sets.resize(129 + r.below(40), 0);
-    }
-    let faults = [0, 0, 0, 1, 1, 2][r.below(6)];
-    for _ in 0..faults {
-        let end = a.sets.len();
-        match r.below(12) {
-            0 => a.n = [0, 17, 18, 16, HUGE[r.below(6)]][r.below(5)],
-            1 => a.k = [0, 9, 10, 8, HUGE[r.below(6)]][r.below(5)],
-            2 => a.n = a.n.wrapping_sub(1),
-            3 => a.k = a.k.wrapping_sub(1),
-            4 => a.initial |= 1 << r.below(16),
-            5 => a.recurring |= 1 << r.below(16),
-            6 | 7 => a.sets[r.below(128)] |= 1 << r.below(16),
-            8 => a.sets[127 - r.below(8)] |= 1 << r.below(16),
-            9 => a.sets[r.below(end)] |= 1 << r.below(16),
-            10 => a.sets[end - 1] = 1 << r.below(16),
-            _ => a.sets[r.below(128)] = 0,
-        }
     }
 }

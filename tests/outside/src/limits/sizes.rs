@@ -1,15 +1,16 @@
 //! Files as long as question 2 allows, one byte shorter and one longer, and much longer; and the longest files that are accepted.
 //!
-//! Where a file is too long, its first 24,576 bytes (a plan's first 12,288) are refused otherwise or judged: so a program that reads one
+//! Where a file is too long, its first 32,768 bytes (a plan's first 12,288) are refused otherwise or judged: so a program that reads one
 //! byte too few answers otherwise.
 
 use crate::bench::Bench;
 use crate::cases::sheet_b;
+use crate::conversion::with_marks;
+use crate::edition::Edition;
 use crate::expected::{self, ROOM};
-use crate::sheet::{write_plan, write_sheet, Plan, Sheet};
+use crate::sheet::{write_plan, write_sheet, Plan, Sheet, PLAN_BYTES as PLAN, SHEET_BYTES as SHEET};
+use std::collections::BTreeSet;
 
-const SHEET: usize = 24_576;
-const PLAN: usize = 12_288;
 const HUGE: usize = 1_000_000;
 
 const GOOD_PLAN: &[u8] = b"PLAN  1  1\nb\na\nEND\n";
@@ -18,14 +19,23 @@ const GOOD_PLAN: &[u8] = b"PLAN  1  1\nb\na\nEND\n";
 pub fn longest_sheet(initial: bool) -> Sheet {
     let (n, k) = (16, 8);
     Sheet {
+        edition: Edition::States,
         n,
         k,
         initial: vec![initial; n],
         recurring: vec![true; n],
         next: vec![vec![(0..n).collect(); k]; n],
+        marked: BTreeSet::new(),
         names: (0..k).map(|l| format!("{l}.................ENDß~").into_bytes()).collect(),
         withdrawn: Vec::new(),
     }
+}
+
+/// The same with a mark on every other transition: 29,056 bytes.
+pub fn longest_marked_sheet(initial: bool) -> Sheet {
+    let mut s = with_marks(&longest_sheet(initial));
+    s.marked.retain(|(q, l, t)| (q + l + t) % 2 == 0);
+    s
 }
 
 /// Lead-in and cycle of 200 names of 24 bytes: 10,015 bytes.
@@ -51,6 +61,7 @@ fn ended(start: &[u8], fill: u8, size: usize) -> Vec<u8> {
 fn starts() -> Vec<(Vec<u8>, u8)> {
     let b = write_sheet(&sheet_b(), false);
     let longest = write_sheet(&longest_sheet(false), false);
+    let longest_marked = write_sheet(&longest_marked_sheet(false), false);
     let without_end = |file: &[u8]| file[..file.len() - 4].to_vec();
     vec![
         (b"".to_vec(), b'x'),
@@ -62,12 +73,16 @@ fn starts() -> Vec<(Vec<u8>, u8)> {
         (without_end(&b), b'E'),
         (without_end(&longest), b'T'),
         (without_end(&longest), b'\n'),
+        (b"SHT-2".to_vec(), b' '),
+        (b"SHT-2  1  1\nN  0 a\nS  0".to_vec(), b' '),
+        (without_end(&longest_marked), b'T'),
+        (without_end(&longest_marked), b'\n'),
     ]
 }
 
 /// `track` and `rewrite` on sheet files of every size around the limit.
 fn sheets(b: &mut Bench) {
-    let accepted = [write_sheet(&sheet_b(), false), write_sheet(&longest_sheet(false), false)];
+    let accepted = [sheet_b(), longest_sheet(false), longest_marked_sheet(false)].map(|s| write_sheet(&s, false));
     for size in [SHEET - 1, SHEET, SHEET + 1, SHEET + 2, HUGE] {
         let mut files: Vec<Vec<u8>> = starts().iter().map(|(start, fill)| filled(start, *fill, size)).collect();
         files.extend(starts().iter().map(|(start, fill)| ended(start, *fill, size)));
@@ -81,21 +96,25 @@ fn sheets(b: &mut Bench) {
     }
 }
 
-/// The longest sheet and plan that are accepted.
-fn longest(b: &mut Bench) {
-    let s = longest_sheet(false);
+/// The longest sheet of an edition, where no state is initial and where all are.
+fn longest_of(b: &mut Bench, bytes: usize, sheet: fn(bool) -> Sheet) {
+    let s = sheet(false);
     let file = write_sheet(&s, false);
     let plan = write_plan(&s, &longest_plan());
-    b.expect("limit: the longest sheet", file.len() == 22_960, &file);
+    b.expect("limit: the longest sheet", file.len() == bytes, &file);
     b.expect("limit: the longest sheet", b.run("rewrite", &file) == file, &file);
     b.expect("limit: the longest plan", plan.len() == 10_015, &plan);
-    b.listed("limit: the longest sheet listed", &file);
-    b.rewritten("limit: the longest sheet written", &file);
-    b.judged("limit: the longest sheet and plan judged", &[&file[..], &plan].concat());
-    let meeting = write_sheet(&longest_sheet(true), false);
-    b.listed("limit: the longest sheet listed", &meeting);
-    b.rewritten("limit: the longest sheet written", &meeting);
-    b.judged("limit: the longest sheet and plan judged", &[&meeting[..], &plan].concat());
+    for file in [file, write_sheet(&sheet(true), false)] {
+        b.listed("limit: the longest sheet listed", &file);
+        b.rewritten("limit: the longest sheet written", &file);
+        b.judged("limit: the longest sheet and plan judged", &[&file[..], &plan].concat());
+    }
+}
+
+/// The longest sheets and the longest plan that are accepted.
+fn longest(b: &mut Bench) {
+    longest_of(b, 22_960, longest_sheet);
+    longest_of(b, 29_056, longest_marked_sheet);
     // The names of the longest plan on a sheet that tells letters apart.
     let mut small = sheet_b();
     small.names = longest_sheet(false).names[..2].to_vec();
@@ -110,7 +129,8 @@ fn longest(b: &mut Bench) {
 
 /// Sheet parts for `verdict`, each up to its END and with it.
 fn sheet_parts() -> Vec<Vec<u8>> {
-    let mut out = vec![b"END\n".to_vec(), write_sheet(&sheet_b(), false), write_sheet(&longest_sheet(false), false)];
+    let mut out = vec![b"END\n".to_vec()];
+    out.extend([sheet_b(), longest_sheet(false), longest_marked_sheet(false)].map(|s| write_sheet(&s, false)));
     for size in [SHEET - 1, SHEET, SHEET + 1] {
         out.extend(starts().iter().map(|(start, fill)| ended(start, *fill, size)));
     }

@@ -1,10 +1,11 @@
 -- The call's answer in the lent table. Assumes nothing.
+use borrow.Author.Needs.{needs}
 use Rattle.exports.proofs.sheets.lunthomi_read_sheet.Statement.{statement}
 use Rattle.exports.proofs.sheets.lunthomi_read_sheet.Tie as tie
 
 -- the call, from the end
-abbrev called-at : tie.After-slice-known10 → tie.After-read-sheet
-called-at c = c .before .before .before .before .before .before .before .before .before .before .before .before
+abbrev called-at : tie.After-slice-known12 → tie.After-read-sheet
+called-at c = c .before .before .before .before .before .before .before .before .before .before .before .before .before .before
 
 read-sheet-requires : tie.Need-read-sheet-requires
 read-sheet-requires c κs = tt
@@ -16,7 +17,7 @@ same-length : tie.Need-same-length
 same-length c = called-at c .read-sheet .kept .1 .0
 
 same-length-2 : tie.Need-same-length-2
-same-length-2 c = called-at c .read-sheet .kept .1 .1 .0
+same-length-2 c = search needs
 
 same-length-3 : tie.Need-same-length-3
 same-length-3 c = called-at c .read-sheet .kept .1 .1 .1 .0
@@ -25,7 +26,10 @@ same-length-4 : tie.Need-same-length-4
 same-length-4 c = called-at c .read-sheet .kept .1 .1 .1 .1 .0
 
 same-length-5 : tie.Need-same-length-5
-same-length-5 c = c .before .before .put-read .kept .1 .0
+same-length-5 c = called-at c .read-sheet .kept .1 .1 .1 .1 .1 .0
+
+same-length-6 : tie.Need-same-length-6
+same-length-6 c = c .before .before .put-read .kept .1 .0
 
 returns : tie.Need-returns
 returns c = record { answer = called-at c .read-sheet .result; call = called-at c .read-sheet .ensures; table = c .before .before .put-read .ensures }
@@ -41,4 +45,5 @@ lunthomi-read-sheet-spec =
     same-length-3
     same-length-4
     same-length-5
+    same-length-6
     returns)

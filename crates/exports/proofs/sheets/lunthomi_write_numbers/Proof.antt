@@ -1,10 +1,19 @@
 -- The call's answer in the lent table. Assumes nothing.
+use mathlib.Core.Path.{subst}
+use borrow.Author.Needs.{needs}
+use Rattle.automaton.specs.declared.Edition.{Edition}
+use Rattle.answers.specs.Answer.{asNumbers}
+use Rattle.lent.specs.Lent.{witnessTables}
+use Rattle.writer.specs.Write.{writeTables, WritesNumbers}
 use Rattle.exports.proofs.sheets.lunthomi_write_numbers.Statement.{statement}
 use Rattle.exports.proofs.sheets.lunthomi_write_numbers.Tie as tie
 
 -- the call, from the end
 abbrev called-at : tie.After-slice-known10 → tie.After-write-numbers
 called-at c = c .before .before .before .before .before .before .before .before .before .before .before .before
+
+edition-of-requires : tie.Need-edition-of-requires
+edition-of-requires c κs = search needs
 
 write-numbers-requires : tie.Need-write-numbers-requires
 write-numbers-requires c κs = tt
@@ -13,27 +22,38 @@ put-written-requires : tie.Need-put-written-requires
 put-written-requires c κs = tt
 
 same-length : tie.Need-same-length
-same-length c = called-at c .write-numbers .kept .1 .1 .1 .0
+same-length c = called-at c .write-numbers .kept .1 .1 .1 .1 .0
 
 same-length-2 : tie.Need-same-length-2
-same-length-2 c = called-at c .write-numbers .kept .1 .1 .1 .1 .0
+same-length-2 c = called-at c .write-numbers .kept .1 .1 .1 .1 .1 .0
 
 same-length-3 : tie.Need-same-length-3
-same-length-3 c = called-at c .write-numbers .kept .1 .1 .1 .1 .1 .0
+same-length-3 c = called-at c .write-numbers .kept .1 .1 .1 .1 .1 .1 .0
 
 same-length-4 : tie.Need-same-length-4
-same-length-4 c = called-at c .write-numbers .kept .1 .1 .1 .1 .1 .1 .0
+same-length-4 c = called-at c .write-numbers .kept .1 .1 .1 .1 .1 .1 .1 .0
 
 same-length-5 : tie.Need-same-length-5
 same-length-5 c = c .before .before .put-written .kept .1 .0
 
 returns : tie.Need-returns
-returns c = record { answer = called-at c .write-numbers .result; call = called-at c .write-numbers .ensures; table = c .before .before .put-written .ensures }
+returns c =
+    let a = c .before .before .before .before .before .before .before .before .before .before .before .before .before .before .before .before .before .before .before .before .before .before .before .before .before .before .args in
+    let w = called-at c .write-numbers .last .1 .1 .1 .1 in
+    let answer = called-at c .write-numbers .result in
+    record {
+      answer = answer;
+      call = subst (λ (e : Edition). WritesNumbers (asNumbers e (a .n) (a .k) (a .initial) (a .recurring) (a .table .now) (a .marks .now)) (a .names .now) (writeTables (witnessTables (a .word .now) (a .one .now) (a .other .now)) (a .out .now))
+          (writeTables (witnessTables (w .0) (w .1 .0) (w .1 .1 .0)) (w .1 .1 .1 .0)) answer)
+          (c .before .before .before .before .before .before .before .before .before .before .before .before .before .before .before .before .before .edition-of .ensures) (called-at c .write-numbers .ensures);
+      table = c .before .before .put-written .ensures;
+    }
 
 pub lunthomi-write-numbers-spec : {M : Type 1} → statement M
 lunthomi-write-numbers-spec =
     tie.close
     (tie.spec
+    edition-of-requires
     write-numbers-requires
     put-written-requires
     same-length

@@ -5,6 +5,7 @@ use mathlib.Core.List.{List}
 use native.Mathlib.Omega.{arith}
 use denote.Ref.{now}
 use lib.ListN.{length, replicate}
+use Rattle.automaton.specs.Automaton.{TransitionSets, transitionSets}
 use Rattle.superseding.specs.Superseding.{supersedingIn}
 use Rattle.superseding.specs.SupersedingLaws.{eight-stored}
 use Rattle.withdrawal_lines.specs.WithdrawalLines.{Superseded, withdrawalsAt, WithdrawalsRead}
@@ -13,14 +14,18 @@ use Rattle.state_lines.specs.StateLines.{statesAt}
 use Rattle.transition_lines.specs.TransitionLines.{transitionsAt}
 use Rattle.state_lines.specs.declared.Sets.{Sets}
 use Rattle.frame.specs.Phase.{Phase}
-use Rattle.parser.specs.Parse.{afterWithdrawals}
+use Rattle.parser.specs.Parse.{emptySets, afterWithdrawals}
 use Rattle.parser.specs.FileLaws.{refused-by-withdrawals, WithdrawalsHanded, withdrawals-pass, with-cells}
 use borrow.Author.Needs.{needs}
 use Rattle.parser.proofs.whole_file.read_numbers.Statement.{statement}
 use Rattle.parser.proofs.whole_file.read_numbers.Tie as tie
 
 abbrev start : tie.After-read-withdrawals → tie.Start
-start c = c .before .before .before .before .before
+start c = c .before .before .before .before .before .before
+
+-- the tables, as they are lent
+abbrev lent : tie.Start → TransitionSets
+lent c = transitionSets (now (c .args .table)) (now (c .args .marks))
 
 abbrev withdrawals : tie.After-read-withdrawals → List ℕ → Phase Superseded
 withdrawals c cells =
@@ -59,11 +64,11 @@ enum-known-behind c = search needs
 
 read-graph-requires : tie.Need-read-graph-requires
 read-graph-requires c κs =
-    let known = c .before .before in
+    let known = c .before .before .before in
     let d = read known in
     let p = passes known in
     let g = start d .pre in
-    (g .0, g .1, p .small-line, p .small-at, omega (arith, d .read-withdrawals .kept .1 .1 .1 .1 .0, g .4), g .6, g .7)
+    (g .0, g .1, p .small-line, p .small-at, omega (arith, d .read-withdrawals .kept .1 .1 .1 .1 .0, g .4), g .6)
 
 same-length : tie.Need-same-length
 same-length c = search needs
@@ -72,10 +77,10 @@ returns : tie.Need-returns
 returns c y here there =
     let d = c .before .before .before .before .before in
     let g = start d in
-    let t = now (g .args .table) in
+    let t = lent g in
     rw (there, here)
     (refused-by-withdrawals (withdrawals d (replicate 8 0)) (afterWithdrawals (now (g .args .s)) (g .args .z) y) t t (now (g .args .rows)) (left d)
-    (c .before .r .given .0 .0) (withdrawn-as d _ (c .before .r .given .1)) (g .pre .7))
+    (c .before .r .given .0 .0) (withdrawn-as d _ (c .before .r .given .1)) (g .pre .6 .zeros))
 
 same-length-2 : tie.Need-same-length-2
 same-length-2 c = search needs
@@ -83,21 +88,24 @@ same-length-2 c = search needs
 same-length-3 : tie.Need-same-length-3
 same-length-3 c = search needs
 
+same-length-4 : tie.Need-same-length-4
+same-length-4 c = search needs
+
 returns-2 : tie.Need-returns-2
 returns-2 c y here there =
-    let graph = c .before .before in
-    let known = graph .before .before .before in
+    let graph = c .before .before .before .before in
+    let known = graph .before .before .before .before in
     let d = read known in
     let p = passes known in
     let w = p .superseded in
     let g = start d in
     let s = now (g .args .s) in
     let z = g .args .z in
-    let next : Sets → Phase (List ℕ) = λ q. transitionsAt s (w .cells) (z .n) (z .k) (q .line) (q .at) 0 (replicate 128 0) (length s + 1) in
+    let next : Sets → Phase TransitionSets = λ q. transitionsAt (z .edition) s (w .cells) (z .n) (z .k) (q .line) (q .at) 0 emptySets (length s + 1) in
     let cells : w .cells ≡ supersedingIn (left d) = sym (ap supersedingIn (p .stored) ∙ eight-stored (now (g .args .rows)) (w .cells) (p .eight) (g .pre .4)) in
     rw (there, here, p .is)
-    (with-cells z y w (now (g .args .rows)) (left d) (p .eight) (p .stored) (statesAt s (w .line) (w .at) 0 0 0 (z .n)) next (now (g .args .table))
-    (graph .read-graph .last .1 .1 .1 .1 .0) (graph .read-graph .result) (graph .read-graph .ensures y w (p .at) (p .line) cells))
+    (with-cells z y w (now (g .args .rows)) (left d) (p .eight) (p .stored) (statesAt (z .edition) s (w .line) (w .at) 0 0 0 (z .n)) next (lent g)
+    (transitionSets (graph .read-graph .last .1 .1 .1 .1 .0) (graph .read-graph .last .1 .1 .1 .1 .1 .0)) (graph .read-graph .result) (graph .read-graph .ensures y w (p .at) (p .line) cells))
 
 pub read-numbers-spec : {M : Type 1} → statement M
 read-numbers-spec =
@@ -111,4 +119,5 @@ read-numbers-spec =
     returns
     same-length-2
     same-length-3
+    same-length-4
     returns-2)

@@ -10,23 +10,26 @@ use Rattle.sheet_sections.proofs.state_lines.put_states.Statement.{stat
 use Rattle.sheet_sections.proofs.state_lines.put_states.Tie as tie
 
 abbrev Inv-loop : tie.InvT-loop
-Inv-loop out₀ start n initial recurring q₀ at₀ out q at =
-    Putting (stateText initial recurring) out₀ start n out at q
+Inv-loop out₀ start edition n initial recurring width q₀ at₀ out q at =
+    Putting (stateText edition initial recurring) out₀ start n out at q
 
 abbrev μ-loop : tie.MeasureT-loop
-μ-loop out₀ start n initial recurring q₀ at₀ out q at = n - q
+μ-loop out₀ start edition n initial recurring width q₀ at₀ out q at = n - q
+
+state-width-requires : tie.Need-state-width-requires Inv-loop μ-loop
+state-width-requires c κs = search needs
 
 loop-holds : tie.Need-loop-holds Inv-loop μ-loop
 loop-holds c =
-    let s = c .before in
-    put-none (rw (states-pieces (s .args .initial) (s .args .recurring) (s .args .n) 0) at (s .pre .1))
+    let s = c .before .before in
+    put-none (rw (states-pieces (s .args .edition) (s .args .initial) (s .args .recurring) (s .args .n) 0) at (s .pre .1))
 
 put-state-requires : tie.Need-put-state-requires Inv-loop μ-loop
 put-state-requires c κs =
     let h = c .before .before .loop in
-    let s = c .before .before .before .before in
+    let s = c .before .before .before .before .before in
     let room = put-room (h .inv) (c .before .loop-test .taken) in
-    (omega arith, omega (arith, state-length (h .q) (stateOf (s .args .initial) (s .args .recurring) (h .q))))
+    (omega arith, omega (arith, state-length (s .args .edition) (h .q) (stateOf (s .args .initial) (s .args .recurring) (h .q))))
 
 add-at : tie.Need-add-at Inv-loop μ-loop
 add-at c = search needs
@@ -40,8 +43,8 @@ loop-less c = search needs
 loop-again : tie.Need-loop-again Inv-loop μ-loop
 loop-again c =
     let l = c .before .before .before .before .before .loop in
-    let a = c .before .before .before .before .before .before .before .args in
-    let one = state-length (l .q) (stateOf (a .initial) (a .recurring) (l .q)) in
+    let a = c .before .before .before .before .before .before .before .before .args in
+    let one = state-length (a .edition) (l .q) (stateOf (a .initial) (a .recurring) (l .q)) in
     put-more (l .inv) (omega arith) (c .before .before .put-state .ensures) (omega arith)
 
 same-length : tie.Need-same-length Inv-loop μ-loop
@@ -50,8 +53,8 @@ same-length c = search needs
 returns : tie.Need-returns Inv-loop μ-loop
 returns c =
     let l = c .before .loop in
-    let a = c .before .before .before .args in
-    rw (states-pieces (a .initial) (a .recurring) (a .n) 0) (put-end (l .inv) (omega arith), put-all (l .inv) (omega arith))
+    let a = c .before .before .before .before .args in
+    rw (states-pieces (a .edition) (a .initial) (a .recurring) (a .n) 0) (put-end (l .inv) (omega arith), put-all (l .inv) (omega arith))
 
 pub put-states-spec : {M : Type 1} → statement M
 put-states-spec =
@@ -59,6 +62,7 @@ put-states-spec =
     (tie.spec
     Inv-loop
     μ-loop
+    state-width-requires
     loop-holds
     put-state-requires
     add-at

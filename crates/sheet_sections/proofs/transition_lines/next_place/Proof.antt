@@ -1,8 +1,9 @@
 -- `sheet_sections::transition_lines::next_place` meets its contract. The loop's invariant: no transition stands at the places passed. Assumes nothing.
-use Prim.Native.Nat.{_≤_, _-_, _/_, _%_}
+use Prim.Native.Nat.{ℕ, _≤_, _-_, _/_, _%_}
 use denote.Ref.{now}
 use lib.ListN.{getD}
 use mathlib.Core.Path.{_≡_, refl, _∙_}
+use mathlib.Core.List.{List}
 use native.Mathlib.Omega.{arith}
 use borrow.Author.Needs.{needs}
 use Rattle.sets.specs.SetLaws.{bit-out}
@@ -13,13 +14,13 @@ use Rattle.sheet_sections.proofs.transition_lines.next_place.Statement.
 use Rattle.sheet_sections.proofs.transition_lines.next_place.Tie as tie
 
 abbrev Inv-loop : tie.InvT-loop
-Inv-loop table start i₀ i = (start ≤ i) × (i ≤ mostTransitions) × (transitionsFrom table start ≡ transitionsFrom table i)
+Inv-loop table start i₀ i = (start ≤ i) × (i ≤ mostTransitions) × ((marks : List ℕ) → transitionsFrom table marks start ≡ transitionsFrom table marks i)
 
 abbrev μ-loop : tie.MeasureT-loop
 μ-loop table start i₀ i = mostTransitions - i
 
 loop-holds : tie.Need-loop-holds Inv-loop μ-loop
-loop-holds c = (omega arith, omega arith, refl)
+loop-holds c = (omega arith, omega arith, λ marks. refl)
 
 mul-set : tie.Need-mul-set Inv-loop μ-loop
 mul-set c = search needs
@@ -40,7 +41,7 @@ loop-again : tie.Need-loop-again Inv-loop μ-loop
 loop-again c =
     let l = c .before .before .before .loop in
     let T = now (c .before .before .before .before .before .args .table) in
-    (omega arith, omega arith, l .inv .2 ∙ cell-empty T (l .i) (omega arith) (c .if1 .taken))
+    (omega arith, omega arith, λ marks. l .inv .2 marks ∙ cell-empty T marks (l .i) (omega arith) (c .if1 .taken))
 
 contains-requires : tie.Need-contains-requires Inv-loop μ-loop
 contains-requires c κs = search needs
@@ -65,7 +66,7 @@ loop-again-2 c =
     let l = c .before .before .before .before .before .loop in
     let T = now (c .before .before .before .before .before .before .before .args .table) in
     let z = bit-out (getD T (l .i / 16) 0) (l .i % 16) (c .before .contains .ensures .1 (c .if2 .left)) in
-    (omega arith, omega arith, l .inv .2 ∙ place-empty T (l .i) (omega arith) z)
+    (omega arith, omega arith, λ marks. l .inv .2 marks ∙ place-empty T marks (l .i) (omega arith) z)
 
 returns-2 : tie.Need-returns-2 Inv-loop μ-loop
 returns-2 c =

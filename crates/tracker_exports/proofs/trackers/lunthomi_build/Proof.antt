@@ -1,10 +1,11 @@
 -- The call's answer in the lent table. Assumes nothing.
+use borrow.Author.Needs.{needs}
 use Rattle.tracker_exports.proofs.trackers.lunthomi_build.Statement.{statement}
 use Rattle.tracker_exports.proofs.trackers.lunthomi_build.Tie as tie
 
 -- the call, from the end
-abbrev called-at : tie.After-slice-known14 → tie.After-build
-called-at c = c .before .before .before .before .before .before .before .before .before .before .before .before .before .before .before .before
+abbrev called-at : tie.After-slice-known16 → tie.After-build
+called-at c = c .before .before .before .before .before .before .before .before .before .before .before .before .before .before .before .before .before .before
 
 build-requires : tie.Need-build-requires
 build-requires c κs = tt
@@ -16,7 +17,7 @@ same-length : tie.Need-same-length
 same-length c = called-at c .build .kept .1 .1 .0
 
 same-length-2 : tie.Need-same-length-2
-same-length-2 c = called-at c .build .kept .1 .1 .1 .0
+same-length-2 c = search needs
 
 same-length-3 : tie.Need-same-length-3
 same-length-3 c = called-at c .build .kept .1 .1 .1 .1 .0
@@ -31,7 +32,10 @@ same-length-6 : tie.Need-same-length-6
 same-length-6 c = called-at c .build .kept .1 .1 .1 .1 .1 .1 .1 .0
 
 same-length-7 : tie.Need-same-length-7
-same-length-7 c = c .before .before .put-built .kept .1 .0
+same-length-7 c = called-at c .build .kept .1 .1 .1 .1 .1 .1 .1 .1 .0
+
+same-length-8 : tie.Need-same-length-8
+same-length-8 c = c .before .before .put-built .kept .1 .0
 
 returns : tie.Need-returns
 returns c = record { answer = called-at c .build .result; call = called-at c .build .ensures; table = c .before .before .put-built .ensures }
@@ -49,4 +53,5 @@ lunthomi-build-spec =
     same-length-5
     same-length-6
     same-length-7
+    same-length-8
     returns)

@@ -1,10 +1,11 @@
 -- The call's answer in the lent table. Assumes nothing.
+use borrow.Author.Needs.{needs}
 use Rattle.tracker_exports.proofs.trackers.lunthomi_list.Statement.{statement}
 use Rattle.tracker_exports.proofs.trackers.lunthomi_list.Tie as tie
 
 -- the call, from the end
-abbrev called-at : tie.After-slice-known16 → tie.After-list
-called-at c = c .before .before .before .before .before .before .before .before .before .before .before .before .before .before .before .before .before .before
+abbrev called-at : tie.After-slice-known18 → tie.After-list
+called-at c = c .before .before .before .before .before .before .before .before .before .before .before .before .before .before .before .before .before .before .before .before
 
 list-requires : tie.Need-list-requires
 list-requires c κs = tt
@@ -16,7 +17,7 @@ same-length : tie.Need-same-length
 same-length c = called-at c .list .kept .1 .1 .0
 
 same-length-2 : tie.Need-same-length-2
-same-length-2 c = called-at c .list .kept .1 .1 .1 .0
+same-length-2 c = search needs
 
 same-length-3 : tie.Need-same-length-3
 same-length-3 c = called-at c .list .kept .1 .1 .1 .1 .0
@@ -34,7 +35,10 @@ same-length-7 : tie.Need-same-length-7
 same-length-7 c = called-at c .list .kept .1 .1 .1 .1 .1 .1 .1 .1 .0
 
 same-length-8 : tie.Need-same-length-8
-same-length-8 c = c .before .before .put-written .kept .1 .0
+same-length-8 c = called-at c .list .kept .1 .1 .1 .1 .1 .1 .1 .1 .1 .0
+
+same-length-9 : tie.Need-same-length-9
+same-length-9 c = c .before .before .put-written .kept .1 .0
 
 returns : tie.Need-returns
 returns c = record { answer = called-at c .list .result; call = called-at c .list .ensures; table = c .before .before .put-written .ensures }
@@ -53,4 +57,5 @@ lunthomi-list-spec =
     same-length-6
     same-length-7
     same-length-8
+    same-length-9
     returns)

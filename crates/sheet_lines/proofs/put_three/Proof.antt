@@ -1,10 +1,12 @@
--- `sheet_lines::put_columns` meets its contract: the parts are stored one behind the other. Assumes nothing.
-use native.Mathlib.Omega.{arith}
+-- `sheet_lines::put_three` meets its contract: the parts are stored one behind the other. Assumes nothing.
 use borrow.Author.Needs.{needs}
+use Prim.Native.Nat.{_+_}
+use mathlib.Core.List.{[], _∷_}
+use native.Mathlib.Omega.{arith}
 use lib.ListN.{length-set}
-use Rattle.sheet_lines.specs.LineLaws.{columns-stored}
-use Rattle.sheet_lines.proofs.put_columns.Statement.{statement}
-use Rattle.sheet_lines.proofs.put_columns.Tie as tie
+use Rattle.sheet_lines.specs.LineLaws.{ahead-stored, kind-stored}
+use Rattle.sheet_lines.proofs.put_three.Statement.{statement}
+use Rattle.sheet_lines.proofs.put_three.Tie as tie
 
 -- the first number is stored
 abbrev first : tie.After-slice-known3 → tie.After-put-column
@@ -31,10 +33,11 @@ same-length c = omega (arith, c .before .before .put-last .kept .0, simp length-
 returns : tie.Need-returns
 returns c =
     let a = first c .before .before .before .args in
-    columns-stored (a .out .now) (a .at) (a .kind) (a .a) (a .b) (a .c) (first c .put-column .ensures) (c .before .before .put-last .ensures)
+    let fields = ahead-stored _ (a .at + 1) (a .at + 4) (a .a) (a .b ∷ a .c ∷ []) (omega arith) (first c .put-column .ensures) (c .before .before .put-last .ensures) in
+    kind-stored (a .out .now) (a .at) (a .kind) (a .a ∷ a .b ∷ a .c ∷ []) fields
 
-pub put-columns-spec : {M : Type 1} → statement M
-put-columns-spec =
+pub put-three-spec : {M : Type 1} → statement M
+put-three-spec =
     tie.close
     (tie.spec
     slice-write-out

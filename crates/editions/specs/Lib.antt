@@ -1,0 +1,5 @@
+pub mod Rewritten
+pub mod NumbersLaws
+pub mod FileLaws
+pub mod SameListing
+pub mod Unfold

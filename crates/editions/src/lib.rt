@@ -1,0 +1,1 @@
+// A sheet of the first edition in the second: specifications only.
