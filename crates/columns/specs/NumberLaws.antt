@@ -1,5 +1,5 @@
 -- What is written in three columns is read back, and what is read is what is written there. Assumes nothing.
-use Prim.Native.Nat.{ℕ, _+_, _/_, _%_, _<_, _≤_}
+use Prim.Native.Nat.{ℕ, _+_, _*_, _/_, _%_, _<_, _≤_}
 use mathlib.Core.Path.{_≡_, refl, sym, _∙_, ap}
 use mathlib.Core.Bool.{true, _&&_, false≢true, and-eq-true-iff}
 use mathlib.Core.List.{List, _∷_, _++_}
@@ -24,6 +24,11 @@ value-written v h =
     let b : digitOf (digitByte 1 v) ≡ v / 10 % 10 = digit-of 1 v in
     let c : digitOf (digitByte 0 v) ≡ v / 1 % 10 = digit-of 0 v in
     omega arith
+
+-- the byte of the last digit, where the digits are known
+pub ones-byte : (x y z : ℕ) → z < 10 → 48 + z ≡ digitByte 0 (x * 100 + y * 10 + z)
+unfolding digitByte
+ones-byte x y z h = omega arith
 
 read-written : (v : ℕ) → v < 1000 → numberOf (digitByte 2 v) (digitByte 1 v) (digitByte 0 v) ≡ Is v
 unfolding numberOf

@@ -48,14 +48,16 @@ fn digit_byte(i: usize, p: usize, v: usize) -> u8
 fn number_of(a: u8, b: u8, c: u8) -> Number
     ensures { λ r. ⌜ r ≡ numberOf a b c ⌝ }
 {
-    let v = digit(a) * 100 + digit(b) * 10 + digit(c);
+    let ones = digit(c);
+    let v = digit(a) * 100 + digit(b) * 10 + ones;
     if a != digit_byte(2, 100, v) {
         return Number::Bad;
     }
     if b != digit_byte(1, 10, v) {
         return Number::Bad;
     }
-    if c != digit_byte(0, 1, v) {
+    // What the last digit of v is, is known.
+    if c as usize != 48 + ones {
         return Number::Bad;
     }
     Number::Is(v)

@@ -1,12 +1,14 @@
 -- The loop that replaces each set by its successors. Assumes nothing.
-use Prim.Native.Nat.{ℕ, suc, _+_, _≤_, _<_}
+use Prim.Native.Nat.{ℕ, zero, suc, _+_, _≤_, _<_}
 use mathlib.Core.Path.{_≡_, refl, sym, ap, _∙_}
 use mathlib.Core.List.{List, [], _∷_, _++_, map, append-assoc, append-nil}
 use native.Mathlib.Omega.{arith}
 use native.Mathlib.Numerals.{add-one}
+use native.Mathlib.Decide.{ℕ-discrete}
 use lib.ListN.{length, getD, set, take, drop, length-map}
 use lib.Seq.{take-suc, drop-cons, getD-at, set-at, length-take-le, slice, slice-empty, slice-cons}
 use Rattle.automaton.specs.Successors.{successorsOf}
+use Rattle.automaton.specs.SuccessorLaws.{successors-empty}
 use Rattle.tuple_record.specs.Record.{setCells}
 use Rattle.tuple.specs.Row.{setsOf}
 use Rattle.lists.specs.Search.{leading}
@@ -70,3 +72,21 @@ module _ (table : List ℕ) (l : ℕ) (cells : List ℕ) (long : setCells < leng
               ∙ rw (c, leading-more x (slice (suc i) setCells cells) m, add-one, take-suc cells i 0 (omega arith), append-assoc);
           replaced = replaced-more h (getD result i 0) (advance-read h);
         }
+
+-- the first cell has the successors of the first set
+pub advanced-first : (table : List ℕ) (l : ℕ) (cells : List ℕ) {w : List ℕ} {count : ℕ} → Advanced table l cells w count
+    → getD w 0 0 ≡ successorsOf table l (getD cells 0 0)
+unfolding leading
+advanced-first table l [] {w} {count} a = ap (λ (z : List ℕ). getD z 0 0) (a .replaced) ∙ by count (a .counted)
+  where
+    by : (n : ℕ) → n ≡ 0 → getD (drop n []) 0 0 ≡ successorsOf table l 0
+    by zero e = sym (successors-empty table l)
+    by (suc n) e = absurd (omega arith)
+advanced-first table l (x ∷ cells) {w} {count} a = ap (λ (z : List ℕ). getD z 0 0) (a .replaced) ∙ by (ℕ-discrete x 0)
+  where
+    by : Dec (x ≡ 0) → getD (map (successorsOf table l) (setsOf (x ∷ cells)) ++ drop count (x ∷ cells)) 0 0 ≡ successorsOf table l x
+    by (yes e) =
+        let none : setsOf (x ∷ cells) ≡ [] = leading-stop x (take 15 cells) e in
+        let n : count ≡ 0 = a .counted ∙ ap length none in
+        rw (none, n) (e ∙ sym (successors-empty table l) ∙ ap (successorsOf table l) (sym e))
+    by (no d) = rw (leading-more x (take 15 cells) d)

@@ -9,7 +9,6 @@ use lib.Seq.{drop-cons, take-at, drop-at, set-at, getD-take, drop-append-add}
 use Rattle.sets.specs.Sets.{interOf, isEmpty}
 use Rattle.automaton.specs.Automaton.{Automaton}
 use Rattle.automaton.specs.Successors.{successorsOf}
-use Rattle.automaton.specs.SuccessorLaws.{successors-empty}
 use Rattle.automaton.specs.declared.Edition.{Edition}
 use Rattle.automaton.specs.declared.Edition.the-variants.{StateBased, TransitionBased}
 use Rattle.colour.specs.Colour.{deadOr}
@@ -22,6 +21,7 @@ use Rattle.tuple_record.specs.Record.{setCells}
 use Rattle.tuple.specs.Row.{setsOf, row, tupleOf, Steps}
 use Rattle.tuple.specs.RowLaws.{row-length, row-set}
 use Rattle.lists.specs.SearchLaws.{leading-length}
+use Rattle.tuple.specs.AdvanceLaws.{advanced-first}
 use Rattle.tuple.specs.Parts.{Advanced, recurrentFrom, Swept, Placed, settled}
 
 -- the pass does not touch place 0
@@ -71,12 +71,7 @@ module _ {A : Automaton} {l : ℕ} {cells : List ℕ} (steps : Steps A l cells) 
     count-few = let a = advanced .counted in let b = few in omega arith
 
     new-first : getD w 0 0 ≡ successorsOf (A .table) l (setAt (setsOf cells) 0)
-    new-first = ap (λ (z : List ℕ). getD z 0 0) (advanced .replaced) ∙ by (setsOf cells) (advanced .counted) first-cell
-      where
-        by : (s : List ℕ) → p ≡ length s → getD cells 0 0 ≡ setAt s 0
-            → getD (map (successorsOf (A .table) l) s ++ drop p cells) 0 0 ≡ successorsOf (A .table) l (setAt s 0)
-        by [] e f = rw e (f ∙ sym (successors-empty (A .table) l))
-        by (x ∷ s) e f = refl
+    new-first = advanced-first (A .table) l cells advanced ∙ ap (successorsOf (A .table) l) first-cell
 
     abbrev new-set : ℕ
     new-set = recurrentFrom (A .edition) (A .recurring) (A .marks) l (getD cells 0 0) (getD w 0 0)

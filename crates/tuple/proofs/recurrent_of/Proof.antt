@@ -2,7 +2,6 @@
 use mathlib.Core.Path.{sym, _∙_, ap}
 use denote.Ref.{now}
 use borrow.Author.Needs.{needs}
-use Rattle.automaton.specs.SuccessorLaws.{successors-are}
 use Rattle.automaton.specs.declared.Edition.{Edition}
 use Rattle.tuple.specs.Parts.{recurrentFrom}
 use Rattle.tuple.proofs.recurrent_of.Statement.{statement}
@@ -17,8 +16,8 @@ inter-requires c κs = search needs
 enum-told-2 : tie.Need-enum-told-2
 enum-told-2 c = search needs
 
-successors-requires : tie.Need-successors-requires
-successors-requires c κs = search needs
+marked-of-requires : tie.Need-marked-of-requires
+marked-of-requires c κs = search needs
 
 returns : tie.Need-returns
 returns c =
@@ -28,11 +27,10 @@ returns c =
 
 returns-2 : tie.Need-returns-2
 returns-2 c =
-    let s = c .before .before .before .before in
-    let g = s .args in
-    successors-are (now (g .marks)) (g .letter) _ _ (s .pre) (c .successors .ensures)
+    let g = c .before .before .before .before .args in
+    c .marked-of .ensures
     ∙ ap (λ (e : Edition). recurrentFrom e (g .a .recurring) (now (g .marks)) (g .letter) (g .old) (g .first)) (sym (c .before .enum-told2 .given .1))
 
 pub recurrent-of-spec : {M : Type 1} → statement M
 recurrent-of-spec =
-    tie.close (tie.spec enum-told inter-requires enum-told-2 successors-requires returns returns-2)
+    tie.close (tie.spec enum-told inter-requires enum-told-2 marked-of-requires returns returns-2)
