@@ -18,3 +18,9 @@ pub record StandsFor (σ : Sheet) (name : List ℕ) (l : ℕ) : Type 0 where
   pub is-name : IsName name
   pub same : compose (getD (σ .names) named []) ≡ compose name
   pub finally : Finally (σ .withdrawals) l named
+
+-- two sheets with the same letters: as many, with the same names and the same `W` lines. Their states and transitions are their own.
+pub record SameLetters (σ τ : Sheet) : Type 0 where
+  pub count : σ .k ≡ τ .k
+  pub names : σ .names ≡ τ .names
+  pub withdrawals : σ .withdrawals ≡ τ .withdrawals

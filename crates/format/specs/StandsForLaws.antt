@@ -1,7 +1,7 @@
 -- The letter that a name stands for is the one that finally stands for the first letter whose composed name is the name's; no letter where
 -- there is no such name. Assumes nothing.
 use Prim.Native.Nat.{ℕ, zero, suc, _≤_, _<_}
-use mathlib.Core.Path.{_≡_, refl, sym, _∙_}
+use mathlib.Core.Path.{_≡_, refl, sym, subst, _∙_}
 use mathlib.Core.List.{List, [], _∷_, _++_, map}
 use native.Mathlib.Omega.{arith}
 use lib.ListN.{length, getD, length-map}
@@ -9,8 +9,8 @@ use Rattle.names.specs.Name.{IsName, compose}
 use Rattle.name_rows.specs.Rows.{FirstName}
 use Rattle.name_rows.specs.LetterLaws.{composed-at}
 use Rattle.superseding.specs.Superseding.{finalLetter}
-use Rattle.format.specs.Format.{Sheet, NamesRight, WithdrawalsRight}
-use Rattle.format.specs.StandsFor.{StandsFor, itself}
+use Rattle.format.specs.Format.{Sheet, Withdrawal, NamesRight, WithdrawalsRight}
+use Rattle.format.specs.StandsFor.{Finally, StandsFor, SameLetters, itself}
 use Rattle.format.specs.Withdrawals.{supersedingOf}
 use Rattle.format.specs.FinallyLaws.{finally-in-force, finally-letter, finally-final}
 
@@ -43,3 +43,16 @@ pub stands-new : (σ : Sheet) → length (σ .names) ≡ σ .k → NamesRight []
 stands-new σ all names right x l s =
     let h = stands-letter σ right x l s in
     record { named = l; letter = h; is-name = name-at [] (σ .names) names l (omega arith); same = refl; finally = itself (finally-in-force (s .finally)) }
+
+-- A NAME GOES BY THE LETTERS ALONE: it stands for the same letter on every sheet that has these
+pub same-letters-back : {σ τ : Sheet} → SameLetters σ τ → SameLetters τ σ
+same-letters-back same = record { count = sym (same .count); names = sym (same .names); withdrawals = sym (same .withdrawals) }
+
+pub stands-alike : {σ τ : Sheet} → SameLetters σ τ → {x : List ℕ} {l : ℕ} → StandsFor σ x l → StandsFor τ x l
+stands-alike same {x} {l} h = record {
+  named = h .named;
+  letter = subst (λ (k : ℕ). h .named < k) (same .count) (h .letter);
+  is-name = h .is-name;
+  same = subst (λ (names : List (List ℕ)). compose (getD names (h .named) []) ≡ compose x) (same .names) (h .same);
+  finally = subst (λ (ws : List Withdrawal). Finally ws l (h .named)) (same .withdrawals) (h .finally);
+}

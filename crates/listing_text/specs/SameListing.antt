@@ -9,7 +9,7 @@ use Rattle.tuple_record.specs.Record.{setCells, recordStart}
 use Rattle.tuple.specs.SameSteps.{SameSteps}
 use Rattle.tuple.specs.RewrittenStep.{rewritten-steps}
 use Rattle.filling.specs.TrackerTables.{TrackerTables, Fitted}
-use Rattle.filling.specs.FixedLaws.{SameNumbers}
+use Rattle.filling.specs.FixedLaws.{SameNumbers, fitted-cells}
 use Rattle.filling.specs.SameTracker.{same-cells}
 use Rattle.text.specs.Bytes.{lf, endLine}
 use Rattle.text.specs.Pieces.{pieces}
@@ -31,7 +31,14 @@ pub listing-alike : (n k count : ℕ) {one other : TrackerTables} → SameNumber
 unfolding listing
 listing-alike n k count same = ap (λ (line : ℕ → List ℕ). trackLine n k count ++ (pieces line 0 count ++ endLine)) (lines-alike n k same)
 
--- with any room, in any tables
+-- a sheet has one listing, with any room and in any tables
+pub listing-fixed : {A : Automaton} {r s m n : ℕ} {v w one other : TrackerTables} → Fitted A r v one m → Fitted A s w other n
+    → listing (A .n) (A .k) m (one .tuples) (one .nexts) ≡ listing (A .n) (A .k) n (other .tuples) (other .nexts)
+listing-fixed {A} {m = m} {other = other} p q =
+    let (count, cells) = fitted-cells p q in
+    listing-alike (A .n) (A .k) m cells ∙ ap (λ (c : ℕ). listing (A .n) (A .k) c (other .tuples) (other .nexts)) count
+
+-- and so have two whose tuples take the same steps
 pub same-listing : {A B : Automaton} → SameSteps A B → {r s m n : ℕ} {v w one other : TrackerTables} → Fitted A r v one m → Fitted B s w other n
     → listing (A .n) (A .k) m (one .tuples) (one .nexts) ≡ listing (B .n) (B .k) n (other .tuples) (other .nexts)
 same-listing {A} {B} same {m = m} {n} {one = one} {other} p q =

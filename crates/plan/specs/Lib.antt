@@ -9,4 +9,5 @@ pub mod ReadLaws
 pub mod FileLaws
 pub mod NewNames
 pub mod NewNamesLaws
+pub mod SameLettersLaws
 pub mod Unfold

@@ -16,21 +16,38 @@ use Rattle.lent.specs.LentLaws.{tables-twice, long-cleared, meets-cleared, sets
 use Rattle.meeting.specs.Answer.{Asked}
 use Rattle.walks.specs.Check.{AnsweredTen}
 use Rattle.walks.specs.CheckLaws.{meets-answered}
+use Rattle.format.specs.Format.{Sheet}
 use Rattle.format.specs.FormatLaws.{fault-number}
 use Rattle.format.specs.Numbers.{numbers}
 use Rattle.format.specs.NumbersLaws.{sheet-fits, numbers-length, read-is}
 use Rattle.parser.specs.PhaseAnswers.{FileRead}
+use Rattle.parser.specs.UniqueLaws.{file-unique, fault-unique, file-or-fault}
 use Rattle.parser.specs.Parse.{parse}
 use Rattle.parser.specs.declared.File.the-variants as F
 use Rattle.reading.specs.declared.Read.{Read}
 use Rattle.reading.specs.declared.Read.the-variants as R
 use Rattle.parser.specs.LettersOfLaws.{FileAccepted, file-refused}
-use Rattle.reading.specs.Read.{Refuses, ReadTables, readTables, lentCleared, SheetRead, ReadsNamed}
+use Rattle.reading.specs.Read.{Accepted, Refuses, ReadTables, readTables, lentCleared, SheetRead, ReadsNamed}
 
 -- only question 1 has number 1
 pub refuses-number : {s : List ℕ} {before after : WitnessTables} {r : Refusal} → Refuses s before after r → r .number ≡ 1 → ⊥
 refuses-number (Refuses.faulty number line f e z) h = omega (arith, fault-number f .0, ap (λ (r : Refusal). r .number) e)
 refuses-number (Refuses.meeting σ f m) h = omega (arith, m .number)
+
+-- one number and one line: of what a refusal tells, only the witness of 10 is free
+pub refuses-once : {s : List ℕ} {v w before after : WitnessTables} {r q : Refusal} → Refuses s v w r → Refuses s before after q → (r .number ≡ q .number) × (r .line ≡ q .line)
+refuses-once {s} (Refuses.faulty x l f e z) (Refuses.faulty y m g d c) =
+    let (number, line) = fault-unique s x y l m f g in
+    (ap (λ (r : Refusal). r .number) e ∙ number ∙ sym (ap (λ (r : Refusal). r .number) d), ap (λ (r : Refusal). r .line) e ∙ line ∙ sym (ap (λ (r : Refusal). r .line) d))
+refuses-once {s} (Refuses.faulty x l f e z) (Refuses.meeting τ g m) = absurd (file-or-fault s τ x l g f)
+refuses-once {s} (Refuses.meeting σ f m) (Refuses.faulty y l g d c) = absurd (file-or-fault s σ y l f g)
+refuses-once (Refuses.meeting σ f m) (Refuses.meeting τ g n) = (m .number ∙ sym (n .number), m .line ∙ sym (n .line))
+
+-- an accepted file is not refused
+pub accepted-unrefused : {s : List ℕ} {σ : Sheet} {before after : WitnessTables} {r : Refusal} → Accepted s σ → Refuses s before after r → ⊥
+accepted-unrefused {s} {σ} h (Refuses.faulty number line f e z) = file-or-fault s σ number line (h .file) f
+accepted-unrefused {s} {σ} h (Refuses.meeting τ f m) =
+    subst (λ (υ : Sheet). Accepted s υ) (file-unique s σ τ (h .file) f) h .free _ _ _ _ (m .witness .meets)
 
 -- QUESTION 10 on a file that is read
 module _ {s : List ℕ} {t u : TransitionSets} {old rows : List ℕ} {a : Numbers} (h : FileAccepted s t u old rows a) where

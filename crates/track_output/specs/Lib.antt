@@ -1,3 +1,4 @@
 pub mod Track
 pub mod Parts
 pub mod TrackLaws
+pub mod OnceLaws
