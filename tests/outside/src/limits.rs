@@ -1,5 +1,5 @@
-//! The programs at their limits: the most tuples, the longest files, the longest witness, every withdrawal, every refusal, and an input that
-//! cannot be read.
+//! The programs at their limits: the most tuples, the longest files, the longest witness, every withdrawal, the lines of both editions, every
+//! refusal, and an input that cannot be read.
 
 mod counts;
 mod dead_ends;

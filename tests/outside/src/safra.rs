@@ -1,5 +1,5 @@
 //! Safra's construction, as section 3 of document 002 (named in docs/ARCHITECTURE.md) states it: a deterministic Rabin automaton.
-//! Labels are masks of states, so that it is quick for 16 states.
+//! Labels are masks of states, so that it is quick for 32, which a sheet of 16 with marks has once its states are doubled.
 
 use crate::sheet::Sheet;
 use std::collections::HashMap;

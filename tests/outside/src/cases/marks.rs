@@ -2,7 +2,7 @@
 
 use super::*;
 use conversion::with_marks;
-use sheet::SHEET_BYTES;
+use sheet::{PLAN_BYTES, SHEET_BYTES};
 
 /// A sheet with these marked transitions among its transitions.
 fn marked_of(n: usize, k: usize, initial: &[usize], edges: &[(usize, usize, usize)], marked: &[(usize, usize, usize)]) -> Sheet {
@@ -16,6 +16,7 @@ impl Cases {
         self.letters_and_walks_of_marks();
         self.limits_of_marks(inputs);
         self.random_marks();
+        self.sizes_of_both();
     }
 
     fn judged_marks(&mut self) {
@@ -126,6 +127,17 @@ impl Cases {
                 left[yes as usize] -= 1;
                 self.judged(ROOM, &s, &plan.lead, &plan.cycle);
             }
+        }
+    }
+
+    /// Inputs as long as a sheet may be, and as sheet and plan may be together, and one byte longer; and SHEETs of these lengths.
+    fn sizes_of_both(&mut self) {
+        for size in [SHEET_BYTES, SHEET_BYTES + 1, SHEET_BYTES + PLAN_BYTES, SHEET_BYTES + PLAN_BYTES + 1] {
+            self.text(&vec![b'x'; size], b"");
+            let mut long = write_sheet(&sheet_b(), false);
+            long.truncate(long.len() - 4);
+            long.resize(size - 5, b'T');
+            self.text(&long, b"\nEND\n");
         }
     }
 }

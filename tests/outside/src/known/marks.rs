@@ -5,7 +5,7 @@ use conversion::{with_marks, with_states};
 use edition::Edition;
 use sheet::{Plan, Sheet};
 
-/// The inputs of the benchmark with marks are the longest sheet and one with 1,024 tuples.
+/// The inputs of the benchmark with marks are the longest sheet, and one with 1,024 tuples by itself and with a plan of 400 letters that it passes.
 #[test]
 fn inputs_of_the_benchmark() {
     let longest = include_bytes!("../../../../bench/inputs/longest-marks.sheet");
@@ -14,6 +14,9 @@ fn inputs_of_the_benchmark() {
     let most = include_bytes!("../../../../bench/inputs/marks-1024.sheet");
     let s = limits::most_marked_tuples().into_iter().find(|s| write_sheet(s, false) == most).unwrap();
     assert_eq!(tuples::build(&s, ROOM).unwrap().tuples.len(), ROOM);
+    let judged = include_bytes!("../../../../bench/inputs/marks-1024.input");
+    assert!(judged.starts_with(&[&most[..], b"PLAN200200\n"].concat()));
+    assert_eq!(expected::verdict(judged, ROOM), Ok("YES  2    2\n".to_string()));
 }
 
 /// One state; the job a counts, and b does not.

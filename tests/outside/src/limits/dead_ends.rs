@@ -1,7 +1,8 @@
-//! Walks that come together in a state that stops, and the same sheets with a transition more, by which it goes on.
+//! Walks that come together in a state that stops, and the same sheets with a transition more, by which it goes on; each sheet in both editions.
 
 use crate::bench::Bench;
 use crate::cases::sheet_of;
+use crate::conversion::with_marks;
 use crate::families;
 use crate::random::Random;
 use crate::sheet::{write_plan, write_sheet, Sheet};
@@ -13,11 +14,13 @@ fn with(edges: &Edges, more: (usize, usize, usize)) -> Edges {
 }
 
 fn through(b: &mut Bench, what: &str, s: &Sheet) {
-    let file = write_sheet(s, false);
-    b.listed(&format!("{what} listed"), &file);
-    b.rewritten(&format!("{what} written"), &file);
     let plan = write_plan(s, &families::plan(&mut Random::new(s.n as u64), s.k));
-    b.judged(&format!("{what} judged"), &[&file[..], &plan].concat());
+    for (what, s) in [(what.to_string(), s), (format!("{what}, with marks"), &with_marks(s))] {
+        let file = write_sheet(s, false);
+        b.listed(&format!("{what} listed"), &file);
+        b.rewritten(&format!("{what} written"), &file);
+        b.judged(&format!("{what} judged"), &[&file[..], &plan].concat());
+    }
 }
 
 /// States 0 and 1 both go to 2: the request's own case, byte for byte.

@@ -1,4 +1,5 @@
-//! Files as long as question 2 allows, one byte shorter and one longer, and much longer; and the longest files that are accepted.
+//! Files as long as question 2 allows, one byte shorter and one longer, and much longer; as long as it allowed before there were two editions; and
+//! the longest files that are accepted.
 //!
 //! Where a file is too long, its first 32,768 bytes (a plan's first 12,288) are refused otherwise or judged: so a program that reads one
 //! byte too few answers otherwise.
@@ -12,6 +13,8 @@ use crate::sheet::{write_plan, write_sheet, Plan, Sheet, PLAN_BYTES as PLAN, SHE
 use std::collections::BTreeSet;
 
 const HUGE: usize = 1_000_000;
+/// The most bytes of a sheet before there were two editions.
+const EARLIER: usize = 24_576;
 
 const GOOD_PLAN: &[u8] = b"PLAN  1  1\nb\na\nEND\n";
 
@@ -83,7 +86,7 @@ fn starts() -> Vec<(Vec<u8>, u8)> {
 /// `track` and `rewrite` on sheet files of every size around the limit.
 fn sheets(b: &mut Bench) {
     let accepted = [sheet_b(), longest_sheet(false), longest_marked_sheet(false)].map(|s| write_sheet(&s, false));
-    for size in [SHEET - 1, SHEET, SHEET + 1, SHEET + 2, HUGE] {
+    for size in [EARLIER, EARLIER + 1, SHEET - 1, SHEET, SHEET + 1, SHEET + 2, HUGE] {
         let mut files: Vec<Vec<u8>> = starts().iter().map(|(start, fill)| filled(start, *fill, size)).collect();
         files.extend(starts().iter().map(|(start, fill)| ended(start, *fill, size)));
         files.extend(accepted.iter().map(|file| filled(file, b'\n', size)));
@@ -131,7 +134,7 @@ fn longest(b: &mut Bench) {
 fn sheet_parts() -> Vec<Vec<u8>> {
     let mut out = vec![b"END\n".to_vec()];
     out.extend([sheet_b(), longest_sheet(false), longest_marked_sheet(false)].map(|s| write_sheet(&s, false)));
-    for size in [SHEET - 1, SHEET, SHEET + 1] {
+    for size in [EARLIER + 1, SHEET - 1, SHEET, SHEET + 1] {
         out.extend(starts().iter().map(|(start, fill)| ended(start, *fill, size)));
     }
     out.extend([SHEET + PLAN, SHEET + PLAN + 1, HUGE].map(|size| ended(b"", b'x', size)));
@@ -160,7 +163,7 @@ fn pairs(b: &mut Bench) {
 /// `verdict` on inputs of so many bytes in all, without END or with END at the very end.
 fn wholes(b: &mut Bench) {
     let accepted = write_sheet(&sheet_b(), false);
-    for size in [SHEET - 1, SHEET, SHEET + 1, SHEET + 2, SHEET + PLAN - 1, SHEET + PLAN, SHEET + PLAN + 1, SHEET + PLAN + 2, HUGE] {
+    for size in [EARLIER, EARLIER + 1, EARLIER + PLAN + 1, SHEET - 1, SHEET, SHEET + 1, SHEET + 2, SHEET + PLAN - 1, SHEET + PLAN, SHEET + PLAN + 1, SHEET + PLAN + 2, HUGE] {
         let what = "limit: sizes judged";
         for (start, fill) in starts() {
             let whole = ended(&start, fill, size);

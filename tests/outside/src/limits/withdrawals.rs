@@ -1,8 +1,9 @@
 //! Withdrawal lines: every pair of letters, every two lines, every way to withdraw, every place in the file, every cut.
 
-use super::sizes::longest_sheet;
+use super::sizes::{longest_marked_sheet, longest_sheet};
 use crate::bench::Bench;
 use crate::cases::sheet_of;
+use crate::conversion::with_marks;
 use crate::sheet::{write_plan, write_sheet, Plan, Sheet};
 
 /// Letter l turns the first l+1 of k states round, so a cycle of one letter takes as many passes: the passes tell the letter.
@@ -65,6 +66,7 @@ fn ways(b: &mut Bench) {
     b.expect("limit: ways to withdraw", all.len() == 120, b"");
     for way in &all {
         through(b, "limit: each way to withdraw", &turning(5, way));
+        through(b, "limit: each way to withdraw, with marks", &with_marks(&turning(5, way)));
     }
     for k in 1..=8 {
         let chain: Vec<_> = (0..k - 1).map(|l| (l, l + 1)).collect();
@@ -118,14 +120,17 @@ fn transitions(b: &mut Bench) {
     }
 }
 
-/// The longest sheet with letters withdrawn: with their transitions, which is 16, and without.
+/// The longest sheet of each edition with letters withdrawn: with their transitions, which is 16, and without.
 fn longest(b: &mut Bench) {
-    for count in 1..8 {
-        let mut s = longest_sheet(false);
-        s.withdrawn = (0..count).map(|l| (l, l + 1)).collect();
-        through(b, "limit: the longest sheet with withdrawals", &s);
-        s.next.iter_mut().for_each(|row| row[..count].iter_mut().for_each(|to| to.clear()));
-        through(b, "limit: the longest sheet with withdrawals", &s);
+    for sheet in [longest_sheet, longest_marked_sheet] {
+        for count in 1..8 {
+            let mut s = sheet(false);
+            s.withdrawn = (0..count).map(|l| (l, l + 1)).collect();
+            through(b, "limit: the longest sheet with withdrawals", &s);
+            s.next.iter_mut().for_each(|row| row[..count].iter_mut().for_each(|to| to.clear()));
+            s.marked.retain(|(_, l, _)| *l >= count);
+            through(b, "limit: the longest sheet with withdrawals", &s);
+        }
     }
 }
 
