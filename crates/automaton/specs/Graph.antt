@@ -7,7 +7,7 @@ use lib.ListN.{getD}
 use Rattle.sets.specs.Sets.{Member}
 use Rattle.automaton.specs.declared.GraphNumbers.{GraphNumbers}
 
--- a sheet without its must-recur states: all that walks, meetings and readings ask for
+-- a sheet without its edition, its must-recur states and its marks: all that walks, meetings and readings ask for
 pub record Graph : Type 0 where
   pub n : ℕ
   pub k : ℕ

@@ -7,13 +7,9 @@ use Rattle.sets.specs.SetLaws.{member-dec}
 use Rattle.automaton.specs.Automaton.{Automaton, graphOf}
 use Rattle.automaton.specs.EdgeLaws.{edge-dec}
 use Rattle.automaton.specs.Graph.{successorSet}
-use Rattle.automaton.specs.Reading.{Reading, RecursBy, Recurs, RecurrentBy, Recurrent}
+use Rattle.automaton.specs.Reading.{Reading, RecursBy, Recurs, RecurrentBy, Recurrent, TakesRecurrent}
 use Rattle.automaton.specs.declared.Edition.{Edition}
 use Rattle.automaton.specs.declared.Edition.the-variants.{StateBased, TransitionBased}
-
--- the transitions from some u above t to u+1 that the reading x takes are recurrent, for every t
-abbrev pub TakesRecurrent : Automaton → (ℕ → ℕ) → (ℕ → ℕ) → Type 0
-TakesRecurrent A w x = (t : ℕ) → (u : ℕ) × (t < u) × Recurrent A (w u) (x u) (x (suc u))
 
 module _ (A : Automaton) (w x : ℕ → ℕ) where
   abbrev Taken : Edition → Type 0

@@ -1,10 +1,11 @@
 -- A sheet rewritten with marks: it fits, has the same graph, and passes the same endless words. Assumes nothing.
 use Prim.Native.Nat.{ℕ, suc, _+_, _*_}
 use mathlib.Core.Path.{_≡_, refl, sym, ap, subst, _∙_}
+use mathlib.Core.List.{List, map}
 use mathlib.Core.Logic.{_↔_}
 use lib.ListN.{length, getD, length-map, List·getD-map}
 use Rattle.sets.specs.Sets.{Member, interOf}
-use Rattle.sets.specs.SetLaws.{no-member, inter-in, inter-of, ext-member}
+use Rattle.sets.specs.SetLaws.{inter-in, inter-of, zero-inter}
 use Rattle.automaton.specs.Automaton.{Automaton, graphOf, Fits}
 use Rattle.automaton.specs.Endless.{MeetingFree}
 use Rattle.automaton.specs.Graph.{successorSet}
@@ -14,15 +15,15 @@ use Rattle.automaton.specs.Rewritten.{markedInto}
 use Rattle.automaton.specs.declared.Edition.{Edition}
 use Rattle.automaton.specs.declared.Edition.the-variants.{StateBased}
 
-module _ (A : Automaton) where
-  -- a cell past the table's end has no marks
-  none : interOf 0 (A .recurring) ≡ 0
-  none = ext-member (interOf 0 (A .recurring)) 0 (λ q h. inter-in 0 (A .recurring) q h .0) (λ q h. absurd (no-member q h))
+-- the members that the sets of a table have in R, cell by cell; a cell past its end has none
+pub cell-into : (R : ℕ) (table : List ℕ) (i : ℕ) → getD (map (λ x. interOf x R) table) i 0 ≡ interOf (getD table i 0) R
+cell-into R table i =
+    let f : ℕ → ℕ = λ x. interOf x R in
+    ap (getD (map f table) i) (sym (zero-inter R)) ∙ List·getD-map f table i 0
 
+module _ (A : Automaton) where
   pub rewritten-mark : (i : ℕ) → getD (markedInto A .marks) i 0 ≡ interOf (getD (A .table) i 0) (A .recurring)
-  rewritten-mark i =
-      let f : ℕ → ℕ = λ x. interOf x (A .recurring) in
-      ap (getD (markedInto A .marks) i) (sym none) ∙ List·getD-map f (A .table) i 0
+  rewritten-mark i = cell-into (A .recurring) (A .table) i
 
   pub rewritten-length : length (markedInto A .marks) ≡ length (A .table)
   rewritten-length = length-map (A .table) (λ (x : ℕ). interOf x (A .recurring))

@@ -1,4 +1,4 @@
-// Building the tracker of a sheet file in lent tables that are long enough: its questions, its successor sets, and every tuple that some word reaches.
+// Building the tracker of a sheet file in lent tables that are long enough: its questions, its successor sets and marks, and every tuple that some word reaches.
 ghost use Prim.Native.Nat.{_≤_};
 ghost use lib.ListN.{length};
 ghost use Rattle.automaton.specs.Automaton.{transitionSets};

@@ -4,12 +4,12 @@ use mathlib.Core.Path.{_≡_, refl, sym, ap, _∙_}
 use mathlib.Core.Logic.{_⊎_, inl, inr}
 use mathlib.Core.List.{List, [], _∷_, map}
 use native.Mathlib.Omega.{arith}
-use native.Mathlib.Decide.{ℕ-discrete}
-use lib.ListN.{getD, set, replicate, List·getD-map}
+use lib.ListN.{getD, set, replicate}
 use lib.Seq.{map-set-same}
 use Rattle.sets.specs.Sets.{bit, Member, unionOf, interOf}
-use Rattle.sets.specs.SetLaws.{ext-member, no-member, union-in, union-left, union-right, inter-in, inter-of, bit-lt, bit-single-other}
+use Rattle.sets.specs.SetLaws.{ext-member, union-in, union-left, union-right, inter-in, inter-of, zero-inter, single-in, bit-lt}
 use Rattle.automaton.specs.Rewritten.{markedInto}
+use Rattle.automaton.specs.RewrittenLaws.{cell-into}
 use Rattle.format.specs.Format.{State, Transition, Sheet, cell}
 use Rattle.format.specs.Numbers.{flagSet, inserted, tableOf, whereMember, markedOf, numbers}
 use Rattle.editions.specs.Rewritten.{marking, unflagging, rewritten}
@@ -49,13 +49,6 @@ module _ (R : ℕ) where
   kept-new : (x q : ℕ) → Member R q → into (unionOf x (2 ^ q)) ≡ unionOf (into x) (2 ^ q)
   kept-new x q m = ext-member (into (unionOf x (2 ^ q))) (unionOf (into x) (2 ^ q)) to from
     where
-      single : (r : ℕ) → Member (2 ^ q) r → r ≡ q
-      single r h = by (ℕ-discrete r q)
-        where
-          by : Dec (r ≡ q) → r ≡ q
-          by (yes e) = e
-          by (no d) = absurd (omega (arith, bit-single-other q r d))
-
       to : (r : ℕ) → Member (into (unionOf x (2 ^ q))) r → Member (unionOf (into x) (2 ^ q)) r
       to r h = let (a, b) = inter-in (unionOf x (2 ^ q)) R r h in by (union-in x (2 ^ q) r a) b
         where
@@ -68,7 +61,7 @@ module _ (R : ℕ) where
         where
           by : Member (into x) r ⊎ Member (2 ^ q) r → Member (into (unionOf x (2 ^ q))) r
           by (inl a) = let (b, c) = inter-in x R r a in inter-of (unionOf x (2 ^ q)) R r (union-left x (2 ^ q) r b) c
-          by (inr a) = inter-of (unionOf x (2 ^ q)) R r (union-right x (2 ^ q) r a) (let e = single r a in rw e m)
+          by (inr a) = inter-of (unionOf x (2 ^ q)) R r (union-right x (2 ^ q) r a) (let e = single-in q r a in rw e m)
 
   -- another is not
   kept-none : (x q : ℕ) → (Member R q → ⊥) → into (unionOf x (2 ^ q)) ≡ into x
@@ -77,29 +70,19 @@ module _ (R : ℕ) where
       to : (r : ℕ) → Member (into (unionOf x (2 ^ q))) r → Member (into x) r
       to r h = let (a, b) = inter-in (unionOf x (2 ^ q)) R r h in by (union-in x (2 ^ q) r a) b
         where
-          other : Member (2 ^ q) r → Member R r → Dec (r ≡ q) → ⊥
-          other a b (yes e) = n (rw e at b)
-          other a b (no d) = omega (arith, bit-single-other q r d)
-
           by : Member x r ⊎ Member (2 ^ q) r → Member R r → Member (into x) r
           by (inl a) b = inter-of x R r a b
-          by (inr a) b = absurd (other a b (ℕ-discrete r q))
+          by (inr a) b = let e = single-in q r a in absurd (n (rw e at b))
 
       from : (r : ℕ) → Member (into x) r → Member (into (unionOf x (2 ^ q))) r
       from r h = let (a, b) = inter-in x R r h in inter-of (unionOf x (2 ^ q)) R r (union-left x (2 ^ q) r a) b
-
-  into-zero : into 0 ≡ 0
-  into-zero = ext-member (into 0) 0 (λ r h. inter-in 0 R r h .0) (λ r h. absurd (no-member r h))
-
-  cell-into : (table : List ℕ) (c : ℕ) → getD (map into table) c 0 ≡ into (getD table c 0)
-  cell-into table c = ap (getD (map into table) c) (sym into-zero) ∙ List·getD-map into table c 0
 
   -- one transition more: with its mark where it leads into R
   inserted-into : (table : List ℕ) (t : Transition) → Member R (t .to) → inserted (map into table) (marking R t) ≡ map into (inserted table t)
   unfolding inserted
   inserted-into table t m =
       let c = cell t in
-      ap (λ (x : ℕ). set (map into table) c x) (ap (λ (x : ℕ). unionOf x (2 ^ t .to)) (cell-into table c) ∙ sym (kept-new (getD table c 0) (t .to) m))
+      ap (λ (x : ℕ). set (map into table) c x) (ap (λ (x : ℕ). unionOf x (2 ^ t .to)) (cell-into R table c) ∙ sym (kept-new (getD table c 0) (t .to) m))
       ∙ sym (map-set into table c (unionOf (getD table c 0) (2 ^ t .to)))
 
   inserted-none : (table : List ℕ) (t : Transition) → (Member R (t .to) → ⊥) → map into table ≡ map into (inserted table t)
@@ -123,7 +106,7 @@ module _ (R : ℕ) where
 
 zeros-into : (R n : ℕ) → replicate {A = ℕ} n 0 ≡ map (into R) (replicate n 0)
 zeros-into R zero = refl
-zeros-into R (suc n) = λ i. sym (into-zero R) i ∷ zeros-into R n i
+zeros-into R (suc n) = λ i. sym (zero-inter R) i ∷ zeros-into R n i
 
 -- THE NUMBERS of the sheet rewritten
 pub numbers-rewritten : (σ : Sheet) → numbers (rewritten σ) ≡ markedInto (numbers σ)

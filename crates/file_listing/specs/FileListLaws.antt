@@ -52,7 +52,7 @@ module _ {s : List ℕ} {room : ℕ} {before built : BuildTables} where
     pub file-sized : Sized (x .numbers .n) (x .numbers .k) (x .tuples) (built .tracker .tuples) (built .tracker .nexts)
     file-sized = let (l, (σ, y, are, o, fitted), z) = file-built builds in sized x (sheet-fits s σ (y .file)) (l .tracker) are fitted
 
-    -- and the last question: its answer is r, and by it the tracker's tables and the successor sets are left
+    -- and the last question: its answer is r, and by it the tracker's tables, the successor sets and the marks are left
     pub file-finished : {sets : TransitionSets} {tracker : TrackerTables} {old new : List ℕ} {l r : Written} → clearedSets (built .sets) ≡ clearedSets (before .sets)
         → Finishes (listingOf x (built .tracker)) (built .tracker) tracker old new l → (r ≡ l) × Left (clearedSets (built .sets)) (built .sets) sets r
         → Lists s room (listTables before old) (listTables (buildTables sets (built .witness) tracker) new) r

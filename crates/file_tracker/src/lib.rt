@@ -1,4 +1,4 @@
-// The tracker of a sheet file: its questions, its successor sets, and every tuple that some word reaches, in lent tables.
+// The tracker of a sheet file: its questions, its successor sets and marks, and every tuple that some word reaches, in lent tables.
 ghost use Rattle.automaton.specs.Automaton.{transitionSets};
 ghost use Rattle.lent.specs.Lent.{witnessTables};
 ghost use Rattle.filling.specs.TrackerTables.{trackerTables};

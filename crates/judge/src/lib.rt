@@ -23,7 +23,7 @@ fn sizes_fit(sheet: &[u8], plan: &[u8]) -> bool
 }
 
 // The verdict on a plan file, from a sheet file: all questions in their order, then the passes of the cycle on the sheet's tracker.
-// Lent are, for the room, what building is lent: successor sets, tuple numbers, next numbers, and a witness.
+// Lent are, for the room, what building is lent: successor sets, sets of marked successors, tuple numbers, next numbers, and a witness.
 pub fn verdict(
     sheet: &[u8],
     plan: &[u8],

@@ -32,6 +32,10 @@ sheetW = bytes "SHEET  2  4\nN  0 x\nN  1 y\nN  2 b\nN  3 a\nW  0  1\nW  1  3\nS
 abbrev sheetM : List ℕ
 sheetM = bytes "SHT-2  2  2\nN  0 a\nN  1 b\nS  0  1\nS  1  1\nT  0  0  0  0\nT  0  1  0  0\nT  0  1  1  1\nT  1  0  1  1\nEND\n"
 
+-- examples/13-test-job-counts.sheet, again and again a test coil: one state with two loops, of which one is marked
+abbrev sheetT : List ℕ
+sheetT = bytes "SHT-2  1  2\nN  0 coil\nN  1 test\nS  0  1\nT  0  0  0  0\nT  0  1  0  1\nEND\n"
+
 -- "Stück", with the composed letter and with the combining diaeresis
 abbrev composed : List ℕ
 composed = bytes "St" ++ (195 ∷ 188 ∷ bytes "ck")
@@ -74,6 +78,9 @@ cases =
     ∷ case (bytes "SHEET  1  2\nN  0 a\nN  1 b\nW  0  1\nS  0  1  0\nT  0  0  0\nEND\n") onlyA 1 (refused 16 6)
     -- R-9, "rewritten with a mark on every transition into a must-recur state": the first case again
     ∷ case sheetM "PLAN  1  1\nb\na\nEND\n" 4 (judged (verdict Yes 4 2) (5 ∷ 5 ∷ 4 ∷ 3 ∷ []))
+    -- "the job counts, not the state after it": both of the example's plans
+    ∷ case sheetT "PLAN  1  3\ntest\ncoil\ncoil\ntest\nEND\n" 2 (judged (verdict Yes 2 1) (3 ∷ 2 ∷ []))
+    ∷ case sheetT "PLAN  2  1\ntest\ncoil\ncoil\nEND\n" 2 (judged (verdict No 3 1) (3 ∷ 2 ∷ []))
     -- "no third number on its S lines"; the same transition with both marks
     ∷ case (bytes "SHT-2  1  1\nN  0 a\nS  0  1  0\nEND\n") onlyA 1 (refused 7 3)
     ∷ case (bytes "SHT-2  1  1\nN  0 a\nS  0  1\nT  0  0  0  0\nT  0  0  0  1\nEND\n") onlyA 1 (refused 8 5)

@@ -53,7 +53,7 @@ pub data Judgement (s p : List ℕ) (room : ℕ) (before after : BuildTables) (o
   -- 2 to 14
   refused : EnoughToBuild room before → (r : Refusal) → Refusing s p room before after r → o ≡ Refused r
       → after .sets ≡ clearedSets (before .sets) → after .tracker ≡ clearedTracker (before .tracker) → Judgement s p room before after o
-  -- yes or no, with the sheet's successor sets and its tracker in the tables
+  -- yes or no, with the sheet's successor sets, its marks and its tracker in the tables
   judged : EnoughToBuild room before → SizesFit s p → (σ : Sheet) → Accepted s σ
       → (count : ℕ) → Fitted (numbers σ) room (before .tracker) (after .tracker) count
       → (lead cycle : List ℕ) (z : Verdict) → Verdicts σ p lead cycle count z → o ≡ Judged z

@@ -1,5 +1,6 @@
 -- docs/THEORY.md, section 0: what one endless run of the tuples is, and nothing of letters, words, masks or lists. E t q r says that the step from
--- time t to time t + 1 has a transition from q to r, and M t q r that this transition is recurrent (for a sheet: that r is a must-recur state).
+-- time t to time t + 1 has a transition from q to r, and M t q r that this transition is recurrent (for a sheet, by its edition's rule: that r is
+-- a must-recur state, or that the transition is marked).
 use Prim.Native.Nat.{ℕ, suc, _+_, _*_, _≤_, _<_}
 use mathlib.Core.Path.{_≡_}
 use mathlib.Core.Logic.{_⊎_}

@@ -38,12 +38,12 @@ abbrev pub clearedBuild : BuildTables → BuildTables
 clearedBuild before = buildTables (clearedSets (before .sets)) (clearedWitness (before .witness)) (clearedTracker (before .tracker))
 
 -- QUESTION 1: "Are the lent tables long enough (128 successor sets; a witness of 136 letters and two walks of 137 states; for room R, .. tuple
--- numbers and 8·R next numbers ..), and is R 1 to 1,024?", with R-7's 19 numbers a tuple
+-- numbers and 8·R next numbers ..), and is R 1 to 1,024?", with R-7's 19 numbers a tuple and R-9's "128 sets of marked successors"
 pub record EnoughToBuild (room : ℕ) (before : BuildTables) : Type 0 where
   pub lengths : EnoughForSheet (before .sets) (before .witness)
   pub tracker : EnoughForTracker room (before .tracker)
 
--- where the sheet comes as the numbers A, with its successor sets
+-- where the sheet comes as the numbers A, with its successor sets and its marks
 abbrev pub EnoughToBuildNumbers : Automaton → ℕ → BuildNumbersTables → Type 0
 EnoughToBuildNumbers A room before = EnoughToBuild room (buildTables (setsOfAutomaton A) (before .witness) (before .tracker))
 

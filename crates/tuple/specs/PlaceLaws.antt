@@ -2,6 +2,7 @@
 use Prim.Native.Nat.{ℕ, suc, _+_, _*_, _≤_, _<_}
 use mathlib.Core.Path.{_≡_, sym, subst, ap, _∙_}
 use mathlib.Core.List.{List, [], _∷_, map}
+use mathlib.Core.Logic.{_↔_}
 use native.Mathlib.Omega.{arith}
 use native.Mathlib.Decide.{decLt}
 use lib.ListN.{length, getD, length-append, length-map, List·getD-append, List·getD-map}
@@ -56,6 +57,10 @@ module _ {A : Automaton} (fits : Fits A) where
             let (q, j, c, m) = successors-in (A .marks) l x r h in
             let b = fits .range .3 in
             (q, c, edge-of (graphOf A) (fits-graph fits) l q r (omega arith) (marked-within fits (8 * q + l) r m), m)
+
+    -- the new set has the targets of the recurrent transitions from x, and no other state
+    pub recurrent-is : (x r : ℕ) → Member (recurrent A l x) r ↔ ((q : ℕ) × Member x q × Recurrent A l q r)
+    recurrent-is x r = (recurrent-in x r, λ (q, h, e). recurrent-of x q r h e)
 
     -- F1: the successors of each set
     places-below : (sets : List ℕ) (j : ℕ) → j < length sets → setAt (places A l sets) j ≡ successorsOf (A .table) l (setAt sets j)

@@ -30,7 +30,7 @@ abbrev pub recurrentBy : Edition → Automaton → ℕ → ℕ → ℕ
 recurrentBy StateBased A l x = interOf (successorsOf (A .table) l x) (A .recurring)
 recurrentBy TransitionBased A l x = successorsOf (A .marks) l x
 
--- these are the targets of the recurrent transitions from x: `Recurrent` in automaton/specs/Reading.antt (`recurrent-of`, `recurrent-in` in PlaceLaws)
+-- these are the targets of the recurrent transitions from x: `Recurrent` in automaton/specs/Reading.antt (`recurrent-is` in PlaceLaws)
 abbrev pub recurrent : Automaton → ℕ → ℕ → ℕ
 recurrent A l x = recurrentBy (A .edition) A l x
 

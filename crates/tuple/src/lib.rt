@@ -7,7 +7,6 @@ ghost use Prim.Native.Nat.{_+_, _≤_, _<_};
 ghost use lib.ListN.{length};
 ghost use Rattle.tuple_record.specs.Record.{rowCells};
 ghost use Rattle.automaton.specs.Automaton.{automaton};
-ghost use Rattle.automaton.specs.Successors.{successorsOf};
 ghost use Rattle.tuple.specs.Step.{isMarked, next};
 ghost use Rattle.tuple.specs.Parts.{outOf, Advanced, recurrentFrom, Unions, Swept, Placed, settled};
 ghost use Rattle.tuple.specs.Row.{row, tupleOf, Steps};
@@ -29,24 +28,6 @@ fn out_of(mark: bool, out: u16, x: u16) -> u16
     if mark { sets::union(out, x) } else { out }
 }
 
-// The states reached from a set over a marked transition, up to its last member. A loop of its own, and one of another shape than that of `automaton::successors`: only so
-// both are compiled into the step, and a SHEET takes as long as before.
-fn marked_of(marks: &[u16], letter: usize, set: u16) -> u16
-    requires { ⌜ letter < 8 ⌝ }
-    ensures { λ r. ⌜ r ≡ successorsOf (now (marks .entry)) letter set ⌝ }
-{
-    let last = set as usize;
-    let mut found: u16 = 0;
-    let mut q: usize = 0;
-    let mut power: usize = 1;
-    while power <= last {
-        found = automaton::with_successors(found, marks, letter, set, q);
-        power *= 2;
-        q += 1;
-    }
-    found
-}
-
 // The targets of the recurrent transitions from set 0, which was `old` before the step and is `first`.
 fn recurrent_of(a: Numbers, marks: &[u16], letter: usize, old: u16, first: u16) -> u16
     requires { ⌜ letter < 8 ⌝ }
@@ -55,7 +36,7 @@ fn recurrent_of(a: Numbers, marks: &[u16], letter: usize, old: u16, first: u16) 
     let edition = a.edition;
     match edition {
         Edition::StateBased => sets::inter(first, a.recurring),
-        Edition::TransitionBased => marked_of(marks, letter, old),
+        Edition::TransitionBased => automaton::marked_successors(marks, letter, old),
     }
 }
 

@@ -1,5 +1,6 @@
 -- Document 01: "A sheet handed over as numbers (n, k, initial set, must-recur set, 128 successor sets, only read) goes through 1, then 4, 7
--- and 8 with line 0, then 10 and 11." Here all but 11: what the answer says, and what is in the witness tables then.
+-- and 8 with line 0, then 10 and 11." R-9: it "names its edition", and has "128 sets of marked successors" beside the others, only read too. Here all
+-- but 11: what the answer says, and what is in the witness tables then.
 use Prim.Native.Nat.{ℕ}
 use mathlib.Core.Path.{_≡_}
 use mathlib.Core.Logic.{_⊎_}

@@ -2,6 +2,7 @@
 use mathlib.Core.Path.{sym, _∙_, ap}
 use denote.Ref.{now}
 use borrow.Author.Needs.{needs}
+use Rattle.automaton.specs.SuccessorLaws.{successors-are}
 use Rattle.automaton.specs.declared.Edition.{Edition}
 use Rattle.tuple.specs.Parts.{recurrentFrom}
 use Rattle.tuple.proofs.recurrent_of.Statement.{statement}
@@ -16,8 +17,8 @@ inter-requires c κs = search needs
 enum-told-2 : tie.Need-enum-told-2
 enum-told-2 c = search needs
 
-marked-of-requires : tie.Need-marked-of-requires
-marked-of-requires c κs = search needs
+marked-successors-requires : tie.Need-marked-successors-requires
+marked-successors-requires c κs = search needs
 
 returns : tie.Need-returns
 returns c =
@@ -28,9 +29,9 @@ returns c =
 returns-2 : tie.Need-returns-2
 returns-2 c =
     let g = c .before .before .before .before .args in
-    c .marked-of .ensures
+    successors-are (now (g .marks)) (g .letter) (g .old) _ (c .before .before .before .before .pre) (c .marked-successors .ensures)
     ∙ ap (λ (e : Edition). recurrentFrom e (g .a .recurring) (now (g .marks)) (g .letter) (g .old) (g .first)) (sym (c .before .enum-told2 .given .1))
 
 pub recurrent-of-spec : {M : Type 1} → statement M
 recurrent-of-spec =
-    tie.close (tie.spec enum-told inter-requires enum-told-2 marked-of-requires returns returns-2)
+    tie.close (tie.spec enum-told inter-requires enum-told-2 marked-successors-requires returns returns-2)

@@ -6,10 +6,10 @@ use native.Mathlib.Decide.{decLt}
 use lib.Pow.{pow-add}
 use denote.Ref.{now}
 use borrow.Author.Needs.{needs}
 use Rattle.automaton.specs.SuccessorLaws.{below-none, below-more, below-all}
 use Rattle.automaton.specs.Successors.{successorsBelow}
-use Rattle.tuple.proofs.marked_of.Statement.{statement}
-use Rattle.tuple.proofs.marked_of.Tie as tie
+use Rattle.automaton.proofs.marked_of.Statement.{statement}
+use Rattle.automaton.proofs.marked_of.Tie as tie
 
 abbrev Inv-loop : tie.InvT-loop
 Inv-loop marks letter set last found₀ q₀ power₀ found q power =
