@@ -8,7 +8,7 @@ use Rattle.automaton.specs.Endless.{MeetingFree}
 use Rattle.lent.specs.Lent.{EnoughForSets}
 use Rattle.format.specs.Format.{Withdrawal, Sheet, FileIs}
 use Rattle.format.specs.Numbers.{numbers}
-use Rattle.format.specs.Written.{writtenSheet, written}
+use Rattle.format.specs.Written.{longestText, writtenSheet, written}
 use Rattle.format.specs.NumbersLaws.{sheet-fits, sheet-in-force}
 use Rattle.reading.specs.Read.{Accepted}
 use Rattle.writer.specs.Writing.{writing, LettersRight}
@@ -35,8 +35,9 @@ module _ (s : List ℕ) (σ : Sheet) (file : FileIs s σ) where
   unfolding numbers
   right = record { names = file .right .names; all-names = file .all-names; withdrawals = file .right .withdrawals; in-force = sheet-in-force s σ file }
 
-  -- what is written is at most this long
-  pub writing-most : length (writing σ) ≤ 29056
+  -- what is written is no longer than its edition's longest text
+  pub writing-most : length (writing σ) ≤ longestText (σ .edition)
+  unfolding numbers
   writing-most = longest (numbers σ) fits (σ .names) (σ .withdrawals) right
 
   -- it is the file of the sheet that is written

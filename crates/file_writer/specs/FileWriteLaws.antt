@@ -2,14 +2,14 @@
 use Prim.Native.Nat.{ℕ}
 use mathlib.Core.Path.{_≡_, sym, ap, _∙_, subst}
 use mathlib.Core.List.{List, append-nil}
-use lib.ListN.{replicate}
 use Rattle.gate.specs.Gate.{Put}
 use Rattle.gate.specs.declared.Written.{Written}
 use Rattle.automaton.specs.declared.Numbers.{Numbers}
-use Rattle.automaton.specs.Automaton.{Automaton, TransitionSets, transitionSets, automaton}
+use Rattle.automaton.specs.Automaton.{Automaton, TransitionSets, automaton}
 use Rattle.lent.specs.Lent.{WitnessTables, EnoughForWitness}
 use Rattle.format.specs.Numbers.{numbers}
 use Rattle.format.specs.NumbersLaws.{sheet-fits, automaton-is}
+use Rattle.parser.specs.Parse.{emptySets}
 use Rattle.parser.specs.LettersOf.{LettersIn}
 use Rattle.reading.specs.Read.{ReadTables, readTables, SheetRead}
 use Rattle.writer.specs.Write.{writeTables}
@@ -18,11 +18,7 @@ use Rattle.writer.specs.WriteLaws.{named-text, writable}
 use Rattle.file_writer.specs.FileWrite.{Writes}
 use Rattle.sheet_text.specs.Text.{rowsText, Writable}
 
--- the tables
-abbrev own : TransitionSets
-own = transitionSets (replicate 128 0) (replicate 128 0)
-
-module _ {s rows : List ℕ} {witness : WitnessTables} {after : ReadTables} {a : Numbers} (h : SheetRead s (readTables own rows witness) after a) where
+module _ {s rows : List ℕ} {witness : WitnessTables} {after : ReadTables} {a : Numbers} (h : SheetRead s (readTables emptySets rows witness) after a) where
   is : automaton a (after .sets .successors) (after .sets .marks) ≡ numbers (h .sheet)
   is =
       automaton-is (h .sheet) (h .are)

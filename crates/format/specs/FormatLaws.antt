@@ -13,6 +13,7 @@ use Rattle.columns.specs.LineLaws.{numbersLine-length}
 use Rattle.automaton.specs.declared.Edition.{Edition}
 use Rattle.automaton.specs.declared.Edition.the-variants.{StateBased, TransitionBased}
 use Rattle.format.specs.Format.{State, Transition, Withdrawal, Sheet, sheetWord, headLine, nameLine, withdrawalLine, stateNumbers, stateLine, transitionNumbers, transitionLine, stateWidth, transitionWidth, nameLines, withdrawalLines, stateLines, transitionLines, lines, transitionIndex, Before, Faulty, wrong-name, name-twice, wrong-transition, withdrawn-letter, no-end, not-last}
+use Rattle.format.specs.Written.{longestText}
 
 pub word-length : (e : Edition) → length (sheetWord e) ≡ 5
 word-length StateBased = refl
@@ -48,6 +49,11 @@ transition-width TransitionBased = (omega arith, omega arith)
 pub state-width : (e : Edition) → stateWidth e ≤ 11
 state-width StateBased = omega arith
 state-width TransitionBased = omega arith
+
+-- SHT-2 has the longer text
+pub longest-most : (e : Edition) → longestText e ≤ 29056
+longest-most StateBased = omega arith
+longest-most TransitionBased = omega arith
 
 -- behind a line, the others begin where it ends
 module _ (at : ℕ) (w : Withdrawal) (ws : List Withdrawal) where

@@ -11,14 +11,23 @@ unfoldable pub flagSet : (State → ℕ) → ℕ → List State → ℕ
 flagSet flag q [] = 0
 flagSet flag q (z ∷ zs) = flag z * 2 ^ q + flagSet flag (suc q) zs
 
+-- a table of sets with state r in the set of cell c
+abbrev pub insertedAt : List ℕ → ℕ → ℕ → List ℕ
+insertedAt table c r = set table c (unionOf (getD table c 0) (2 ^ r))
+
 -- a table of successor sets with one transition more
 unfoldable pub inserted : List ℕ → Transition → List ℕ
-inserted table t = set table (cell t) (unionOf (getD table (cell t) 0) (2 ^ t .to))
+inserted table t = insertedAt table (cell t) (t .to)
 
 -- the table with some transitions more
 unfoldable pub tableOf : List ℕ → List Transition → List ℕ
 tableOf table [] = table
 tableOf table (t ∷ ts) = tableOf (inserted table t) ts
+
+-- a table of sets with state r in the set of cell c where a bit is 1
+abbrev pub insertedWhere : ℕ → List ℕ → ℕ → ℕ → List ℕ
+insertedWhere zero table c r = table
+insertedWhere (suc b) table c r = insertedAt table c r
 
 -- a transition in front of others where a bit is 1
 abbrev pub whereMember : ℕ → Transition → List Transition → List Transition
@@ -30,6 +39,10 @@ unfoldable pub markedOf : List Transition → List Transition
 markedOf [] = []
 markedOf (t ∷ ts) = whereMember (t .mark) t (markedOf ts)
 
+-- the table of some transitions
+abbrev pub setsFrom : List Transition → List ℕ
+setsFrom ts = tableOf (replicate 128 0) ts
+
 -- a sheet as numbers
 unfoldable pub numbers : Sheet → Automaton
 numbers σ = record {
@@ -38,6 +51,6 @@ numbers σ = record {
   k = σ .k;
   initial = flagSet (λ z. z .initial) 0 (σ .states);
   recurring = flagSet (λ z. z .recurring) 0 (σ .states);
-  table = tableOf (replicate 128 0) (σ .transitions);
-  marks = tableOf (replicate 128 0) (markedOf (σ .transitions));
+  table = setsFrom (σ .transitions);
+  marks = setsFrom (markedOf (σ .transitions));
 }

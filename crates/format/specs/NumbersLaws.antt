@@ -1,4 +1,4 @@
--- The numbers of a sheet: its flags are members of two sets, its transitions are members of the successor sets, and all of them fit.
+-- The numbers of a sheet: its flags are members of two sets, its transitions are members of the successor sets, the marked ones of the marks, and all of them fit.
 -- Assumes nothing.
 use Prim.Native.Nat.{ℕ, zero, suc, _+_, _-_, _*_, _/_, _%_, _^_, _≤_, _<_}
 use mathlib.Core.Path.{_≡_, refl, sym, ap, subst, _∙_}
@@ -20,7 +20,7 @@ use Rattle.automaton.specs.Graph.{Edge, InRange, Within}
 use Rattle.automaton.specs.Reading.{MarkedEdge}
 use Rattle.lent.specs.Lent.{lentSets}
 use Rattle.format.specs.Format.{State, Transition, Withdrawal, Sheet, mostRecurring, mostMark, FlagsRight, StatesRight, TransitionRight, TransitionsRight, InForce, AllInForce, cell, transitionIndex, Right, FileIs}
-use Rattle.format.specs.Numbers.{flagSet, inserted, tableOf, whereMember, markedOf, numbers}
+use Rattle.format.specs.Numbers.{flagSet, inserted, tableOf, insertedWhere, whereMember, markedOf, setsFrom, numbers}
 use Rattle.format.specs.Withdrawals.{EdgesInForce}
 
 -- Flags
@@ -144,6 +144,23 @@ unfolding tableOf
 table-length [] table = refl
 table-length (t ∷ ts) table = table-length ts (inserted table t) ∙ inserted-length table t
 
+-- a transition where a bit is 1: the table stays as long, and all other members as they are
+pub where-length : (b : ℕ) (table : List ℕ) (c r : ℕ) → length (insertedWhere b table c r) ≡ length table
+where-length zero table c r = refl
+where-length (suc b) table c r = simp length-set
+
+pub where-other : (b : ℕ) (table : List ℕ) (t : Transition) (c r : ℕ) → (c ≡ cell t → r ≡ t .to → ⊥)
+    → bit (getD (insertedWhere b table (cell t) (t .to)) c 0) r ≡ bit (getD table c 0) r
+unfolding inserted
+where-other zero table t c r h = refl
+where-other (suc b) table t c r h = inserted-other table t c r h
+
+-- a transition that stands in front of others there is inserted before them
+pub table-where : (b : ℕ) (table : List ℕ) (t : Transition) (ts : List Transition) → tableOf table (whereMember b t ts) ≡ tableOf (insertedWhere b table (cell t) (t .to)) ts
+unfolding inserted tableOf
+table-where zero table t ts = refl
+table-where (suc b) table t ts = refl
+
 -- a transition that is right behind others is right
 pub loosened : {e : Edition} {n k least : ℕ} {t : Transition} → TransitionRight e n k least t → TransitionRight e n k 0 t
 loosened h = record { from = h .from; letter = h .letter; to = h .to; order = omega arith; mark = h .mark }
@@ -247,9 +264,6 @@ one-marked (u ∷ us) t = (λ o. into (u .mark) refl (one-marked us t .0) o, λ 
     out (suc b) e rest (suc i, l, is) m = let (j, k, at) = rest ((i, omega arith, is), m) in (suc j, omega arith, at)
 
 -- THE TABLE OF SOME TRANSITIONS that are right: its members are these
-abbrev pub setsFrom : List Transition → List ℕ
-setsFrom ts = tableOf (replicate 128 0) ts
-
 module _ (e : Edition) (n k : ℕ) (range : InRange n k) (ts : List Transition) (right : TransitionsRight e n k 0 ts) where
   member-is : (c r : ℕ) → Member (getD (setsFrom ts) c 0) r → Entered e n k ts c r
   member-is c r m = by (table-from e n k range c r (replicate 128 0) refl 0 ts right m)
@@ -314,10 +328,11 @@ module _ (σ : Sheet) (right : Right σ) where
           let h = one-right (σ .edition) (σ .n) (σ .k) (right .range) (transition q l r m) 0 (σ .transitions) (right .transitions) o in
           record { letter = h .letter; from = h .from; to = member-of (σ .edition) (σ .n) (σ .k) (right .range) (σ .transitions) (right .transitions) (transition q l r m) o }
 
-  -- R-9: the marked edges are the transitions with mark 1
+  -- R-9: its marked transitions are right
   marks-right : TransitionsRight (σ .edition) (σ .n) (σ .k) 0 (markedOf (σ .transitions))
   marks-right = marked-right (σ .edition) (σ .n) (σ .k) 0 (σ .transitions) (right .transitions)
 
+  -- and the marked edges are these
   marked-one : (l q r : ℕ) → l < σ .k → MarkedEdge (numbers σ) l q r ↔ ((m : ℕ) × OneOf (σ .transitions) (transition q l r m) × (m ≡ 0 → ⊥))
   unfolding numbers
   marked-one l q r h = (from, to)
@@ -383,6 +398,12 @@ one-in-force ws (u ∷ us) f t (suc i, l, e) = one-in-force ws us (f .1) t (i, o
 module _ (s : List ℕ) (σ : Sheet) (file : FileIs s σ) where
   pub transition-is : (l q r : ℕ) → Edge (graphOf (numbers σ)) l q r ↔ ((m : ℕ) × OneOf (σ .transitions) (transition q l r m))
   transition-is = right-edge σ (file .right)
+
+  -- a SHEET has no marks
+  pub sheet-unmarked : σ .edition ≡ StateBased → numbers σ .marks ≡ replicate 128 0
+  unfolding tableOf numbers
+  sheet-unmarked e =
+      ap setsFrom (unmarked (σ .n) (σ .k) 0 (σ .transitions) (subst (λ (e : Edition). TransitionsRight e (σ .n) (σ .k) 0 (σ .transitions)) e (file .right .transitions)))
 
   -- "Transition lines may not use a withdrawn letter."
   pub sheet-in-force : EdgesInForce (graphOf (numbers σ)) (σ .withdrawals)

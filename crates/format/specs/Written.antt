@@ -5,6 +5,8 @@ use lib.ListN.{getD}
 use Rattle.names.specs.Name.{compose}
 use Rattle.sets.specs.Sets.{bit}
 use Rattle.automaton.specs.Automaton.{Automaton}
+use Rattle.automaton.specs.declared.Edition.{Edition}
+use Rattle.automaton.specs.declared.Edition.the-variants.{StateBased, TransitionBased}
 use Rattle.format.specs.Format.{State, Transition, Withdrawal, Sheet, lines, endLine}
 use Rattle.format.specs.Numbers.{whereMember}
 
@@ -20,6 +22,11 @@ statesOf initial recurring q (suc n) = stateOf initial recurring q ∷ statesOf 
 -- "strictly ascending by these three": there are 2048 places, 16 to a cell of the table
 abbrev pub mostTransitions : ℕ
 mostTransitions = 2048
+
+-- the longest text of a sheet: 12 for the first line, 8 names of 30, 16 states of 11 or 8, 2,048 transitions of 11 or 14, 4 for END
+abbrev pub longestText : Edition → ℕ
+longestText StateBased = 22960
+longestText TransitionBased = 29056
 
 -- is there a member at place i of a table
 abbrev pub bitAt : List ℕ → ℕ → ℕ

@@ -78,6 +78,6 @@ afterNames s z y = andThen (withdrawalsAt s (z .k) (y .line) (y .at) 0 (replicat
 abbrev pub afterHead : List ℕ → Sizes → Phase Contents
 afterHead s z = andThen (namesAt s 2 12 [] (z .k)) (afterNames s z)
 
--- "Is the sheet at most 32,768 bytes ..? No: 2." Then the lines
+-- "Is the sheet at most" so many "bytes ..? No: 2." Then the lines
 unfoldable pub parse : List ℕ → Phase Contents
 parse s = choose (ltb mostSheet (length s)) (refused 2 0) (andThen (headOf s) (afterHead s))

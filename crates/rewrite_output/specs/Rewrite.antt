@@ -12,7 +12,7 @@ use Rattle.writer.specs.Writing.{writing}
 use Rattle.report.specs.Report.{refusalLine}
 use Rattle.witness_text.specs.WitnessText.{witnessText}
 
--- the longest sheet that is written: 8 names of 24 bytes, 16 states and 2,048 transitions
+-- the longest sheet that is written: an SHT-2 of 8 names of 24 bytes, 16 states and 2,048 transitions
 abbrev pub longestRewrite : ℕ
 longestRewrite = 29056
 

@@ -16,7 +16,7 @@ use Rattle.automaton.specs.EdgeLaws.{edge-letter, walk-in}
 use Rattle.automaton.specs.Meeting.{cells}
 use Rattle.lent.specs.Lent.{WitnessTables, EnoughForWitness, Meets}
 use Rattle.format.specs.Format.{Sheet, FileIs, Faulty, mostSheet}
-use Rattle.format.specs.FormatLaws.{fault-number}
+use Rattle.format.specs.FormatLaws.{fault-number, longest-most}
 use Rattle.format.specs.Numbers.{numbers}
 use Rattle.format.specs.NumbersLaws.{sheet-fits}
 use Rattle.parser.specs.UniqueLaws.{fault-unique, file-or-fault}
@@ -33,7 +33,7 @@ use Rattle.rewrite_output.specs.Rewrite.{longestRewrite, RewriteOutput}
 use Rattle.rewrite_output.specs.Put.{refusalText}
 use Rattle.rewrite_output.specs.PutLaws.{text-other, text-ten, refusal-most}
 
--- TOO LONG: "Is the sheet at most 32,768 bytes ..? No: 2", and nothing else is printed
+-- TOO LONG: "Is the sheet at most" so many "bytes ..? No: 2.", and nothing else is printed
 pub too-long-rewrite : TooLong RewriteOutput mostSheet (refusalLine 2 0)
 too-long-rewrite s text h = (to, λ e. RewriteOutput.refused 2 0 (Faulty.size h) e)
   where
@@ -85,13 +85,17 @@ module _ {s : List ℕ} {before after : WitnessTables} {r : Refusal} where
 
 -- THE ENDS OF THE CALL, behind writing into a buffer that is long enough
 
+-- a sheet of either edition has room in it
+rewrite-most : {s : List ℕ} (σ : Sheet) → FileIs s σ → length (writing σ) ≤ longestRewrite
+rewrite-most {s} σ file = omega (arith, writing-most s σ file, longest-most (σ .edition))
+
 module _ {s : List ℕ} {before after : WriteTables} where
   pub bytes-printed : {m : ℕ} → Writes s before after (Bytes m) → longestRewrite ≤ length (before .output)
       → Prints (RewriteOutput s) longestRewrite (before .output) (after .output) m
   bytes-printed (Writes.short n e z) room = let x : _≡_ {A = ℕ} 0 1 = cc in absurd (omega arith)
   bytes-printed (Writes.refused l x f e k) room = let x : _≡_ {A = ℕ} 0 1 = cc in absurd (omega arith)
   bytes-printed (Writes.asked l σ a z (count, fits, is)) room =
-      Prints.printed room (writing σ) (RewriteOutput.written σ a refl) count (writing-most s σ (a .file)) is
+      Prints.printed room (writing σ) (RewriteOutput.written σ a refl) count (rewrite-most σ (a .file)) is
 
   -- question 1 is not answered no: the tables and the buffer are long enough
   refused-behind : {r : Refusal} → Writes s before after (Refused r) → EnoughForWitness (before .witness) → longestRewrite ≤ length (before .output)
@@ -100,7 +104,7 @@ module _ {s : List ℕ} {before after : WriteTables} where
   refused-behind {r} (Writes.refused l x f e k) long room =
       let same : x ≡ r = cc in
       (subst (Refuses s (before .witness) (after .witness)) same f, k)
-  refused-behind (Writes.asked l σ a z (short, e, k)) long room = absurd (omega (arith, writing-most s σ (a .file)))
+  refused-behind (Writes.asked l σ a z (short, e, k)) long room = absurd (omega (arith, rewrite-most σ (a .file)))
 
   module _ {r : Refusal} (h : Writes s before after (Refused r)) (long : EnoughForWitness (before .witness)) (room : longestRewrite ≤ length (before .output)) where
     pub refused-short : r .length ≤ 136

@@ -13,7 +13,7 @@ use gate::Written;
 // How many bytes of the input are read: one more than a sheet may have decides question 2, whatever follows.
 pub const INPUT: usize = 32769;
 
-// The longest output: a sheet of 8 names of 24 bytes, 16 states and 2,048 transitions.
+// The longest output: an SHT-2 of 8 names of 24 bytes, 16 states and 2,048 transitions.
 pub const OUTPUT: usize = 29056;
 
 // The line of a refusal, and with a 10 its word and walks. The answer is the count of bytes.

@@ -6,3 +6,4 @@ pub mod PlacesLaws
 pub mod RowNamesLaws
 pub mod RowWithdrawalsLaws
 pub mod LengthLaws
+pub mod SizeLaws

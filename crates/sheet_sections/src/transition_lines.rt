@@ -1,4 +1,4 @@
-// The transition lines of a table, in the order of their places.
+// The transition lines of a table with its marks, in the order of their places.
 ghost use mathlib.Core.Path.{_≡_};
 ghost use Prim.Native.Nat.{ℕ, _+_, _≤_};
 ghost use mathlib.Core.List.{List};

@@ -1,6 +1,6 @@
 -- The text is its parts, stored one behind the other. Assumes nothing.
 use Prim.Native.Nat.{ℕ, _+_, _*_}
-use mathlib.Core.Path.{_≡_, refl, sym, ap, _∙_}
+use mathlib.Core.Path.{_≡_, refl, ap, _∙_}
 use mathlib.Core.List.{List, _++_, map}
 use lib.ListN.{length, length-append}
 use lib.Seq.{sets}
@@ -53,8 +53,3 @@ module _ (A : Automaton) (names : List (List ℕ)) (ws : List Withdrawal) where
       o₆ ≡ sets o₅ d endLine → o₆ ≡ sets out 0 (textOf A names ws)
   text-stored out e₁ e₂ f e₃ g e₄ h e₅ k e₆ =
       rw (text-parts, e₆, e₅, k, e₄, h, e₃, g, e₂, f, e₁, sets-append (headLine (A .edition) (A .n) (A .k)), sets-append (nameLines 0 names), sets-append (withdrawalLines ws), sets-append (statesText A), sets-append (transitionsText A), head-length)
-
-pub written-length : (A : Automaton) (names : List (List ℕ)) (ws : List Withdrawal)
-    → length (written A names ws)
-    ≡ 12 + (length (nameLines 0 (map compose names)) + (length (withdrawalLines ws) + (length (statesText A) + (length (transitionsText A) + 4))))
-written-length A names ws = ap length (sym (text-written A names ws)) ∙ text-length A (map compose names) ws

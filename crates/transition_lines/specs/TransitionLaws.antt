@@ -17,13 +17,13 @@ use Rattle.automaton.specs.Automaton.{TransitionSets, transitionSets}
 use Rattle.automaton.specs.declared.Edition.{Edition}
 use Rattle.automaton.specs.declared.Edition.the-variants.{StateBased, TransitionBased}
 use Rattle.format.specs.Format.{Transition, Withdrawal, transitionLine, transitionLines, transitionWidth, endLine, transitionIndex, mostMark, TransitionRight, TransitionsRight, leastAfter, Withdrawn, InForce, AllInForce, EndFault, wrong-transition, withdrawn-letter, no-end, not-last}
-use Rattle.format.specs.Numbers.{inserted, tableOf, whereMember, markedOf}
+use Rattle.format.specs.Numbers.{inserted, tableOf, markedOf}
 use Rattle.format.specs.Withdrawals.{TellWithdrawn}
 use Rattle.format.specs.FormatLaws.{transition-length, transition-width, transition-behind}
-use Rattle.format.specs.NumbersLaws.{transition}
+use Rattle.format.specs.NumbersLaws.{transition, table-where}
 use Rattle.transition_lines.specs.declared.TransitionLine.{TransitionLine}
 use Rattle.transition_lines.specs.declared.TransitionLine.the-variants as T
-use Rattle.transition_lines.specs.TransitionLines.{withTransition, transitionOf, markedOne, lineFrom, transitionLineAt, ifInForce, insertedWhere, withMarked, endSets, transitionsAt}
+use Rattle.transition_lines.specs.TransitionLines.{withTransition, transitionOf, markedOne, lineFrom, transitionLineAt, ifInForce, withMarked, endSets, transitionsAt}
 use Rattle.frame.specs.Phase.{Phase, refused, passed, andThen}
 use Rattle.text.specs.BytesLaws.{stretch-rest}
 use Rattle.columns.specs.Line.{Narrow}
@@ -116,14 +116,9 @@ module _ (n k least : ℕ) where
 abbrev pub filledSets : TransitionSets → List Transition → TransitionSets
 filledSets sets ts = transitionSets (tableOf (sets .successors) ts) (tableOf (sets .marks) (markedOf ts))
 
-marked-more : (b : ℕ) (table : List ℕ) (t : Transition) (ts : List Transition) → tableOf (insertedWhere b table t) ts ≡ tableOf table (whereMember b t ts)
-unfolding tableOf
-marked-more zero table t ts = refl
-marked-more (suc b) table t ts = refl
-
 filled-more : (sets : TransitionSets) (t : Transition) (ts : List Transition) → filledSets (withMarked sets t) ts ≡ filledSets sets (t ∷ ts)
 unfolding tableOf markedOf
-filled-more sets t ts = ap (transitionSets (tableOf (inserted (sets .successors) t) ts)) (marked-more (t .mark) (sets .marks) t (markedOf ts))
+filled-more sets t ts = ap (transitionSets (tableOf (inserted (sets .successors) t) ts)) (sym (table-where (t .mark) (sets .marks) t (markedOf ts)))
 
 -- ITS LETTER: the cell of a letter in force is 0, that of a withdrawn one is not
 module _ (ws : List Withdrawal) (cells : List ℕ) (tell : TellWithdrawn ws cells) (l : ℕ) where

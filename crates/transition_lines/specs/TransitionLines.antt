@@ -1,10 +1,10 @@
 -- The transition lines of a sheet file and its end, read from the top: questions 8, 16 and 9 in the order in which a reader asks them.
 -- That this is what Format describes is a theorem. A byte past the end is 0, and 0 stands in no line.
-use Prim.Native.Nat.{ℕ, zero, suc, _+_, _^_, _≤_, _<_}
+use Prim.Native.Nat.{ℕ, zero, suc, _+_, _≤_, _<_}
 use mathlib.Core.Path.{_≡_}
 use mathlib.Core.List.{List, [], _++_}
 use mathlib.Core.Bool.{_&&_}
-use lib.ListN.{getD, set, drop}
+use lib.ListN.{getD, drop}
 use lib.Dec.{ltb, leb, eqb}
 use Rattle.gate.specs.Gate.{refusal}
 use Rattle.lists.specs.Choice.{choose}
@@ -13,10 +13,9 @@ use Rattle.columns.specs.Pair.{pairAt, withPair}
 use Rattle.automaton.specs.Automaton.{TransitionSets, transitionSets}
 use Rattle.automaton.specs.declared.Edition.{Edition}
 use Rattle.automaton.specs.declared.Edition.the-variants.{StateBased, TransitionBased}
-use Rattle.sets.specs.Sets.{unionOf}
 use Rattle.lent.specs.Lent.{clearedSets}
-use Rattle.format.specs.Format.{Transition, transitionIndex, transitionWidth}
-use Rattle.format.specs.Numbers.{inserted}
+use Rattle.format.specs.Format.{Transition, cell, transitionIndex, transitionWidth}
+use Rattle.format.specs.Numbers.{inserted, insertedWhere}
 use Rattle.frame.specs.Phase.{Phase, refused, passed, andThen, endAt}
 use Rattle.frame.specs.declared.End.{End}
 use Rattle.frame.specs.declared.End.the-variants as E
@@ -53,19 +52,9 @@ withTransition T.Bad go bad = bad
 abbrev pub ifInForce : List ℕ → ℕ → Transition → Phase TransitionSets → Phase TransitionSets
 ifInForce cells line t next = choose (eqb (getD cells (t .letter) 0) 0) next (refused 16 line)
 
--- a transition in a table where a bit is 1
-abbrev pub insertedWhere : ℕ → List ℕ → Transition → List ℕ
-insertedWhere zero table t = table
-insertedWhere (suc b) table t = inserted table t
-
--- the same by the cell and the state
-abbrev pub insertedWhereAt : ℕ → List ℕ → ℕ → ℕ → List ℕ
-insertedWhereAt zero table c to = table
-insertedWhereAt (suc b) table c to = set table c (unionOf (getD table c 0) (2 ^ to))
-
 -- the two tables with one transition more
 abbrev pub withMarked : TransitionSets → Transition → TransitionSets
-withMarked sets t = transitionSets (inserted (sets .successors) t) (insertedWhere (t .mark) (sets .marks) t)
+withMarked sets t = transitionSets (inserted (sets .successors) t) (insertedWhere (t .mark) (sets .marks) (cell t) (t .to))
 
 -- the end: the two tables, where it is last
 abbrev pub endSets : List ℕ → ℕ → ℕ → TransitionSets → Phase TransitionSets
@@ -86,13 +75,16 @@ transitionsAt e s cells n k line at least sets (suc fuel) =
     transitionStep e s cells n k line at least sets
     (λ t. transitionsAt e s cells n k (line + 1) (at + transitionWidth e) (transitionIndex t + 1) (withMarked sets t) fuel)
 
--- a transition that is read has its cell among the 128, and its state among the 16
+-- a transition that is read has its cell among the 128, its state among the 16, and the mark 0 or 1
 abbrev pub TransitionFits : TransitionLine → Type 0
 TransitionFits (T.Is from letter to mark) = (from < 16) × (letter < 8) × (to < 16) × (mark ≤ 1)
 TransitionFits T.Bad = Unit
 
--- the answer of the transition lines, and the tables, which were `before` and are `after` then: all zero, or their sets, and behind them what was there
+-- the tables with the sets that were read, and behind them what was there
+abbrev pub filledFront : TransitionSets → TransitionSets → TransitionSets
+filledFront sets before = transitionSets (sets .successors ++ drop 128 (before .successors)) (sets .marks ++ drop 128 (before .marks))
+
+-- the answer of the transition lines, and the tables, which were `before` and are `after` then: all zero, or filled
 abbrev pub FillsTable : Phase TransitionSets → TransitionSets → TransitionSets → End → Type 0
 FillsTable (refused number line) before after r = (r ≡ E.Refused (refusal number line)) × (after ≡ clearedSets before)
-FillsTable (passed sets) before after r =
-    (r ≡ E.Reached) × (after ≡ transitionSets (sets .successors ++ drop 128 (before .successors)) (sets .marks ++ drop 128 (before .marks)))
+FillsTable (passed sets) before after r = (r ≡ E.Reached) × (after ≡ filledFront sets before)

@@ -1,17 +1,17 @@
 -- One step of the definition of the transition lines, which the loop goes along. Assumes nothing.
 use Prim.Native.Nat.{ℕ, zero, suc, _+_, _^_, _<_}
 use mathlib.Core.Path.{_≡_, refl, subst}
-use mathlib.Core.List.{List, [], _++_}
-use lib.ListN.{length, getD, take, drop, length-set}
+use mathlib.Core.List.{List, []}
+use lib.ListN.{getD, take, drop}
 use lib.Seq.{drop-set-lt, take-set-lt, getD-take}
 use borrow.Author.Tests.{eq-eqb, ne-eqb}
-use Rattle.automaton.specs.Automaton.{TransitionSets, transitionSets}
+use Rattle.automaton.specs.Automaton.{TransitionSets}
 use Rattle.automaton.specs.declared.Edition.{Edition}
 use Rattle.lent.specs.Lent.{clearedSets}
 use Rattle.sets.specs.Sets.{unionOf}
-use Rattle.format.specs.Format.{Transition, cell, transitionIndex, transitionWidth}
-use Rattle.format.specs.Numbers.{inserted}
-use Rattle.transition_lines.specs.TransitionLines.{withTransition, transitionLineAt, ifInForce, insertedWhere, insertedWhereAt, withMarked, endSets, transitionsAt, FillsTable}
+use Rattle.format.specs.Format.{transitionIndex, transitionWidth}
+use Rattle.format.specs.Numbers.{insertedWhere}
+use Rattle.transition_lines.specs.TransitionLines.{withTransition, transitionLineAt, ifInForce, withMarked, endSets, transitionsAt, filledFront, FillsTable}
 use Rattle.frame.specs.Phase.{refused, passed, andThen, endAt}
 use Rattle.frame.specs.Answers.{endAnswer}
 use Rattle.frame.specs.EndLaws.{end-outcome}
@@ -32,23 +32,14 @@ module _ (ed : Edition) (s cells : List ℕ) (n k line at least : ℕ) (sets : T
   unfolding transitionsAt
   transitions-done t = rw h (simp (ne-eqb _ _ t))
 
--- A TRANSITION IN A TABLE where a bit is 1: the table is as long as before, and changed among its first 128 cells only
-pub where-length : (b : ℕ) (table : List ℕ) (t : Transition) → length (insertedWhereAt b table (cell t) (t .to)) ≡ length table
-where-length zero table t = refl
-where-length (suc b) table t = simp length-set
+-- A STATE INSERTED IN A TABLE where a bit is 1: only the first 128 cells change
+pub where-drop : (b : ℕ) (table : List ℕ) (c r : ℕ) → c < 128 → drop 128 (insertedWhere b table c r) ≡ drop 128 table
+where-drop zero table c r h = refl
+where-drop (suc b) table c r h = drop-set-lt 128 table c _ h
 
-pub where-drop : (b : ℕ) (table : List ℕ) (t : Transition) → cell t < 128 → drop 128 (insertedWhereAt b table (cell t) (t .to)) ≡ drop 128 table
-where-drop zero table t h = refl
-where-drop (suc b) table t h = drop-set-lt 128 table (cell t) _ h
-
-pub where-take : (b : ℕ) (table : List ℕ) (t : Transition) → cell t < 128 → take 128 (insertedWhereAt b table (cell t) (t .to)) ≡ insertedWhere b (take 128 table) t
-unfolding inserted
-where-take zero table t h = refl
-where-take (suc b) table t h = rw (take-set-lt 128 table (cell t) (unionOf (getD table (cell t) 0) (2 ^ t .to)) h, getD-take 128 table (cell t) 0 h) refl
-
--- the tables with the sets that were read, and behind them what was there
-abbrev pub filledFront : TransitionSets → TransitionSets → TransitionSets
-filledFront sets before = transitionSets (sets .successors ++ drop 128 (before .successors)) (sets .marks ++ drop 128 (before .marks))
+pub where-take : (b : ℕ) (table : List ℕ) (c r : ℕ) → c < 128 → take 128 (insertedWhere b table c r) ≡ insertedWhere b (take 128 table) c r
+where-take zero table c r h = refl
+where-take (suc b) table c r h = rw (take-set-lt 128 table c (unionOf (getD table c 0) (2 ^ r)) h, getD-take 128 table c 0 h) refl
 
 -- the end, and the tables left: all zero, or with the sets that were read
 abbrev pub TablesLeft : TransitionSets → TransitionSets → TransitionSets → End → Type 0

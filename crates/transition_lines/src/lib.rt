@@ -6,7 +6,8 @@ ghost use Rattle.superseding.specs.Superseding.{supersedingIn};
 ghost use Rattle.automaton.specs.Automaton.{transitionSets};
 ghost use Rattle.automaton.specs.declared.Edition.the-variants.{StateBased, TransitionBased};
 ghost use Rattle.format.specs.Format.{mostSheet};
-ghost use Rattle.transition_lines.specs.TransitionLines.{transitionOf, lineFrom, transitionLineAt, insertedWhereAt, transitionsAt, TransitionFits, FillsTable};
+ghost use Rattle.format.specs.Numbers.{insertedWhere};
+ghost use Rattle.transition_lines.specs.TransitionLines.{transitionOf, lineFrom, transitionLineAt, transitionsAt, TransitionFits, FillsTable};
 use automaton::Edition;
 use columns::Number;
 use columns::Pair;
@@ -107,7 +108,7 @@ fn transition_line(
 // State `to` into a cell of the table, where the bit is 1.
 fn insert_where(bit: usize, table: &mut [u16], cell: usize, to: usize)
     requires { ⌜ (bit ≤ 1) × (cell < length (now table)) × (to < 16) ⌝ }
-    ensures { λ _. ⌜ now (table .exit) ≡ insertedWhereAt bit (now (table .entry)) cell to ⌝ }
+    ensures { λ _. ⌜ now (table .exit) ≡ insertedWhere bit (now (table .entry)) cell to ⌝ }
 {
     if bit == 1 {
         table[cell] = sets::insert(table[cell], to);

@@ -12,10 +12,10 @@ use Rattle.sets.specs.SetLaws.{bit-lt, bit-out, bit-zero, ext, small-of-within,
 use Rattle.automaton.specs.Automaton.{Automaton, setsOfAutomaton, Fits}
 use Rattle.automaton.specs.QuestionLaws.{recurring-within, marked-within}
 use Rattle.lent.specs.Lent.{EnoughForSets}
-use Rattle.format.specs.Format.{State, Transition, Withdrawal}
-use Rattle.format.specs.Numbers.{flagSet, inserted, tableOf, whereMember, markedOf, numbers}
+use Rattle.format.specs.Format.{State, Transition, Withdrawal, cell}
+use Rattle.format.specs.Numbers.{flagSet, inserted, tableOf, insertedWhere, whereMember, markedOf, setsFrom, numbers}
 use Rattle.format.specs.Written.{stateOf, statesOf, mostTransitions, bitAt, placed, transitionsOf, sheetOf, writtenSheet}
-use Rattle.format.specs.NumbersLaws.{unflagged, flags-set, inserted-length, inserted-new, inserted-other, table-length, setsFrom}
+use Rattle.format.specs.NumbersLaws.{unflagged, flags-set, inserted-new, table-length, where-length, where-other, table-where}
 use Rattle.sheet_sections.specs.LengthLaws.{statesOf-length}
 use Rattle.writer.specs.Writing.{trimmed}
 
@@ -37,22 +37,6 @@ flags-back initial recurring flag x reads n h =
     flags-set flag (bit x) (statesOf initial recurring 0 n) (λ i l. ap flag (states-at initial recurring n 0 i (omega arith)) ∙ reads (0 + i) ∙ ap (bit x) (zero-add i))
     ∙ ap (λ (m : ℕ). setOf m (bit x)) size ∙ set-is-sum n x h
 
--- One transition more
-
--- a table with a transition, where b says that there is one
-abbrev entered : ℕ → List ℕ → Transition → List ℕ
-entered zero table t = table
-entered (suc b) table t = inserted table t
-
-entered-length : (b : ℕ) (table : List ℕ) (t : Transition) → length (entered b table t) ≡ length table
-entered-length zero table t = refl
-entered-length (suc b) table t = inserted-length table t
-
-table-next : (b : ℕ) (table : List ℕ) (t : Transition) (ts : List Transition) → tableOf table (whereMember b t ts) ≡ tableOf (entered b table t) ts
-unfolding tableOf
-table-next zero table t ts = refl
-table-next (suc b) table t ts = refl
-
 -- The places of a table, from i on
 
 module _ (T marks : List ℕ) where
@@ -63,33 +47,32 @@ module _ (T marks : List ℕ) where
   keeps zero i table c q h = refl
   keeps (suc left) i table c q h =
       let b = bitAt T i in
-      rw (table-next b table (placed marks i) (transitionsOf T marks (suc i) left))
-      (keeps left (suc i) (entered b table (placed marks i)) c q (λ j l. h j (omega arith)) ∙ by b)
-    where
-      by : (b : ℕ) → bit (getD (entered b table (placed marks i)) c 0) q ≡ bit (getD table c 0) q
-      by zero = refl
-      by (suc b) = inserted-other table (placed marks i) c q (λ e. h i (omega arith) (omega arith))
+      let more = insertedWhere b table (cell (placed marks i)) (i % 16) in
+      rw (table-where b table (placed marks i) (transitionsOf T marks (suc i) left))
+      (keeps left (suc i) more c q (λ j l. h j (omega arith)) ∙ where-other b table (placed marks i) c q (λ e. h i (omega arith) (omega arith)))
 
   -- a bit that is 0 and at a place from i on becomes T's
   gains : (left i : ℕ) (table : List ℕ) (c q : ℕ) → c < length table → q < 16 → i ≤ 16 * c + q → 16 * c + q < i + left → bit (getD table c 0) q ≡ 0
       → bit (getD (tableOf table (transitionsOf T marks i left)) c 0) q ≡ bit (getD T c 0) q
-  unfolding tableOf transitionsOf
+  unfolding inserted tableOf transitionsOf
   gains zero i table c q hc hq h l z = absurd (omega arith)
   gains (suc left) i table c q hc hq h l z =
       let b = bitAt T i in
-      rw (table-next b table (placed marks i) (transitionsOf T marks (suc i) left))
+      let more = insertedWhere b table (cell (placed marks i)) (i % 16) in
+      let other : (i ≡ 16 * c + q → ⊥) → bit (getD more c 0) q ≡ bit (getD table c 0) q = λ d. where-other b table (placed marks i) c q (λ f g. d (omega arith)) in
+      rw (table-where b table (placed marks i) (transitionsOf T marks (suc i) left))
       (elim (ℕ-discrete i (16 * c + q)) [
-        | yes e ↦ keeps left (suc i) (entered b table (placed marks i)) c q (λ j k f g. omega arith) ∙ here b refl e
-        | no d ↦ gains left (suc i) (entered b table (placed marks i)) c q (rw entered-length hc) hq (omega arith) (omega arith) (before b d ∙ z)
+        | yes e ↦ keeps left (suc i) more c q (λ j k f g. omega arith) ∙ here b refl e
+        | no d ↦ gains left (suc i) more c q (rw where-length hc) hq (omega arith) (omega arith) (other d ∙ z)
       ])
     where
-      here : (b : ℕ) → bitAt T i ≡ b → i ≡ 16 * c + q → bit (getD (entered b table (placed marks i)) c 0) q ≡ bit (getD T c 0) q
+      here : (b : ℕ) → bitAt T i ≡ b → i ≡ 16 * c + q → bit (getD (insertedWhere b table (cell (placed marks i)) (i % 16)) c 0) q ≡ bit (getD T c 0) q
       here b f e =
-          let cell : i / 16 ≡ c = omega arith in
+          let number : i / 16 ≡ c = omega arith in
           let member : i % 16 ≡ q = omega arith in
-          by b (rw (cell, member) at f)
+          by b (rw (number, member) at f)
         where
-          by : (b : ℕ) → bit (getD T c 0) q ≡ b → bit (getD (entered b table (placed marks i)) c 0) q ≡ bit (getD T c 0) q
+          by : (b : ℕ) → bit (getD T c 0) q ≡ b → bit (getD (insertedWhere b table (cell (placed marks i)) (i % 16)) c 0) q ≡ bit (getD T c 0) q
           by zero f = z ∙ sym f
           by (suc b) f =
               let o : bit (getD T c 0) q ≡ 1 = omega (arith, bit-lt (getD T c 0) q) in
@@ -98,22 +81,18 @@ module _ (T marks : List ℕ) where
               let one : bit (getD (inserted table (placed marks i)) c 0) q ≡ 1 = rw (p, r) (inserted-new table (placed marks i) (omega arith)) in
               one ∙ sym o
 
-      before : (b : ℕ) → (i ≡ 16 * c + q → ⊥) → bit (getD (entered b table (placed marks i)) c 0) q ≡ bit (getD table c 0) q
-      before zero d = refl
-      before (suc b) d = inserted-other table (placed marks i) c q (λ f g. d (omega arith))
-
   -- the transitions of a table of 128 sets of states below 16 give it back
   table-back : 128 ≤ length T → ((c q : ℕ) → Member (getD T c 0) q → q < 16) → (empty : List ℕ) → length empty ≡ 128 → ((c : ℕ) → c < 128 → getD empty c 0 ≡ 0)
       → tableOf empty (transitionsOf T marks 0 mostTransitions) ≡ take 128 T
   table-back h within empty k z =
       ext-getD 0 (tableOf empty (transitionsOf T marks 0 mostTransitions)) (take 128 T) (size ∙ sym (length-take-le 128 T h))
-      (λ c l. let l′ : c < 128 = omega (arith, size) in rw (getD-take 128 T c 0 l′) (cell c l′))
+      (λ c l. let l′ : c < 128 = omega (arith, size) in rw (getD-take 128 T c 0 l′) (same c l′))
     where
       size : length (tableOf empty (transitionsOf T marks 0 mostTransitions)) ≡ 128
       size = table-length (transitionsOf T marks 0 mostTransitions) empty ∙ k
 
-      cell : (c : ℕ) → c < 128 → getD (tableOf empty (transitionsOf T marks 0 mostTransitions)) c 0 ≡ getD T c 0
-      cell c l = ext _ _ (λ q. at q (decLt q 16))
+      same : (c : ℕ) → c < 128 → getD (tableOf empty (transitionsOf T marks 0 mostTransitions)) c 0 ≡ getD T c 0
+      same c l = ext _ _ (λ q. at q (decLt q 16))
         where
           none : (q : ℕ) → bit (getD empty c 0) q ≡ 0
           none q = ap (λ (x : ℕ). bit x q) (z c l) ∙ bit-zero q

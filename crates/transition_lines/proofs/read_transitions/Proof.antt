@@ -1,4 +1,4 @@
--- The loop's invariant: what is left of the definition, from the place and the table reached, is the whole of it. Assumes nothing.
+-- The loop's invariant: what is left of the definition, from the place reached and the two tables as they are there, is the whole of it. Assumes nothing.
 use Prim.Native.Nat.{ℕ, _+_, _-_, _*_, _≤_, _<_}
 use mathlib.Core.Path.{_≡_, refl, sym, ap, _∙_}
 use native.Mathlib.Omega.{arith}
@@ -15,14 +15,14 @@ use Rattle.format.specs.FormatLaws.{transition-width}
 use Rattle.lists.specs.Choice.{choose}
 use Rattle.superseding.specs.Superseding.{supersedingIn}
 use Rattle.format.specs.Format.{Transition, transitionIndex, transitionWidth}
-use Rattle.format.specs.NumbersLaws.{transition}
+use Rattle.format.specs.NumbersLaws.{transition, where-length}
 use Rattle.format.specs.Numbers.{inserted}
 use Rattle.transition_lines.specs.declared.TransitionLine.{TransitionLine}
 use Rattle.transition_lines.specs.TransitionLines.{withTransition, ifInForce, withMarked, transitionsAt, FillsTable}
 use Rattle.frame.specs.Phase.{Phase, refused}
 use Rattle.frame.specs.declared.End.{End}
 use Rattle.frame.specs.declared.End.the-variants as End
-use Rattle.transition_lines.specs.TransitionStepLaws.{transitions-turn, transitions-done, TablesLeft, end-fills, where-length, where-drop, where-take}
+use Rattle.transition_lines.specs.TransitionStepLaws.{transitions-turn, transitions-done, TablesLeft, end-fills, where-drop, where-take}
 use Rattle.text.specs.WordLaws.{within}
 use borrow.Author.Needs.{needs}
 use Rattle.transition_lines.proofs.read_transitions.Statement.{statement}
@@ -228,10 +228,10 @@ loop-again c =
       omega (arith, size, width),
       omega arith,
       simp length-set (l .inv .3),
-      ap length placed ∙ (where-length (t .mark) (l .marks) t ∙ l .inv .4),
+      ap length placed ∙ (where-length (t .mark) (l .marks) (8 * z .0 + z .1 .0) (t .to) ∙ l .inv .4),
       drop-set-lt 128 (l .table) (8 * z .0 + z .1 .0) (c .before .before .before .before .insert .result) b ∙ l .inv .5,
-      ap (drop 128) placed ∙ (where-drop (t .mark) (l .marks) t b ∙ l .inv .6),
-      rw (size .0, ap (take 128) placed ∙ where-take (t .mark) (l .marks) t b, take-set-lt 128 (l .table) (8 * z .0 + z .1 .0) (c .before .before .before .before .insert .result) b, c .before .before .before .before .insert .ensures, ← getD-take 128 (l .table) (8 * z .0 + z .1 .0) 0 b)
+      ap (drop 128) placed ∙ (where-drop (t .mark) (l .marks) (8 * z .0 + z .1 .0) (t .to) b ∙ l .inv .6),
+      rw (size .0, ap (take 128) placed ∙ where-take (t .mark) (l .marks) (8 * z .0 + z .1 .0) (t .to) b, take-set-lt 128 (l .table) (8 * z .0 + z .1 .0) (c .before .before .before .before .insert .result) b, c .before .before .before .before .insert .ensures, ← getD-take 128 (l .table) (8 * z .0 + z .1 .0) 0 b)
           (letter-turn (c .before .before .before .before .before .before .before) true (eq-eqb _ _ (c .before .before .before .before .before .before .if2 .left))),
     )
 
