@@ -1,6 +1,6 @@
 -- The recurrence rule: for each edition, what a reading has without end in the documents' words is to take recurrent transitions without end. Assumes nothing.
 use Rattle.std.specs.Prelude.{ℕ, zero, suc, ◌<◌, ◌↔◌}
-use Rattle.std.proofs.Math.Logic.{Dec·and, Dec·of-iff}
+use mathlib.Core.Logic.Dec
 use Rattle.std.proofs.Common.{arith}
 use Rattle.sets.specs.Sets.{Member}
 use Rattle.sets.specs.SetLaws.{member-dec}
@@ -40,6 +40,6 @@ rule-dec TransitionBased A l q r = member-dec (successor_set A.marks q l) r
 
 pub recurrent-dec : (A : Automaton) (l q r : ℕ) → Dec (Recurrent A l q r)
 recurrent-dec A l q r =
-    Dec·of-iff
+    Dec.of_iff
     (λ (a, b). record { edge = a; rule = b }, λ e. (e.edge, e.rule))
-    (Dec·and (edge-dec (graph_of A) l q r) (rule-dec A.edition A l q r))
+    (Dec.and (edge-dec (graph_of A) l q r) (rule-dec A.edition A l q r))

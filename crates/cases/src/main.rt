@@ -1,5 +1,6 @@
 // Runs the library on each case: the files 000, 001, .. of data/, up to the first that is not there. Each gets a line: the verdict, the
 // listing's length and sum, the length and sum of the sheet written out, and those of a word to one of the tuples; or refusals in their places.
+#![tactic(auto)]
 ghost use Rattle.std.specs.Prelude.{◌<◌, ◌≤◌, length};
 
 use file_way::Way;

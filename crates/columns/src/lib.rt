@@ -1,4 +1,5 @@
 // Numbers in columns, and the lines made of them: read and written.
+#![tactic(auto)]
 ghost use Rattle.std.specs.Prelude.{◌≡◌, ◌&&◌, ◌+◌, ◌<◌, ◌≤◌, ◌^◌, length};
 ghost use Rattle.std.proofs.lemmas.List.Edits.{sets};
 ghost use Rattle.columns.specs.Column.{digit_byte, column};
@@ -6,14 +7,14 @@ ghost use Rattle.columns.specs.Number.{digit_of, number_of, number_at, is_number
 ghost use Rattle.columns.specs.Pair.{pair_at, word_and_pair};
 
 // A number that was read, or none.
-#[derive(Drop)]
+#[derive(Clone, Copy)]
 pub enum Number {
     Is(usize),
     Bad,
 }
 
 // Two numbers that were read, or none.
-#[derive(Drop)]
+#[derive(Clone, Copy)]
 pub enum Pair {
     Are(usize, usize),
     Bad,

@@ -2,7 +2,7 @@
 use Prim.Native.Nat.{ℕ, zero, suc, ◌+◌, ◌*◌, ◌-◌, ◌≤◌, ◌<◌}
 use Rattle.std.specs.Prelude.{◌≡◌, refl, ◌⊎◌}
 use Rattle.std.proofs.Common.{sym, subst, inl, inr}
-use Rattle.std.proofs.Math.Logic.{Dec·and, Dec·not, Dec·not-not}
+use mathlib.Core.Logic.Dec
 use native.Mathlib.Omega.{arith}
 use Rattle.std.proofs.Math.Decide.{ℕ_discrete}
 use Rattle.finite.specs.Finite.{find}
@@ -34,7 +34,7 @@ module _ (premise : LPO) (n : ℕ) (E : ℕ → ℕ → ℕ → Type 0) (dec_e :
 
   dec_alive : (d t q : ℕ) → Dec (Alive d t q)
   dec_alive zero t q = yes tt
-  dec_alive (suc d) t q = by (find (λ r. E t q r × Alive d (suc t) r) (λ r. Dec·and (dec_e t q r) (dec_alive d (suc t) r)) n)
+  dec_alive (suc d) t q = by (find (λ r. E t q r × Alive d (suc t) r) (λ r. Dec.and (dec_e t q r) (dec_alive d (suc t) r)) n)
     where
       by : ((r : ℕ) × (r < n) × (E t q r × Alive d (suc t) r)) ⊎ ((r : ℕ) → r < n → E t q r × Alive d (suc t) r → ⊥)
           → Dec ((r : ℕ) × (r < n) × E t q r × Alive d (suc t) r)
@@ -50,11 +50,11 @@ module _ (premise : LPO) (n : ℕ) (E : ℕ → ℕ → ℕ → Type 0) (dec_e :
   Forever t q = (d : ℕ) → Alive d t q
 
   forever? : (t q : ℕ) → Forever t q ⊎ ((d : ℕ) × (Alive d t q → ⊥))
-  forever? t q = by (recurs-or-stops premise (λ d. Alive d t q → ⊥) (λ d. Dec·not (dec_alive d t q)))
+  forever? t q = by (recurs-or-stops premise (λ d. Alive d t q → ⊥) (λ d. Dec.not (dec_alive d t q)))
     where
       by : ((e : ℕ) → (d : ℕ) × (e ≤ d) × (Alive d t q → ⊥)) ⊎ ((e : ℕ) × ((d : ℕ) → e ≤ d → (Alive d t q → ⊥) → ⊥)) → Forever t q ⊎ ((d : ℕ) × (Alive d t q → ⊥))
       by (inl dies) = let (d, l, f) = dies 0 in inr (d, f)
-      by (inr (e, lives)) = inl (λ d. less d (e + d) t q (omega arith) ((Dec·not-not (dec_alive (e + d) t q)).0 (lives (e + d) (omega arith))))
+      by (inr (e, lives)) = inl (λ d. less d (e + d) t q (omega arith) ((Dec.not-not (dec_alive (e + d) t q)).0 (lives (e + d) (omega arith))))
 
   -- of finitely many states, some of which is alive for each d, one is alive for ever
   some-forever : (t : ℕ) (Z : ℕ → Type 0) → ((q : ℕ) → Dec (Z q)) → ((d : ℕ) → (q : ℕ) × (q < n) × Z q × Alive d t q)

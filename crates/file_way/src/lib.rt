@@ -1,4 +1,5 @@
 // How one gets to a tuple of the tracker of a sheet file: a shortest word to it, in lent letters.
+#![tactic(auto)]
 ghost use Rattle.gate.specs.Gate.{Decides};
 ghost use Rattle.automaton.specs.Automaton.{transition_sets};
 ghost use Rattle.lent.specs.Lent.{witness_tables};
@@ -10,7 +11,7 @@ ghost use Rattle.file_way.specs.Finish.{Followable, Finished};
 use gate::Refusal;
 use tracker::Built;
 
-#[derive(Drop)]
+#[derive(Clone, Copy)]
 pub enum Way {
     Refused(Refusal),
     NoSuchTuple,

@@ -5,7 +5,8 @@ use Rattle.std.specs.Prelude.{◌≡◌, refl, ◌⊎◌, ◌↔◌, set, take, 
 use Rattle.std.proofs.Common.{sym, ◌∙◌, take_at, get_or-set_other, add-zero, zero-add}
 use Rattle.std.proofs.Math.Path.{ap, subst}
 use mathlib.Core.List.{List, [], ◌∷◌}
-use Rattle.std.proofs.Math.Logic.{inl, inr, Dec·and}
+use Rattle.std.proofs.Math.Logic.{inl, inr}
+use mathlib.Core.Logic.Dec
 use Rattle.gate.specs.GateLaws.{zeros}
 use Rattle.std.proofs.Math.ListN.{length, get_or, length-set}
 use Rattle.std.proofs.Math.Seq.{get_or-set_same, set_out}
@@ -126,14 +127,14 @@ module _ (table : List ℕ) (t : Transition) where
 
   module _ (c r : ℕ) where
     inserted-old : cell t < length table → Member (get_or table c 0) r → Member (get_or (inserted table t) c 0) r
-    inserted-old fits m = by (Dec·and (ℕ_discrete c (cell t)) (ℕ_discrete r t.to))
+    inserted-old fits m = by (Dec.and (ℕ_discrete c (cell t)) (ℕ_discrete r t.to))
       where
         by : Dec ((c ≡ cell t) × (r ≡ t.to)) → Member (get_or (inserted table t) c 0) r
         by (yes (e, f)) = rw (e, f) (inserted_new fits)
         by (no d) = inserted-other c r (λ e f. d (e, f)) ∙ m
 
     inserted-from : Member (get_or (inserted table t) c 0) r → Member (get_or table c 0) r ⊎ ((c ≡ cell t) × (r ≡ t.to))
-    inserted-from m = by (Dec·and (ℕ_discrete c (cell t)) (ℕ_discrete r t.to))
+    inserted-from m = by (Dec.and (ℕ_discrete c (cell t)) (ℕ_discrete r t.to))
       where
         by : Dec ((c ≡ cell t) × (r ≡ t.to)) → Member (get_or table c 0) r ⊎ ((c ≡ cell t) × (r ≡ t.to))
         by (yes e) = inr e

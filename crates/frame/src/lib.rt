@@ -1,4 +1,5 @@
 // The first and the last line, which a sheet file and a plan file share: a word with two numbers, and END.
+#![tactic(auto)]
 ghost use Rattle.std.specs.Prelude.{◌≡◌, [], ◌<◌, ◌^◌, length};
 ghost use Rattle.columns.specs.Pair.{word_and_pair};
 ghost use Rattle.frame.specs.Phase.{first_phase, end_at};
@@ -8,7 +9,7 @@ use columns::Pair;
 use gate::Refusal;
 
 // What the two numbers of a first line may be: the first from `least` to `most`, the second from `low` to `high`.
-#[derive(Drop)]
+#[derive(Clone, Copy)]
 pub struct Bounds {
     pub least: usize,
     pub most: usize,
@@ -17,21 +18,21 @@ pub struct Bounds {
 }
 
 // The answer of a first line.
-#[derive(Drop)]
+#[derive(Clone, Copy)]
 pub enum First {
     Refused(Refusal),
     Are(usize, usize),
 }
 
 // The next line's position and number.
-#[derive(Drop)]
+#[derive(Clone, Copy)]
 pub struct Position {
     pub at: usize,
     pub line: usize,
 }
 
 // The answer of a last line, and of the lines that END follows.
-#[derive(Drop)]
+#[derive(Clone, Copy)]
 pub enum End {
     Refused(Refusal),
     Reached,

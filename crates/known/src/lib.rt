@@ -1,1 +1,2 @@
 // Document 01's known cases, shown from the definitions: specifications only.
+#![tactic(auto)]

@@ -1,4 +1,5 @@
 // The letter of a name in a sheet file.
+#![tactic(auto)]
 mod finding;
 
 ghost use Rattle.lent.specs.Lent.{witness_tables};
@@ -8,7 +9,7 @@ use gate::Refusal;
 use reading::Read;
 
 // The answer of a search for a name: a refusal, or the letter's number.
-#[derive(Drop)]
+#[derive(Clone, Copy)]
 pub enum Found {
     Refused(Refusal),
     Letter(usize),

@@ -1,4 +1,5 @@
 // The name of a letter in a sheet file, and the number for which it has none.
+#![tactic(auto)]
 mod spelling;
 
 ghost use Rattle.letters.specs.Letters.{NameIs, NumberIs};

@@ -1,4 +1,5 @@
 // The text of a listing: how long it is, and its lines written one behind the other.
+#![tactic(auto)]
 ghost use Rattle.std.specs.Prelude.{◌≡◌, ◌+◌, ◌*◌, ◌≤◌, length};
 ghost use Rattle.std.proofs.lemmas.List.Edits.{sets};
 ghost use Rattle.gate.specs.Gate.{lent_text};

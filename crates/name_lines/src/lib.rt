@@ -1,4 +1,5 @@
 // The name lines of a sheet: questions 5 and 6.
+#![tactic(auto)]
 ghost use Rattle.std.specs.Prelude.{◌≡◌, ◌+◌, ◌<◌, ◌≤◌, ◌^◌, [], length};
 ghost use Rattle.names.specs.Scan.{name_fits};
 ghost use Rattle.name_lines.specs.NameLines.{name_line_at, names_at, NamesRead};
@@ -8,7 +9,7 @@ use gate::Refusal;
 use names::Ending;
 
 // The answer of the name lines.
-#[derive(Drop)]
+#[derive(Clone, Copy)]
 pub enum Names {
     Refused(Refusal),
     Are(Position),

@@ -1,11 +1,12 @@
 // The names of letters: what a name is, and where one ends.
+#![tactic(auto)]
 ghost use Rattle.std.specs.Prelude.{◌≡◌, ◌+◌, ◌<◌, ◌≤◌, ◌^◌, length};
 ghost use Rattle.gate.specs.Gate.{Decides};
 ghost use Rattle.names.specs.Name.{one_of, is_umlaut, is_vowel, is_decomposed, IsName};
 ghost use Rattle.names.specs.Scan.{width_of, parts_end, name_end_at, name_fits};
 
 // Where a name ends: the position of the LF behind it.
-#[derive(Drop)]
+#[derive(Clone, Copy)]
 pub enum Ending {
     At(usize),
     Bad,

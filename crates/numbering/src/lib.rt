@@ -1,1 +1,2 @@
 // Which tuples a tracker has, and how they are numbered: specifications only.
+#![tactic(auto)]

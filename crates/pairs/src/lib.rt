@@ -1,1 +1,2 @@
 // How long a shortest word with meeting walks can be: specifications only.
+#![tactic(auto)]

@@ -1,4 +1,5 @@
 // The lines of a sheet file, read from the top: questions 2 to 9, 15 and 16.
+#![tactic(auto)]
 pub mod whole_file;
 
 use automaton::{Edition, Numbers};
@@ -8,7 +9,7 @@ use gate::Refusal;
 pub const MOST: usize = 32768;
 
 // The first line of a sheet: its edition, n and k.
-#[derive(Drop)]
+#[derive(Clone, Copy)]
 pub struct Sizes {
     pub edition: Edition,
     pub n: usize,
@@ -16,7 +17,7 @@ pub struct Sizes {
 }
 
 // The answer of a whole file on these questions.
-#[derive(Drop)]
+#[derive(Clone, Copy)]
 pub enum File {
     Refused(Refusal),
     Is(Numbers),

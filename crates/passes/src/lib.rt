@@ -1,9 +1,10 @@
 // The verdict on an endless word of letters, by tuple numbers: nothing is asked of a tracker's tables but next numbers and colours.
+#![tactic(auto)]
 ghost use Rattle.std.specs.Prelude.{◌≡◌, ◌+◌, ◌*◌, ◌<◌, ◌≤◌, min, length, get_or};
 ghost use Rattle.passes.specs.Passes.{LeastOf, AnswerIs, is_yes};
 ghost use Rattle.passes.specs.TableRun.{AllBelow, TablesFit, LettersFit, word_of, Passing, TableJudges};
 
-#[derive(Drop)]
+#[derive(Clone, Copy)]
 pub enum Answer {
     Yes,
     No,
@@ -20,7 +21,7 @@ pub fn is_yes(answer: Answer) -> bool
 }
 
 // "yes or no with least colour and passes"
-#[derive(Drop)]
+#[derive(Clone, Copy)]
 pub struct Verdict {
     pub answer: Answer,
     pub least: u16,
@@ -28,7 +29,7 @@ pub struct Verdict {
 }
 
 // Where a pass of some letters ends, and the least colour that it entered.
-#[derive(Drop)]
+#[derive(Clone, Copy)]
 struct Pass {
     at: usize,
     least: u16,

@@ -1,4 +1,5 @@
 // The plan file, read into letters.
+#![tactic(auto)]
 pub mod whole_file;
 
 use gate::Refusal;
@@ -7,14 +8,14 @@ use gate::Refusal;
 pub const MOST: usize = 12288;
 
 // How many letters a plan's lead-in and cycle have.
-#[derive(Drop)]
+#[derive(Clone, Copy)]
 pub struct PlanLengths {
     pub lead: usize,
     pub cycle: usize,
 }
 
 // The answer of reading a plan: a refusal, or its lengths, with the letters in a lent buffer.
-#[derive(Drop)]
+#[derive(Clone, Copy)]
 pub enum Planned {
     Refused(Refusal),
     Is(PlanLengths),

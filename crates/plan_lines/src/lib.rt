@@ -1,4 +1,5 @@
 // The name lines of a plan: questions 12 and 14.
+#![tactic(auto)]
 ghost use Rattle.std.specs.Prelude.{◌≡◌, List, [], ℕ, ◌<◌, ◌≤◌, ◌^◌, length};
 ghost use Rattle.name_rows.specs.Rows.{HoldNames, OnlyRow};
 ghost use Rattle.superseding.specs.Superseding.{superseding_in};
@@ -11,7 +12,7 @@ use name_rows::letter_of;
 use names::Ending;
 
 // A line with a name.
-#[derive(Drop)]
+#[derive(Clone, Copy)]
 pub enum LetterLine {
     // The letter that finally stands for it, and the position of its LF.
     Is(usize, usize),
@@ -22,7 +23,7 @@ pub enum LetterLine {
 }
 
 // The answer of the name lines: a refusal, or the next line.
-#[derive(Drop)]
+#[derive(Clone, Copy)]
 pub enum Letters {
     Refused(Refusal),
     Are(Position),

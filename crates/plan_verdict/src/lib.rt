@@ -1,4 +1,5 @@
 // A plan file judged on a tracker's tables.
+#![tactic(auto)]
 ghost use Rattle.std.specs.Prelude.{◌≡◌, ◌≤◌, length};
 ghost use Rattle.name_rows.specs.Rows.{OnlyRow};
 ghost use Rattle.automaton.specs.Automaton.{transition_sets};
@@ -15,7 +16,7 @@ use plan::Planned;
 use plan::whole_file::read_plan;
 
 // "The outcome is either a refusal or yes or no with least colour and passes."
-#[derive(Drop)]
+#[derive(Clone, Copy)]
 pub enum Outcome {
     Refused(Refusal),
     Judged(Verdict),

@@ -1,4 +1,5 @@
 // Questions 2 to 10 on a sheet file, which is read once: its numbers, its successor sets, its marks and its composed names.
+#![tactic(auto)]
 ghost use Rattle.std.specs.Prelude.{◌≡◌, ◌≤◌, length};
 ghost use Rattle.automaton.specs.Automaton.{transition_sets};
 ghost use Rattle.lent.specs.Lent.{witness_tables, EnoughForSheet, cleared_witness, cleared_sets};
@@ -10,7 +11,7 @@ use parser::File;
 use parser::whole_file::read_file;
 
 // The answer of reading: a refusal, or the sheet's numbers, whose successor sets and marks stand in the lent tables.
-#[derive(Drop)]
+#[derive(Clone, Copy)]
 pub enum Read {
     Refused(Refusal),
     Is(Numbers),

@@ -1,4 +1,5 @@
 // Writes the sheet on standard input out again, with composed letters; or prints its refusal, with the two walks of a 10.
+#![tactic(auto)]
 use libc::{STDERR_FILENO, STDOUT_FILENO};
 use stdin::Input;
 

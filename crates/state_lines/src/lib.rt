@@ -1,4 +1,5 @@
 // The state lines of a sheet: question 7.
+#![tactic(auto)]
 ghost use Rattle.std.specs.Prelude.{◌≡◌, ◌<◌, ◌≤◌, ◌^◌};
 ghost use Rattle.automaton.specs.declared.Edition.TheVariants.{StateBased, TransitionBased};
 ghost use Rattle.state_lines.specs.StateLines.{state_line_at, states_at, FlagsFit, states_answer, SetsFit};
@@ -8,14 +9,14 @@ use columns::Pair;
 use gate::Refusal;
 
 // The initial and the must-recur flag of a state line; in SHT-2 the second is 0.
-#[derive(Drop)]
+#[derive(Clone, Copy)]
 pub enum StateLine {
     Is(usize, usize),
     Bad,
 }
 
 // The initial and the must-recur set of the state lines, and the next line's position and number.
-#[derive(Drop)]
+#[derive(Clone, Copy)]
 pub struct Sets {
     pub initial: u16,
     pub recurring: u16,
@@ -24,7 +25,7 @@ pub struct Sets {
 }
 
 // The answer of the state lines.
-#[derive(Drop)]
+#[derive(Clone, Copy)]
 pub enum States {
     Refused(Refusal),
     Are(Sets),

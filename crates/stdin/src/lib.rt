@@ -1,11 +1,12 @@
 // Standard input, read into a buffer; a read that fails is told from an input that ends.
+#![tactic(auto)]
 ghost use Rattle.std.specs.Prelude.{◌≤◌, length};
 ghost use Rattle.stdin.specs.Input.{ReadWithin};
 
 use libc::STDIN_FILENO;
 
 // A read has failed, or so many bytes stand at the front of the buffer.
-#[derive(Drop)]
+#[derive(Clone, Copy)]
 pub enum Input {
     Failed,
     Bytes(usize),

@@ -1,1 +1,2 @@
 // The determinization theorem: specifications only.
+#![tactic(auto)]

@@ -1,4 +1,5 @@
 // Lists the tracker of the sheet on standard input (room 1,024), or prints its refusal.
+#![tactic(auto)]
 use libc::{STDERR_FILENO, STDOUT_FILENO};
 use stdin::Input;
 

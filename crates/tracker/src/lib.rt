@@ -1,4 +1,5 @@
 // The tracker: every tuple that some word reaches, numbered as found, in lent tables.
+#![tactic(auto)]
 ghost use Rattle.automaton.specs.Automaton.{transition_sets, automaton, Fits};
 ghost use Rattle.gate.specs.Gate.{Decides};
 ghost use Rattle.lent.specs.Lent.{witness_tables};
@@ -10,13 +11,13 @@ use gate::Refusal;
 use walks::Checked;
 
 // A tracker that was built: the sheet's numbers, and how many tuples the tables hold.
-#[derive(Drop)]
+#[derive(Clone, Copy)]
 pub struct Tracker {
     pub numbers: Numbers,
     pub tuples: usize,
 }
 
-#[derive(Drop)]
+#[derive(Clone, Copy)]
 pub enum Built {
     Refused(Refusal),
     Is(Tracker),

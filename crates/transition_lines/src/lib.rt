@@ -1,4 +1,5 @@
 // The transition lines of a sheet and its end: questions 8, 16 and 9.
+#![tactic(auto)]
 ghost use Rattle.std.specs.Prelude.{◌≡◌, ◌+◌, ◌<◌, ◌≤◌, ◌^◌, length, take};
 ghost use Rattle.superseding.specs.Superseding.{superseding_in};
 ghost use Rattle.automaton.specs.Automaton.{transition_sets};
@@ -13,7 +14,7 @@ use frame::{End, end_line};
 use gate::Refusal;
 
 // From, letter, to and mark of a transition line; in SHEET the mark is 0.
-#[derive(Drop)]
+#[derive(Clone, Copy)]
 pub enum TransitionLine {
     Is(usize, usize, usize, usize),
     Bad,

@@ -1,5 +1,6 @@
 // The record of a tuple in a lent table: its row, which is what is compared, and behind it the way back. No other crate's code knows the widths, or which
 // cell holds what.
+#![tactic(auto)]
 ghost use Rattle.std.specs.Prelude.{◌≡◌, ◌<◌, ◌≤◌, ◌+◌, length};
 ghost use Rattle.std.proofs.lemmas.List.Edits.{sets};
 ghost use Rattle.tuple_record.specs.Record.{row_cells, record_cells, record_start, row_at, Stored};
@@ -22,7 +23,7 @@ pub const LETTER: usize = 18;
 pub const RECORD: usize = 19;
 
 // The way back from a tuple: the tuple and the letter that it was first found from.
-#[derive(Drop)]
+#[derive(Clone, Copy)]
 pub struct WayBack {
     pub from: u16,
     pub letter: u16,

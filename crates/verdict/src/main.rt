@@ -1,4 +1,5 @@
 // The verdict on the sheet and the plan on standard input (room 1,024), or the refusal.
+#![tactic(auto)]
 use libc::{STDERR_FILENO, STDOUT_FILENO};
 use stdin::Input;
 

@@ -1,4 +1,5 @@
 // The walk check: question 10, and the whole check of a sheet that is handed over as numbers.
+#![tactic(auto)]
 ghost use Rattle.std.specs.Prelude.{◌≡◌};
 ghost use Rattle.automaton.specs.Automaton.{transition_sets, automaton};
 ghost use Rattle.automaton.specs.Graph.{graph};
@@ -10,7 +11,7 @@ use automaton::{GraphNumbers, Numbers};
 use gate::Refusal;
 
 // Accepted, or refused with the number of the first question that is answered no.
-#[derive(Drop)]
+#[derive(Clone, Copy)]
 pub enum Checked {
     Refused(Refusal),
     Accepted,

@@ -1,4 +1,5 @@
 // The withdrawal lines of a sheet: question 15.
+#![tactic(auto)]
 ghost use Rattle.std.specs.Prelude.{◌≡◌, ◌+◌, ◌<◌, ◌≤◌, ◌^◌, length};
 ghost use Rattle.superseding.specs.Superseding.{superseding_in};
 ghost use Rattle.withdrawal_lines.specs.WithdrawalLines.{withdrawal_line_at, withdrawals_at, WithdrawalFits, WithdrawalsRead};
@@ -8,14 +9,14 @@ use frame::Position;
 use gate::Refusal;
 
 // Letter and superseding letter of a withdrawal line.
-#[derive(Drop)]
+#[derive(Clone, Copy)]
 pub enum WithdrawalLine {
     Is(usize, usize),
     Bad,
 }
 
 // The answer of the withdrawal lines.
-#[derive(Drop)]
+#[derive(Clone, Copy)]
 pub enum Withdrawals {
     Refused(Refusal),
     Are(Position),

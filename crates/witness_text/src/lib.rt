@@ -1,4 +1,5 @@
 // The word and the two walks of a 10, line by line.
+#![tactic(auto)]
 ghost use Rattle.std.specs.Prelude.{◌+◌, ◌≤◌, ◌≡◌, ◌∷◌, length};
 ghost use Rattle.text.specs.Bytes.{space};
 ghost use Rattle.columns.specs.Column.{column};
