@@ -1,0 +1,11 @@
+-- Each edition has its width. Assumes nothing.
+use native.Mathlib.Omega.{arith}
+use mathlib.Core.Path.{refl}
+use borrow.Author.Rules.{rules}
+use Rattle.format.proofs.transition_width.Goals as goal
+
+pub returns-in-StateBased : goal.returns-in-StateBased
+returns-in-StateBased c = rw c.in-StateBased.is (refl, omega arith)
+
+pub returns-in-TransitionBased : goal.returns-in-TransitionBased
+returns-in-TransitionBased c = rw c.in-TransitionBased.is (refl, omega arith)

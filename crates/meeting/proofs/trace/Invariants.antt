@@ -1,0 +1,19 @@
+-- The invariant: the tables hold the walks from time t on, where they are in pair i. The measure is t. Assumes nothing.
+use Prim.Native.Nat.{ℕ, suc, ◌/◌, ◌-◌, ◌≤◌, ◌<◌}
+use mathlib.Core.Path.{◌≡◌, refl, subst, ◌∙◌}
+use native.Mathlib.Omega.{arith}
+use lib.ListN.{length}
+use Rattle.lent.specs.Lent.{witness_tables}
+use Rattle.queue.specs.Queue.{pair, depth}
+use Rattle.meeting.specs.Trace.{Leads}
+use Rattle.meeting.specs.TraceLaws.{leads-step}
+use borrow.Author.Rules.{rules}
+use Rattle.meeting.proofs.trace.Given as goal
+
+abbrev pub invariant-loop-t : goal.invariant-loop-t
+invariant-loop-t l =
+    (l.i ≤ l.head) × (l.t ≤ l.d) × (depth (pair l.queue l.i) ≡ l.t) × (length l.word ≡ length l.initial.word) × (length l.one ≡ length l.initial.one) × (length l.other ≡ length l.initial.other)
+    × Leads l.queue l.head l.d l.t l.i (witness_tables l.initial.word l.initial.one l.initial.other) (witness_tables l.word l.one l.other)
+
+abbrev pub decreases-loop-t : goal.decreases-loop-t
+decreases-loop-t l = l.t

@@ -1,0 +1,15 @@
+-- `names::parts_end` meets its contract. The loop's invariant: the parts from here on end where those from `start` on do. Assumes nothing.
+use Prim.Native.Nat.{◌+◌, ◌-◌, ◌*◌, ◌≤◌}
+use mathlib.Core.Path.{◌≡◌, refl, sym, ◌∙◌}
+use native.Mathlib.Omega.{arith}
+use Rattle.names.specs.Scan.{width_at, parts_end}
+use Rattle.names.specs.ScanLaws.{parts-stop, parts_next, parts-full}
+use borrow.Author.Rules.{rules}
+use Rattle.names.proofs.parts_end.Given as goal
+
+abbrev pub invariant-loop-turn : goal.invariant-loop-turn
+invariant-loop-turn l =
+    (l.turn ≤ 25) × (l.start ≤ l.at) × (l.at ≤ l.start + 3 * l.turn) × (parts_end l.s l.at (25 - l.turn) ≡ parts_end l.s l.start 25)
+
+abbrev pub decreases-loop-turn : goal.decreases-loop-turn
+decreases-loop-turn l = 25 - l.turn

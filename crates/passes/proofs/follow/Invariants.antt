@@ -1,0 +1,20 @@
+-- The loop's invariant: the number reached on the letters read, and the least colour of those entered. Assumes nothing.
+use Prim.Native.Nat.{ℕ, suc, ◌+◌, ◌-◌, ◌*◌, ◌≤◌, ◌<◌}
+use mathlib.Core.Path.{◌≡◌, refl, sym, ◌∙◌, ap}
+use native.Mathlib.Omega.{arith}
+use native.Mathlib.Numerals.{add-one}
+use lib.ListN.{get_or}
+use Rattle.tuple_record.specs.Record.{set_cells, record_start, colour_in}
+use Rattle.passes.specs.TableRun.{reached, entered_in}
+use Rattle.passes.specs.LeastLaws.{LeastSoFar, so_far_more}
+use Rattle.passes.specs.TableRunLaws.{reached-none, reached-more}
+use borrow.Author.Rules.{rules}
+use Rattle.passes.proofs.follow.Given as goal
+
+abbrev pub invariant-loop-i : goal.invariant-loop-i
+invariant-loop-i l =
+    (l.i ≤ l.size) × (l.at < l.count) × (l.at ≡ reached l.nexts l.start (λ j. get_or l.letters (l.from + j) 0) l.i)
+    × LeastSoFar (entered_in l.tuples l.nexts l.start (λ j. get_or l.letters (l.from + j) 0)) l.i l.least
+
+abbrev pub decreases-loop-i : goal.decreases-loop-i
+decreases-loop-i l = l.size - l.i

@@ -1,0 +1,6 @@
+-- The line has the refusal's number and its line. Assumes nothing.
+use borrow.Author.Rules.{rules}
+use Rattle.report.proofs.refusal_line.Goals as goal
+
+pub returns : goal.returns
+returns c = c.line.ensures

@@ -1,0 +1,45 @@
+-- The output is the text that is written, or its refusal in the cleared buffer. Assumes nothing.
+use mathlib.Core.Path.{refl, subst}
+use lib.ListN.{replicate}
+use native.Mathlib.Omega.{arith}
+use Rattle.gate.specs.declared.Written.{Written}
+use Rattle.lent.specs.Lent.{WitnessTables, witness_tables, EnoughForWitness}
+use Rattle.writer.specs.Write.{write_tables}
+use Rattle.file_writer.specs.FileWrite.{Writes}
+use Rattle.report.specs.Output.{Prints}
+use Rattle.rewrite_output.specs.RewriteLaws.{bytes-printed, refused-short, refused-printed}
+use borrow.Author.Rules.{rules}
+use Rattle.rewrite_output.proofs.rewrite.Goals as goal
+use Rattle.rewrite_output.proofs.rewrite.Goals.{After-write}
+
+-- the witness that writing is lent
+abbrev lent : WitnessTables
+lent = witness_tables (replicate 136 0) (replicate 137 0) (replicate 137 0)
+
+long : EnoughForWitness lent
+long = record { word = omega arith; one = omega arith; other = omega arith }
+
+-- the sheet is written
+abbrev Wrote-as : After-write → Written → Type 0
+Wrote-as c x =
+    let a = c.args in
+    let w = c.write.new.1 in
+    Writes a.input.now (write_tables lent a.out.now) (write_tables (witness_tables w.0 w.1.0 w.1.1.0) w.1.1.1.0) x
+
+pub returns-then-out-lt-OUTPUT : goal.returns-then-out-lt-OUTPUT
+returns-then-out-lt-OUTPUT c = (Prints.short (omega arith) refl refl, refl)
+
+pub put_refusal_text-requires : goal.put_refusal_text-requires
+put_refusal_text-requires c =
+    let room = c.if-out-lt-OUTPUT.false in
+    record { letters = refused-short (subst (Wrote-as (goal.at.put_refusal_text-requires c).After-write) c.in-Refused.is c.write.ensures) long room; long = search rules; room = search rules }
+
+pub returns-in-Bytes : goal.returns-in-Bytes
+returns-in-Bytes c =
+    let room = c.if-out-lt-OUTPUT.false in
+    (bytes-printed (subst (Wrote-as (goal.at.returns-in-Bytes c).After-write) c.in-Bytes.is c.write.ensures) room, refl)
+
+pub returns-in-Refused : goal.returns-in-Refused
+returns-in-Refused c =
+    let room = c.if-out-lt-OUTPUT.false in
+    (refused-printed (subst (Wrote-as (goal.at.returns-in-Refused c).After-write) c.in-Refused.is c.write.ensures) long room c.put_refusal_text.ensures, refl)

@@ -1,0 +1,8 @@
+-- What the two calls ensure. Assumes nothing.
+use mathlib.Core.Path.{ap, ◌∙◌}
+use borrow.Author.Rules.{rules}
+use Rattle.sets.specs.Sets.{union_of}
+use Rattle.sets.proofs.insert.Goals as goal
+
+pub returns : goal.returns
+returns c = c.union.ensures ∙ ap (union_of _) c.single.ensures

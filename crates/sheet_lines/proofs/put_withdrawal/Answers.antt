@@ -1,0 +1,8 @@
+-- `sheet_lines::put_withdrawal` meets its contract: a withdrawal has two numbers. Assumes nothing.
+use borrow.Author.Rules.{rules}
+use Rattle.format.specs.Format.{withdrawal_line}
+use Rattle.sheet_lines.proofs.put_withdrawal.Goals as goal
+
+pub returns : goal.returns
+unfolding withdrawal_line
+returns c = c.put_two.ensures

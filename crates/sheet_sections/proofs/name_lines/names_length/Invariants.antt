@@ -1,0 +1,19 @@
+-- `sheet_sections::name_lines::names_length` meets its contract. The loop's invariant: what is counted and the lines that are left make all lines.
+-- Assumes nothing.
+use Prim.Native.Nat.{◌+◌, ◌-◌, ◌*◌, ◌≤◌}
+use mathlib.Core.Path.{◌≡◌, ap, ◌∙◌}
+use native.Mathlib.Omega.{arith}
+use native.Mathlib.Nat.{zero-add, sub-zero}
+use lib.ListN.{length}
+use Rattle.format.specs.Format.{name_lines}
+use Rattle.sheet_sections.specs.RowNames.{row_names}
+use Rattle.sheet_sections.specs.RowNamesLaws.{names-last, names-length-next}
+use borrow.Author.Rules.{rules}
+use Rattle.sheet_sections.proofs.name_lines.names_length.Given as goal
+
+abbrev pub invariant-loop-l : goal.invariant-loop-l
+invariant-loop-l l =
+    (l.l ≤ l.k) × (l.count ≤ 30 * l.l) × (l.count + length (name_lines l.l (row_names l.rows l.l (l.k - l.l))) ≡ length (name_lines 0 (row_names l.rows 0 l.k)))
+
+abbrev pub decreases-loop-l : goal.decreases-loop-l
+decreases-loop-l l = l.k - l.l

@@ -1,0 +1,21 @@
+-- The loop's invariant: what is left of the definition, from the place reached, is the whole of it. Assumes nothing.
+use Prim.Native.Nat.{◌+◌, ◌-◌, ◌*◌, ◌^◌, ◌≤◌, ◌<◌}
+use mathlib.Core.Path.{◌≡◌, refl, sym, ◌∙◌, ap}
+use native.Mathlib.Nat.{sub-zero}
+use native.Mathlib.Omega.{arith}
+use lib.Pow.{pow_mono}
+use Rattle.format.specs.Format.{state_width}
+use Rattle.state_lines.specs.declared.StateLine.{StateLine}
+use Rattle.state_lines.specs.StateLines.{with_flags, states_at, states_answer}
+use Rattle.frame.specs.Phase.{refused}
+use Rattle.state_lines.specs.StateStepLaws.{states-turn, states-done, flag-part, double}
+use borrow.Author.Rules.{rules}
+use Rattle.state_lines.proofs.read_states.Given as goal
+
+abbrev pub invariant-loop-q : goal.invariant-loop-q
+invariant-loop-q l =
+    (l.q ≤ l.n) × (l.at ≤ l.start + 11 * l.q) × (l.line ≡ l.first + l.q) × (l.bit ≡ 2 ^ l.q) × (l.initial' < l.bit) × (l.recurring < l.bit) ×
+    (states_at l.edition l.s l.line l.at l.q l.initial' l.recurring (l.n - l.q) ≡ states_at l.edition l.s l.first l.start 0 0 0 l.n)
+
+abbrev pub decreases-loop-q : goal.decreases-loop-q
+decreases-loop-q l = l.n - l.q

@@ -1,0 +1,12 @@
+-- `text::put_bytes` meets its contract. With what is left of it the whole word is stored: `Storing`. Assumes nothing.
+use Prim.Native.Nat.{◌-◌}
+use lib.ListN.{length}
+use Rattle.lists.specs.StoreLaws.{Storing, store-none, store-more, store-end}
+use borrow.Author.Rules.{rules}
+use Rattle.text.proofs.put_bytes.Given as goal
+
+abbrev pub invariant-loop-i : goal.invariant-loop-i
+invariant-loop-i l = Storing l.initial.out l.word l.at l.out l.i
+
+abbrev pub decreases-loop-i : goal.decreases-loop-i
+decreases-loop-i l = length l.word - l.i

@@ -1,0 +1,17 @@
+-- Before each turn: the sets closed up so far, and what is removed from the places left. Assumes nothing.
+use Prim.Native.Nat.{◌+◌, ◌-◌, ◌≤◌, ◌<◌}
+use mathlib.Core.Path.{◌≡◌, ◌∙◌}
+use mathlib.Core.Logic.{inl, inr, ⊎_elim}
+use native.Mathlib.Omega.{arith}
+use lib.ListN.{length, length-set}
+use Rattle.tuple_record.specs.Record.{row_cells}
+use Rattle.tuple.specs.SweepLaws.{Sweeping, sweep-none, sweep-turn, sweep-length, sweep-end}
+use borrow.Author.Rules.{rules}
+use Rattle.tuple.proofs.sweep.Given as goal
+
+abbrev pub invariant-loop-i : goal.invariant-loop-i
+invariant-loop-i l =
+    (l.i ≤ l.p + 1) × (l.j ≤ l.i) × (length l.w ≡ row_cells) × Sweeping l.n l.p (l.p + 1) l.initial.w l.w l.colour.0 l.out l.j l.i
+
+abbrev pub decreases-loop-i : goal.decreases-loop-i
+decreases-loop-i l = l.p + 1 - l.i
