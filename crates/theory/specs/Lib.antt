@@ -3,4 +3,5 @@ pub mod Basic
 pub mod Odd
 pub mod Even
 pub mod Repeating
+pub mod Endless
 pub mod Theorem

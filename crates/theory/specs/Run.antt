@@ -78,3 +78,9 @@ pub record EventuallyLeast (col : ℕ → ℕ) (c : ℕ) : Type 0 where
   pub entered : EnteredWithoutEnd col c
   pub from : ℕ
   pub low : (t : ℕ) → from ≤ t → c ≤ col t
+
+-- c is the least colour entered without end
+pub record Least (col : ℕ → ℕ) (c : ℕ) : Type 0 where
+  pub often : (t : ℕ) → (u : ℕ) × (t ≤ u) × (col u ≡ c)
+  pub from : ℕ
+  pub low : (t : ℕ) → from ≤ t → c ≤ col t

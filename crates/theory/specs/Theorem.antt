@@ -3,10 +3,11 @@ use Rattle.std.specs.Prelude.{ℕ, suc, ◌+◌, ◌*◌, ◌-◌, ◌/◌, ◌%
 use Rattle.std.proofs.Common.{◌∙◌, arith}
 use Rattle.std.proofs.Math.Decide.{ℕ_discrete}
 use Rattle.finite.specs.Least.{lowest, low, often}
-use Rattle.theory.specs.Run.{Run, Path, Often, Alone, Through, EventuallyLeast}
+use Rattle.theory.specs.Run.{Run, Path, Often, Alone, Through, Least, EventuallyLeast}
 use Rattle.theory.specs.Odd.{never-odd}
 use Rattle.theory.specs.Even.{marks}
 use Rattle.theory.specs.Repeating.{through-repeating}
+use Rattle.theory.specs.Endless.{LPO, through-endless}
 
 -- a sequence of colours that repeats: the least of one repetition is the least entered without end
 pub least-repeating : (col : ℕ → ℕ) (T d : ℕ) → ((t : ℕ) → T ≤ t → col (t + suc d) ≡ col t) → EventuallyLeast col (lowest col T d)
@@ -42,3 +43,10 @@ module _ {n : ℕ} {E M S U W : ℕ → ℕ → ℕ → Type 0} {K : ℕ → ℕ
   repeating alone T d edges cols =
       let least = least-repeating col T d cols in
       (even-path (through-repeating R (suc d) T (omega arith) edges) alone (lowest col T d) least, λ (ξ, h, o). path-even (lowest col T d) least ξ h o)
+
+  -- any endless word
+  pub endless : LPO → ((t q r : ℕ) → Dec (E t q r)) → ((t j q : ℕ) → Dec (S t j q)) → Alone E S → (c : ℕ) → Least col c
+      → (c % 2 ≡ 0) ↔ ((ξ : ℕ → ℕ) × Path E S ξ × Often M ξ)
+  endless lpo dec_e dec_s alone c least =
+      let l : EventuallyLeast col c = record { entered = least.often; from = least.from; low = least.low } in
+      (even-path (through-endless lpo R dec_e dec_s) alone c l, λ (ξ, h, o). path-even c l ξ h o)

@@ -4,6 +4,7 @@ use Rattle.std.specs.Prelude.{ℕ, suc, ◌+◌, ◌%◌, ◌≤◌, ◌<◌, �
 use Rattle.std.proofs.Common.{sym, subst, ap, ◌∙◌, arith}
 use Rattle.std.proofs.Math.Decide.{ℕ_discrete}
 use Rattle.sets.specs.Sets.{Member}
+use Rattle.sets.specs.SetLaws.{member-dec}
 use Rattle.automaton.specs.Automaton.{Automaton, graph_of, Fits}
 use Rattle.automaton.specs.Graph.{Edge}
 use Rattle.automaton.specs.Meeting.{Walk, Meet, Free}
@@ -11,11 +12,13 @@ use Rattle.automaton.specs.Endless.{EndlessFrom, MeetingFree}
 use Rattle.automaton.specs.EndlessLaws.{reading-endless, reading-walk}
 use Rattle.automaton.specs.Reading.{Reading, Passes, Recurrent}
 use Rattle.automaton.specs.RecurrenceLaws.{recurs-takes}
+use Rattle.automaton.specs.EdgeLaws.{edge-dec}
 use Rattle.finite.specs.Paths.{glue, glue-lt, glue-ge, extend}
 use Rattle.finite.specs.Least.{lowest}
-use Rattle.theory.specs.Run.{Path, Often, Alone}
-use Rattle.theory.specs.Theorem.{repeating}
-use Rattle.tuple.specs.Step.{run, colour_entered}
+use Rattle.theory.specs.Run.{Path, Often, Alone, Least}
+use Rattle.theory.specs.Endless.{LPO, least-endless}
+use Rattle.theory.specs.Theorem.{repeating, endless}
+use Rattle.tuple.specs.Step.{place_set, run, colour_entered}
 use Rattle.tuple.specs.PassLaws.{In}
 use Rattle.tuple.specs.TupleLaws.{first-in, first_member}
 use Rattle.tuple.specs.RunLaws.{run-repeats, is-run, set-zero}
@@ -86,6 +89,16 @@ module _ {A : Automaton} (fits : Fits A) (Counts : ℕ → Type 0) (count : (w x
       let edges : (s q r : ℕ) → T ≤ s → Edge (graph_of A) (w s) q r → Edge (graph_of A) (w (s + suc d)) q r =
       λ s q r l e. subst (λ (a : ℕ). Edge (graph_of A) a q r) (sym (word s l)) e in
       let r = repeating (is-run fits w letters) alone T d edges (colours-repeat T d word again) in
+      let p = passes-both A w in
+      (λ e. p.0 (r.0 e), λ h. r.1 (p.1 h))
+
+  -- Any endless word, with the premise LPO: there is a least colour entered without end, and it is even exactly if the sheet passes the word.
+  pub least-colour : LPO → (c : ℕ) × Least (colour_entered A w) c
+  least-colour lpo = least-endless lpo (is-run fits w letters) (λ t. edge-dec (graph_of A) (w t)) (λ t j q. member-dec (place_set (run A w t).sets j) q)
+
+  pub demand-endless : LPO → (c : ℕ) → Least (colour_entered A w) c → (c % 2 ≡ 0) ↔ Passes A w
+  demand-endless lpo c low =
+      let r = endless (is-run fits w letters) lpo (λ t. edge-dec (graph_of A) (w t)) (λ t j q. member-dec (place_set (run A w t).sets j) q) alone c low in
       let p = passes-both A w in
       (λ e. p.0 (r.0 e), λ h. r.1 (p.1 h))
 

@@ -1,5 +1,6 @@
 // One step of the tuple, on its row: the sets, the non-empty ones first, and the colour.
 #![tactic(auto)]
+
 ghost use Rattle.std.specs.Prelude.{◌≡◌, ◌+◌, ◌≤◌, ◌<◌, length};
 ghost use Rattle.tuple_record.specs.Record.{row_cells};
 ghost use Rattle.automaton.specs.Automaton.{automaton};
