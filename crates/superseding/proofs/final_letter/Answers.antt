@@ -13,20 +13,20 @@ pub loop-last-init : goal.loop-last-init
 loop-last-init c = (omega arith, c.superseding-by.ensures.0, refl)
 
 pub superseding-by-requires-in-loop-last : goal.superseding-by-requires-in-loop-last
-superseding-by-requires-in-loop-last c = omega (arith, ltb-true c.loop-last.by 8 c.if-by-lt8.true)
+superseding-by-requires-in-loop-last c = omega (arith, c.if-by-lt8.true)
 
 pub loop-last-preserved : goal.loop-last-preserved
 loop-last-preserved c =
     let l = c.loop-last in
     let a = c.args in
-    let h = ltb-true l.by 8 c.if-by-lt8.true in
+    let h = c.if-by-lt8.true in
     (h, c.superseding-by-in-loop-last.ensures.0, sym (chain-on (superseding_in a.rows.now) l.last l.by l.invariant.1 c.loop-last-test.true h) ∙ l.invariant.2)
 
 pub returns-else-by-lt8 : goal.returns-else-by-lt8
 returns-else-by-lt8 c =
     let l = c.loop-last in
     let a = c.args in
-    let h = ltb-false l.by 8 c.if-by-lt8.false in
+    let h = c.if-by-lt8.false in
     (sym (chain-out (superseding_in a.rows.now) l.last l.by l.invariant.1 h l.invariant.0) ∙ l.invariant.2, l.invariant.0)
 
 pub returns-after-loop-last : goal.returns-after-loop-last
