@@ -1,4 +1,4 @@
-//! Links the exported calls of the library: `rt staticlib exports` and `rt staticlib tracker_exports` write the archives.
+//! Links the exported calls of the library: `tools/build exports tracker_exports` writes the archives.
 
 use std::path::Path;
 
@@ -9,7 +9,7 @@ fn main() {
         let archive = folder.join(format!("lib{name}.a"));
         println!("cargo:rerun-if-changed={}", archive.display());
         if !archive.exists() {
-            panic!("no {}: run `rt staticlib {name}` first", archive.display());
+            panic!("no {}: run `tools/build {name}` first", archive.display());
         }
         println!("cargo:rustc-link-lib=static={name}");
     }

@@ -1,42 +1,48 @@
 // Runs the library on each case: the files 000, 001, .. of data/, up to the first that is not there. Each gets a line: the verdict, the
 // listing's length and sum, the length and sum of the sheet written out, and those of a word to one of the tuples; or refusals in their places.
 #![tactic(auto)]
+
 ghost use Rattle.std.specs.Prelude.{◌<◌, ◌≤◌, length};
 
 use file_way::Way;
 use gate::Written;
-use libc::STDOUT_FILENO;
 use passes::Verdict;
 use plan_verdict::Outcome;
+use std::io::{Print, Stdout};
+use std::{fs, io};
+use stdin::Input;
 
-fn say(text: &[u8]) {
-    io::write_all(STDOUT_FILENO, text);
+fn say(screen: Stdout, text: &[u8]) -> io::Result<()> {
+    screen.write_all(text)
 }
 
 // The first n bytes of a text.
-fn show(out: &[u8], n: usize) {
+fn show(screen: Stdout, out: &[u8], n: usize) -> io::Result<()> {
     if n <= out.len() {
-        say(&out[..n]);
+        return say(screen, &out[..n]);
     }
+    Ok(())
 }
 
 // A number, right-justified in w columns.
-fn say_column(w: usize, v: usize) {
+fn say_column(screen: Stdout, w: usize, v: usize) -> io::Result<()> {
     let mut out = [0u8; 6];
     if w <= 6 {
         columns::put_column(&mut out, 0, w, v);
-        show(&out, w);
+        return show(screen, &out, w);
     }
+    Ok(())
 }
 
 // A line of 12 bytes without its LF.
-fn say_line(line: [u8; 12]) {
-    show(&line, 11);
+fn say_line(screen: Stdout, line: [u8; 12]) -> io::Result<()> {
+    show(screen, &line, 11)
 }
 
-fn say_verdict(v: Verdict) {
+fn say_verdict(screen: Stdout, v: Verdict) -> io::Result<()> {
     let answer = v.answer;
-    say_line(report::verdict_line(passes::is_yes(answer), v.least as usize, v.passes));
+    let line = report::verdict_line(passes::is_yes(answer), v.least as usize, v.passes);
+    say_line(screen, line)
 }
 
 // One more byte, or letter, of a sum that tells a text, or a word, from its neighbours.
@@ -45,36 +51,36 @@ fn add(sum: usize, b: u16) -> usize {
 }
 
 // A length and a sum.
-fn say_counted(name: &[u8], n: usize, sum: usize) {
-    say(name);
-    say(b" ");
-    say_column(6, n);
-    say_column(6, sum);
+fn say_counted(screen: Stdout, name: &[u8], n: usize, sum: usize) -> io::Result<()> {
+    say(screen, name)?;
+    say(screen, b" ")?;
+    say_column(screen, 6, n)?;
+    say_column(screen, 6, sum)
 }
 
 // The length of the first n bytes of a text, and their sum.
-fn say_text(name: &[u8], out: &[u8], n: usize) {
+fn say_text(screen: Stdout, name: &[u8], out: &[u8], n: usize) -> io::Result<()> {
     let mut sum = 0;
     for i in 0..n {
         if i < out.len() {
             sum = add(sum, out[i] as u16);
         }
     }
-    say_counted(name, n, sum);
+    say_counted(screen, name, n, sum)
 }
 
 // The same of a word's first n letters.
-fn say_word(letters: &[u16], n: usize) {
+fn say_word(screen: Stdout, letters: &[u16], n: usize) -> io::Result<()> {
     let mut sum = 0;
     for i in 0..n {
         if i < letters.len() {
             sum = add(sum, letters[i]);
         }
     }
-    say_counted(b"WAY ", n, sum);
+    say_counted(screen, b"WAY ", n, sum)
 }
 
-fn say_listing(sheet: &[u8], room: usize) {
+fn say_listing(screen: Stdout, sheet: &[u8], room: usize) -> io::Result<()> {
     let mut table = [0u16; 128];
     let mut marks = [0u16; 128];
     let mut tuples = [0u16; 1024 * tuple_record::RECORD];
@@ -95,23 +101,23 @@ fn say_listing(sheet: &[u8], room: usize) {
         &mut other,
         &mut out,
     ) {
-        Written::Bytes(n) => say_text(b"LIST", &out, n),
-        Written::Refused(r) => say_line(report::refusal_line(r)),
+        Written::Bytes(n) => say_text(screen, b"LIST", &out, n),
+        Written::Refused(r) => say_line(screen, report::refusal_line(r)),
     }
 }
 
-fn say_copy(sheet: &[u8]) {
+fn say_copy(screen: Stdout, sheet: &[u8]) -> io::Result<()> {
     let mut word = [0u16; 136];
     let mut one = [0u16; 137];
     let mut other = [0u16; 137];
     let mut out = [0u8; 32768];
     match file_writer::write(sheet, &mut word, &mut one, &mut other, &mut out) {
-        Written::Bytes(n) => say_text(b"COPY", &out, n),
-        Written::Refused(r) => say_line(report::refusal_line(r)),
+        Written::Bytes(n) => say_text(screen, b"COPY", &out, n),
+        Written::Refused(r) => say_line(screen, report::refusal_line(r)),
     }
 }
 
-fn say_way(sheet: &[u8], room: usize, t: usize) {
+fn say_way(screen: Stdout, sheet: &[u8], room: usize, t: usize) -> io::Result<()> {
     let mut table = [0u16; 128];
     let mut marks = [0u16; 128];
     let mut tuples = [0u16; 1024 * tuple_record::RECORD];
@@ -133,13 +139,13 @@ fn say_way(sheet: &[u8], room: usize, t: usize) {
         &mut other,
         &mut letters,
     ) {
-        Way::Letters(n) => say_word(&letters, n),
-        Way::NoSuchTuple => say(b"NONE"),
-        Way::Refused(r) => say_line(report::refusal_line(r)),
+        Way::Letters(n) => say_word(screen, &letters, n),
+        Way::NoSuchTuple => say(screen, b"NONE"),
+        Way::Refused(r) => say_line(screen, report::refusal_line(r)),
     }
 }
 
-fn say_judgement(sheet: &[u8], plan: &[u8], room: usize) {
+fn say_judgement(screen: Stdout, sheet: &[u8], plan: &[u8], room: usize) -> io::Result<()> {
     let mut table = [0u16; 128];
     let mut marks = [0u16; 128];
     let mut tuples = [0u16; 1024 * tuple_record::RECORD];
@@ -159,8 +165,8 @@ fn say_judgement(sheet: &[u8], plan: &[u8], room: usize) {
         &mut one,
         &mut other,
     ) {
-        Outcome::Judged(v) => say_verdict(v),
-        Outcome::Refused(r) => say_line(report::refusal_line(r)),
+        Outcome::Judged(v) => say_verdict(screen, v),
+        Outcome::Refused(r) => say_line(screen, report::refusal_line(r)),
     }
 }
 
@@ -182,55 +188,64 @@ fn room_of(case: &[u8]) -> usize
 }
 
 // The four answers on a sheet and a plan, in a room, and for a tuple's number.
-fn say_answers(sheet: &[u8], plan: &[u8], room: usize, t: usize) {
-    say_judgement(sheet, plan, room);
-    say(b" ");
-    say_listing(sheet, room);
-    say(b" ");
-    say_copy(sheet);
-    say(b" ");
-    say_way(sheet, room, t);
-    say(b"\n");
+fn say_answers(screen: Stdout, sheet: &[u8], plan: &[u8], room: usize, t: usize) -> io::Result<()> {
+    say_judgement(screen, sheet, plan, room)?;
+    say(screen, b" ")?;
+    say_listing(screen, sheet, room)?;
+    say(screen, b" ")?;
+    say_copy(screen, sheet)?;
+    say(screen, b" ")?;
+    say_way(screen, sheet, room, t)?;
+    say(screen, b"\n")
 }
 
 // The sheet, and behind its END the plan.
-fn answer_in(input: &[u8], room: usize, t: usize) {
+fn answer_in(screen: Stdout, input: &[u8], room: usize, t: usize) -> io::Result<()> {
     let e = sheet_end::sheet_end(input);
-    say_answers(&input[..e], &input[e..], room, t);
+    say_answers(screen, &input[..e], &input[e..], room, t)
 }
 
 // A case: ROOM and five digits, then sheet and plan. The tuple is one of the first 16, by the case's number.
-fn answer(case: &[u8], number: usize) {
+fn answer(screen: Stdout, case: &[u8], number: usize) -> io::Result<()> {
     if case.len() < 10 {
-        return;
+        return Ok(());
     }
-    answer_in(&case[10..], room_of(case), number % 16);
+    answer_in(screen, &case[10..], room_of(case), number % 16)
+}
+
+// One case that was read: its name and its answers.
+fn say_case(screen: Stdout, name: &[u8], case: &[u8], number: usize) -> io::Result<()> {
+    say(screen, name)?;
+    say(screen, b" ")?;
+    answer(screen, case, number)
 }
 
 // One case: the file of that number is read and answered. False where there is no such file.
-fn run(number: usize) -> bool {
+fn run(rt: &HostRuntime, number: usize) -> io::Result<bool> {
     let name = [
         b'0' + (number / 100 % 10) as u8,
         b'0' + (number / 10 % 10) as u8,
         b'0' + (number % 10) as u8,
     ];
-    let fd = os::open_read(&name);
-    if fd < 0 {
-        return false;
-    }
+    let Ok(path) = str::from_utf8(&name) else {
+        return Ok(false);
+    };
+    let Ok(mut file) = fs::open(rt, path) else {
+        return Ok(false);
+    };
     let mut buf = [0u8; 65536];
-    let n = io::read_full(fd, &mut buf);
-    libc::close(fd);
-    say(&name);
-    say(b" ");
-    answer(&buf[..n], number);
-    true
+    let Input::Bytes(n) = stdin::read(&mut file, &mut buf) else {
+        return Ok(false);
+    };
+    say_case(rt.stdout(), &name, &buf[..n], number)?;
+    Ok(true)
 }
 
-fn main() {
+fn main(rt: HostRuntime) -> io::Result<()> {
     for number in 0..1000 {
-        if !run(number) {
-            return;
+        if !run(&rt, number)? {
+            return Ok(());
         }
     }
+    Ok(())
 }

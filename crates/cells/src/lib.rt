@@ -1,5 +1,6 @@
 // Numbers and bytes in lent tables: a list copied into as many cells as there are, and the cells of a name, of a refusal, of a written text.
 #![tactic(auto)]
+
 ghost use Rattle.std.specs.Prelude.{◌≡◌, get_or};
 ghost use Rattle.cells.specs.Cells.{into, name_cells, number_cells, refusal_cells, written_cells};
 

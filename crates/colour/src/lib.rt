@@ -1,5 +1,6 @@
 // The colour of a step, and the colours of its places.
 #![tactic(auto)]
+
 ghost use Rattle.std.specs.Prelude.{◌≡◌, ◌≤◌, min};
 ghost use Rattle.sets.specs.Sets.{is_empty};
 ghost use Rattle.colour.specs.Colour.{neutral, marked, emptied, changed, is_emptied, colour_at, dead_or};

@@ -1,5 +1,6 @@
 // The states that begin an endless path of transitions: the only ones at which a meeting of walks counts.
 #![tactic(auto)]
+
 ghost use Rattle.std.specs.Prelude.{◌≤◌, ◌<◌, length};
 ghost use Rattle.gate.specs.Gate.{Decides};
 ghost use Rattle.automaton.specs.Graph.{graph, GraphFits};

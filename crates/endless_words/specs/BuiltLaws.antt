@@ -11,7 +11,8 @@ use Rattle.tracker.specs.Build.{BuildTables, BuildNumbersTables, BuildsNumbers}
 use Rattle.tracker.specs.BuildLaws.{numbers-built, numbers-free}
 use Rattle.building.specs.FileBuild.{Builds}
 use Rattle.building.specs.FileBuildLaws.{file-built}
-use Rattle.endless_words.specs.EndlessWord.{LPO, TracksWords}
+use Rattle.theory.specs.Endless.{LPO}
+use Rattle.endless_words.specs.EndlessWord.{TracksWords}
 use Rattle.endless_words.specs.Theorem.{endless-word}
 
 -- FROM NUMBERS: the sheet as numbers is A

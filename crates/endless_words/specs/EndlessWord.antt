@@ -6,11 +6,6 @@ use Rattle.theory.specs.Run.{EnteredWithoutEnd}
 use Rattle.filling.specs.TrackerTables.{TrackerTables}
 use Rattle.passes.specs.TableRun.{entered_in}
 
--- THE PREMISE: "an endless row of yes and no either holds a yes or holds none". The field's limited principle of omniscience. It is an argument of the theorems that
--- need it, and nothing on the way to a verdict can name it.
-unfoldable pub LPO : Type 0
-LPO = (row : ℕ → Bool) → ((t : ℕ) × (row t ≡ true)) ⊎ ((t : ℕ) → row t ≡ true → ⊥)
-
 -- the colour that the tracker in these tables enters on letter t of w: from tuple 0, by the next number of each letter
 abbrev pub colours_on : TrackerTables → (ℕ → ℕ) → ℕ → ℕ
 colours_on tables w t = entered_in tables.tuples tables.nexts 0 w t

@@ -2,7 +2,6 @@ pub mod EndlessWord
 pub mod WithoutEndLaws
 pub mod PremiseLaws
 pub mod LeastLaws
-pub mod PathLaws
 pub mod Theorem
 pub mod PremiseNeeded
 pub mod BuiltLaws

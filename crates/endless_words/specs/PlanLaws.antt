@@ -2,7 +2,7 @@
 use Rattle.std.specs.Prelude.{ℕ, suc, ◌+◌, ◌*◌, ◌<◌, ◌≡◌, List, length, get_or}
 use Rattle.std.proofs.Common.{sym, ◌∙◌, subst, arith}
 use Rattle.std.proofs.Math.Path.{ap}
-use Rattle.theory.specs.Run.{EventuallyLeast}
+use Rattle.theory.specs.Run.{Least}
 use Rattle.tuple_record.specs.Record.{colour_in}
 use Rattle.automaton.specs.Automaton.{Automaton}
 use Rattle.endless_words.specs.WithoutEndLaws.{eventually-least}
@@ -46,7 +46,7 @@ module _ (lead cycle : List ℕ) (some : 0 < length cycle) (z : Verdict) where
           (e, ap (colour_in tables.tuples) e)
 
   -- of the verdict by tuples
-  tuple-colour : (A : Automaton) → Judges A word (length lead) (length cycle) z → EventuallyLeast (colour_entered A word) z.least
+  tuple-colour : (A : Automaton) → Judges A word (length lead) (length cycle) z → Least (colour_entered A word) z.least
   unfolding run
   tuple-colour A h =
       stretch-least lead cycle some (run A word) (colour_entered A word)

@@ -3,7 +3,7 @@ use Rattle.std.specs.Prelude.{ℕ, ◌+◌, ◌-◌, ◌≤◌, ◌≡◌, ◌�
 use Rattle.std.proofs.Math.Bool.{true, decide, decide_iff}
 use Rattle.std.proofs.Math.Logic.{inl, inr}
 use Rattle.std.proofs.Common.{arith}
-use Rattle.endless_words.specs.EndlessWord.{LPO}
+use Rattle.theory.specs.Endless.{LPO}
 
 module _ (premise : LPO) where
   -- one of the statements holds, or none

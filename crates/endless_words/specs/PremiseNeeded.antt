@@ -17,7 +17,8 @@ use Rattle.tuple.specs.Step.{Tuple, next, run, colour_entered}
 use Rattle.tuple.specs.Unfold.{tuple_unfold}
 use Rattle.filling.specs.TrackerTables.{TrackerTables, Fitted}
 use Rattle.passes.specs.FollowLaws.{entered-colour}
-use Rattle.endless_words.specs.EndlessWord.{LPO, colours_on, TracksWord, TracksWords}
+use Rattle.theory.specs.Endless.{LPO}
+use Rattle.endless_words.specs.EndlessWord.{colours_on, TracksWord, TracksWords}
 
 -- THE SHEET, an SHT-2: one state, which goes on on both letters; the transition on letter 0 is marked
 abbrev pub one_mark : Automaton

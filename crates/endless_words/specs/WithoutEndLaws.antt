@@ -1,11 +1,11 @@
 -- The least colour entered without end: it is one, and the first colours do not count. Assumes nothing.
 use Rattle.std.specs.Prelude.{ℕ, ◌+◌, ◌-◌, ◌≡◌, ◌↔◌}
 use Rattle.std.proofs.Common.{ap, ◌∙◌, arith}
-use Rattle.theory.specs.Run.{EnteredWithoutEnd, EventuallyLeast}
+use Rattle.theory.specs.Run.{EnteredWithoutEnd, Least}
 use Rattle.endless_words.specs.EndlessWord.{LeastWithoutEnd}
 
-pub eventually-least : {col : ℕ → ℕ} {c : ℕ} → EventuallyLeast col c → LeastWithoutEnd col c
-eventually-least h = record { entered = h.entered; least = λ d without. let (u, l, e) = without h.from in let x = h.low u l in omega arith }
+pub eventually-least : {col : ℕ → ℕ} {c : ℕ} → Least col c → LeastWithoutEnd col c
+eventually-least h = record { entered = h.often; least = λ d without. let (u, l, e) = without h.from in let x = h.low u l in omega arith }
 
 -- there is one at most
 pub one-least : {col : ℕ → ℕ} {c d : ℕ} → LeastWithoutEnd col c → LeastWithoutEnd col d → c ≡ d

@@ -1,5 +1,6 @@
 // The first and the last line, which a sheet file and a plan file share: a word with two numbers, and END.
 #![tactic(auto)]
+
 ghost use Rattle.std.specs.Prelude.{◌≡◌, [], ◌<◌, ◌^◌, length};
 ghost use Rattle.columns.specs.Pair.{word_and_pair};
 ghost use Rattle.frame.specs.Phase.{first_phase, end_at};

@@ -1,5 +1,6 @@
 // The lent tables of the calls on a sheet: question 1, and the tables cleared.
 #![tactic(auto)]
+
 ghost use Rattle.std.specs.Prelude.{◌≡◌};
 ghost use Rattle.gate.specs.Gate.{Decides};
 ghost use Rattle.automaton.specs.Automaton.{transition_sets};

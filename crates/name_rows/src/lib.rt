@@ -1,5 +1,6 @@
 // Names composed into rows of 24 cells, and the search for one among them.
 #![tactic(auto)]
+
 ghost use Rattle.std.specs.Prelude.{◌≡◌, ℕ, ◌+◌, ◌-◌, ◌*◌, ◌≤◌, List, length};
 ghost use Rattle.std.proofs.lemmas.List.Edits.{sets};
 ghost use Rattle.gate.specs.Gate.{Decides, padded};

@@ -1,5 +1,6 @@
 // The names of letters: what a name is, and where one ends.
 #![tactic(auto)]
+
 ghost use Rattle.std.specs.Prelude.{◌≡◌, ◌+◌, ◌<◌, ◌≤◌, ◌^◌, length};
 ghost use Rattle.gate.specs.Gate.{Decides};
 ghost use Rattle.names.specs.Name.{one_of, is_umlaut, is_vowel, is_decomposed, IsName};

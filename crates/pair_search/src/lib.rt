@@ -1,5 +1,6 @@
 // A breadth-first search among the pairs of states in which two walks on one word end, for the first that joins.
 #![tactic(auto)]
+
 ghost use Rattle.std.specs.Prelude.{suc, ◌<◌, ◌≤◌, length};
 ghost use Rattle.sets.specs.Sets.{Member};
 ghost use Rattle.pairs.specs.Joining.{Backwards};

@@ -12,7 +12,7 @@ use Rattle.passes.specs.declared.Answer.TheVariants.{Yes, No}
 use Rattle.passes.specs.declared.Verdict.{Verdict}
 use Rattle.passes.specs.Passes.{AnswerIs, Judges, Sound}
 use Rattle.passes.specs.LeastLaws.{least-once, least-lowest}
-use Rattle.passes.specs.StretchLaws.{stretch_start, stretch_rest, stretch-end, stretch-again}
+use Rattle.passes.specs.StretchLaws.{stretch_start, stretch_rest, stretch-stop, stretch-again}
 
 by-parity : (A : Automaton) (w : ℕ → ℕ) (least : ℕ) → (least % 2 ≡ 0) ↔ Passes A w → (answer : Answer) → AnswerIs least answer → Sound A w answer
 by-parity A w least h Yes e = h.0 e
@@ -32,7 +32,7 @@ sound {A} fits free lead cycle some letters z h = by-parity A w z.least parity z
     d = stretch_rest lead cycle some h.earlier z.passes h.repeat.earlier
 
     later : T + suc d ≡ length lead + z.passes * length cycle
-    later = stretch-end lead cycle some h.earlier z.passes h.repeat.earlier
+    later = stretch-stop lead cycle some h.earlier z.passes h.repeat.earlier
 
     parity : (z.least % 2 ≡ 0) ↔ Passes A w
     parity =

@@ -3,7 +3,7 @@
 use Rattle.std.specs.Prelude.{ℕ, suc, ◌+◌, ◌*◌, ◌-◌, ◌≤◌, ◌<◌, ◌≡◌, List, length}
 use Rattle.std.proofs.Common.{sym, ◌∙◌, ap, subst, arith, add-mul, mul-le-mul_right}
 use Rattle.std.proofs.Math.Decide.{le_ind}
-use Rattle.theory.specs.Run.{EventuallyLeast}
+use Rattle.theory.specs.Run.{Least}
 use Rattle.theory.specs.Theorem.{least-repeating}
 use Rattle.passes.specs.Letter.{letter_at}
 use Rattle.passes.specs.LetterLaws.{letter-repeats}
@@ -25,8 +25,8 @@ module _ (lead cycle : List ℕ) (some : 0 < length cycle) (a b : ℕ) (earlier 
       let x : 1 * length cycle ≤ (b - a) * length cycle = mul-le-mul_right (length cycle) (omega arith) in
       omega arith
 
-  pub stretch-end : stretch_start + suc stretch_rest ≡ length lead + b * length cycle
-  stretch-end =
+  pub stretch-stop : stretch_start + suc stretch_rest ≡ length lead + b * length cycle
+  stretch-stop =
       let e : a + (b - a) ≡ b = omega arith in
       let x : (a + (b - a)) * length cycle ≡ a * length cycle + (b - a) * length cycle = add-mul a (b - a) (length cycle) in
       let y : (a + (b - a)) * length cycle ≡ b * length cycle = ap (λ (n : ℕ). n * length cycle) e in
@@ -39,9 +39,9 @@ module _ (lead cycle : List ℕ) (some : 0 < length cycle) (a b : ℕ) (earlier 
 module _ {X : Type 0} (lead cycle : List ℕ) (some : 0 < length cycle) (at : ℕ → X) (col : ℕ → ℕ)
     (step : (s t : ℕ) → at s ≡ at t → letter_at lead cycle s ≡ letter_at lead cycle t → (at (suc s) ≡ at (suc t)) × (col s ≡ col t)) where
   pub stretch-least : (a b v : ℕ) → FirstRepeat (λ i. at (length lead + i * length cycle)) a b
-      → LeastOf col (length lead + a * length cycle) (length lead + b * length cycle) v → EventuallyLeast col v
+      → LeastOf col (length lead + a * length cycle) (length lead + b * length cycle) v → Least col v
   stretch-least a b v repeat least =
-      subst (EventuallyLeast col) (least-once col T (T + suc d) _ v (least-lowest col T d) (subst (λ (u : ℕ). LeastOf col T u v) (sym end) least))
+      subst (Least col) (least-once col T (T + suc d) _ v (least-lowest col T d) (subst (λ (u : ℕ). LeastOf col T u v) (sym end) least))
       (least-repeating col T d (λ t l. (step (t + suc d) t (places t l) (word t l)).1))
     where
       T : ℕ
@@ -51,7 +51,7 @@ module _ {X : Type 0} (lead cycle : List ℕ) (some : 0 < length cycle) (at : �
       d = stretch_rest lead cycle some a b repeat.earlier
 
       end : T + suc d ≡ length lead + b * length cycle
-      end = stretch-end lead cycle some a b repeat.earlier
+      end = stretch-stop lead cycle some a b repeat.earlier
 
       word : (t : ℕ) → T ≤ t → letter_at lead cycle (t + suc d) ≡ letter_at lead cycle t
       word = stretch-again lead cycle some a b repeat.earlier

@@ -1,5 +1,6 @@
 // The queue of a breadth-first search among pairs of states, in one table: Queue.antt says where what stands.
 #![tactic(auto)]
+
 ghost use Rattle.std.specs.Prelude.{◌≡◌, ◌<◌, length, get_or};
 ghost use Rattle.queue.specs.Queue.{Open, Longer, Only, Below};
 

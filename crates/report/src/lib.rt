@@ -1,5 +1,6 @@
 // What the programs print: their lines, and the buffer that they are put into.
 #![tactic(auto)]
+
 ghost use Rattle.std.specs.Prelude.{◌≡◌, ◌≤◌, length};
 ghost use Rattle.gate.specs.Gate.{cleared, lent_text};
 ghost use Rattle.report.specs.Report.{report_line, line_of, verdict_line};

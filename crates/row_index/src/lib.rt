@@ -1,5 +1,6 @@
 // The index of the rows of a lent table: a row is found, and one is added, by a digest of its cells. The way back behind a row takes no part in it.
 #![tactic(auto)]
+
 ghost use Rattle.std.specs.Prelude.{◌≡◌, ◌<◌, ◌≤◌, ◌+◌, length};
 ghost use Rattle.gate.specs.Gate.{Decides};
 ghost use Rattle.tuple_record.specs.Record.{set_cells, row_cells, record_cells, record_start, row_at};

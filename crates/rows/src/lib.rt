@@ -1,5 +1,6 @@
 // Rows of a lent table, each known by its number.
 #![tactic(auto)]
+
 ghost use Rattle.std.specs.Prelude.{◌≡◌, ◌≤◌, length};
 ghost use Rattle.tuple_record.specs.Record.{row_cells, record_start};
 ghost use Rattle.row_index.specs.Index.{Indexed};

@@ -1,5 +1,6 @@
 // Where the sheet ends in the input of `verdict`.
 #![tactic(auto)]
+
 ghost use Rattle.std.specs.Prelude.{◌<◌, ◌≤◌, length};
 ghost use Rattle.gate.specs.Gate.{Decides};
 ghost use Rattle.sheet_end.specs.Split.{EndLine, SheetEnds};

@@ -1,5 +1,6 @@
 // The superseding letters of a sheet's letters: eight cells behind the rows of names.
 #![tactic(auto)]
+
 ghost use Rattle.std.specs.Prelude.{◌≡◌, ◌+◌, ◌<◌, ◌≤◌, length, get_or, set};
 ghost use Rattle.superseding.specs.Superseding.{superseding_in, final_letter};
 

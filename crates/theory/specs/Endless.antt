@@ -12,7 +12,7 @@ use Rattle.theory.specs.Basic.{inside, lead-in}
 use Rattle.theory.specs.Even.{path_inside}
 
 -- an endless row of yes and no either holds a yes or holds none
-pub LPO : Type 0
+unfoldable pub LPO : Type 0
 LPO = (f : ℕ → Bool) → ((k : ℕ) × (f k ≡ true)) ⊎ ((k : ℕ) → f k ≡ true → ⊥)
 
 -- the same for a row of decidable statements

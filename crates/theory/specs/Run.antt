@@ -73,12 +73,6 @@ Through E S K col =
 abbrev pub EnteredWithoutEnd : (ℕ → ℕ) → ℕ → Type 0
 EnteredWithoutEnd col c = (t : ℕ) → (u : ℕ) × (t ≤ u) × (col u ≡ c)
 
--- and from some time on no colour below it is entered
-pub record EventuallyLeast (col : ℕ → ℕ) (c : ℕ) : Type 0 where
-  pub entered : EnteredWithoutEnd col c
-  pub from : ℕ
-  pub low : (t : ℕ) → from ≤ t → c ≤ col t
-
 -- c is the least colour entered without end
 pub record Least (col : ℕ → ℕ) (c : ℕ) : Type 0 where
   pub often : (t : ℕ) → (u : ℕ) × (t ≤ u) × (col u ≡ c)

@@ -1,18 +1,21 @@
 // Lists the tracker of the sheet on standard input (room 1,024), or prints its refusal.
 #![tactic(auto)]
-use libc::{STDERR_FILENO, STDOUT_FILENO};
+
+use std::io;
+use std::io::Print;
 use stdin::Input;
 
-fn main() {
+fn main(rt: HostRuntime) -> io::Result<()> {
     let mut input = [0u8; track_output::INPUT];
-    match stdin::read(&mut input) {
-        Input::Failed => {
-            io::write_all(STDERR_FILENO, b"track: standard input cannot be read\n");
-        }
+    let mut source = rt.stdin();
+    match stdin::read(&mut source, &mut input) {
+        Input::Failed => rt
+            .stderr()
+            .write_all(b"track: standard input cannot be read\n"),
         Input::Bytes(n) => {
             let mut out = [0u8; track_output::OUTPUT];
             let m = track_output::track(&input[..n], &mut out);
-            io::write_all(STDOUT_FILENO, &out[..m]);
+            rt.stdout().write_all(&out[..m])
         }
     }
 }

@@ -1,6 +1,7 @@
 // The record of a tuple in a lent table: its row, which is what is compared, and behind it the way back. No other crate's code knows the widths, or which
 // cell holds what.
 #![tactic(auto)]
+
 ghost use Rattle.std.specs.Prelude.{◌≡◌, ◌<◌, ◌≤◌, ◌+◌, length};
 ghost use Rattle.std.proofs.lemmas.List.Edits.{sets};
 ghost use Rattle.tuple_record.specs.Record.{row_cells, record_cells, record_start, row_at, Stored};

@@ -1,6 +1,5 @@
 -- Past the end of a list `get_or` gives 0. Assumes nothing.
 use mathlib.Core.Path.{sym}
-use borrow.Author.Rules.{rules}
 use lib.ListN.{get_or-eq_default}
 use Rattle.automaton.proofs.cell.Goals as goal
 

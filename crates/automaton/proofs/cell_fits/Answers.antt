@@ -1,15 +1,13 @@
 -- The tests are those of the definition. Assumes nothing.
-use mathlib.Core.Logic.{⊎_elim}
 use mathlib.Core.Path.{sym, ◌∙◌}
 use native.Mathlib.Omega.{arith}
-use borrow.Author.Rules.{rules}
 use lib.ListN.{get_or}
 use Rattle.gate.specs.Gate.{Decides}
 use Rattle.automaton.specs.Graph.{graph, Within}
 use Rattle.gate.specs.GateLaws.{decides-yes, decides-no}
 use Rattle.automaton.specs.QuestionLaws.{empty-cell-fits}
 use Rattle.automaton.proofs.cell_fits.Goals as goal
-use Rattle.automaton.proofs.cell_fits.Goals.{After-states_fit}
+use Rattle.automaton.proofs.cell_fits.Goals.{After-states_fit, then-i-g+else-i-g-2, else-i-g}
 
 -- what is asked of the cell
 fits : (c : After-states_fit) →
@@ -38,4 +36,11 @@ pub returns : goal.returns
 returns c =
     let e = c.cell-x.ensures in
     decides-no
-    (λ f. c.if-x-eq0.false (e ∙ f.empty (⊎_elim (λ w x y. omega arith) (λ w x y. omega arith) c.if-i-g.branch)))
+    (λ f.
+    c.if-x-eq0.false
+    (e
+    ∙ f.empty
+    (elim c.if-i-g.branch [
+      | then-i-g+else-i-g-2 w ↦ λ x y. omega arith
+      | else-i-g w ↦ λ x y. omega arith
+    ])))

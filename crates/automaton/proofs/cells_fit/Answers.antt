@@ -1,10 +1,7 @@
 -- Each cell passed fits; past the end of the table all cells are empty. Assumes nothing.
-use Prim.Native.Nat.{ℕ, ◌-◌, ◌≤◌, ◌<◌}
 use native.Mathlib.Omega.{arith}
 use borrow.Author.Count.{below_more}
-use borrow.Author.Rules.{rules}
-use lib.ListN.{length}
-use Rattle.automaton.specs.Graph.{graph, CellFits}
+use Rattle.automaton.specs.Graph.{graph}
 use Rattle.gate.specs.GateLaws.{decides-yes, decides-no}
 use Rattle.automaton.specs.QuestionLaws.{cells-of-table}
 use Rattle.automaton.proofs.cells_fit.Goals as goal

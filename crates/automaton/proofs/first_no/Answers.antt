@@ -1,26 +1,23 @@
 -- The questions are asked in the order of the definition. Assumes nothing.
-use borrow.Author.Rules.{rules}
 use Prim.Native.Nat.{◌≤◌}
 use mathlib.Core.Path.{sym, subst}
 use Rattle.gate.specs.Gate.{Decides}
 use Rattle.automaton.specs.QuestionLaws.{same_graph, answers-yes, answers-no}
-use Rattle.automaton.specs.Automaton.{Automaton, automaton, graph_of, StatesFit, FirstNo}
+use Rattle.automaton.specs.Automaton.{automaton, graph_of, StatesFit, FirstNo}
 use Rattle.automaton.specs.Graph.{Graph, InRange, CellsFit}
 use Rattle.automaton.specs.declared.GraphNumbers.{GraphNumbers}
 use Rattle.automaton.proofs.first_no.Goals as goal
-use Rattle.automaton.proofs.first_no.Goals.{After-cells_fit, After-in_range, Then-in_range, Then-recurring_fits}
-
-abbrev lent : After-in_range → Automaton
-lent c = let a = c.args in automaton a.a a.table.now a.marks.now
+use Rattle.automaton.proofs.first_no.Goals.{After-cells_fit, Then-in_range, Then-recurring_fits}
 
 -- what the tests passed say
-range : (c : Then-in_range) → InRange (lent c.before).n (lent c.before).k
+range : (c : Then-in_range) → let a = c.args in InRange a.a.n a.a.k
 range c = c.in_range.ensures.0 c.if-in_range.true
 
-states : (c : Then-recurring_fits) → StatesFit (lent c.before.before.before.before.before)
+states : (c : Then-recurring_fits) → let a = c.args in StatesFit (automaton a.a a.table.now a.marks.now)
 states c = (c.states_fit.ensures.0 c.if-states_fit.true, c.recurring_fits.ensures.0 c.if-recurring_fits.true)
 
-cells : (c : After-cells_fit) → Decides c.cells_fit.result (CellsFit (graph_of (lent c.before.before.before.before.before.before.before)))
+cells : (c : After-cells_fit) → let a = c.args in
+    Decides c.cells_fit.result (CellsFit (graph_of (automaton a.a a.table.now a.marks.now)))
 cells c =
     let a = c.args in
     subst (λ (G : Graph). Decides c.cells_fit.result (CellsFit G)) (same_graph a.a a.table.now a.marks.now c.graph_of.ensures) c.cells_fit.ensures

@@ -1,12 +1,10 @@
 -- `found` holds the successors of the members passed; where the next power of 2 is above the set none is left. Assumes nothing.
-use Prim.Native.Nat.{ℕ, ◌*◌, ◌-◌, ◌^◌, ◌≤◌, ◌<◌}
+use Prim.Native.Nat.{ℕ, ◌*◌, ◌^◌, ◌<◌}
 use mathlib.Core.Path.{◌≡◌, refl, sym, ap, ◌∙◌}
 use native.Mathlib.Omega.{arith}
 use native.Mathlib.Decide.{dec_lt}
 use lib.Pow.{pow-add}
-use borrow.Author.Rules.{rules}
 use Rattle.automaton.specs.SuccessorLaws.{below_none, below_more, below_all}
-use Rattle.automaton.specs.Successors.{successors_below}
 use Rattle.automaton.proofs.marked_of.Goals as goal
 use Rattle.automaton.proofs.marked_of.Goals.{In-loop-power}
 

@@ -1,5 +1,4 @@
 -- The member-wise meaning of the inner function, and no member where there is no such letter. Assumes nothing.
-use borrow.Author.Rules.{rules}
 use Rattle.automaton.specs.SuccessorLaws.{successors-found, successors-none}
 use Rattle.automaton.proofs.marked_successors.Goals as goal
 
@@ -11,5 +10,5 @@ returns-then-letter-ge8 c =
 pub returns : goal.returns
 returns c =
     let a = c.args in
-    successors-found a.marks.now a.letter a.set (λ i. (c.shared_slice_known-1.given i).fits) c.if-letter-ge8.false
+    successors-found a.marks.now a.letter a.set (λ i. (c.type_inv.marks i).fits) c.if-letter-ge8.false
     c.marked_of.ensures

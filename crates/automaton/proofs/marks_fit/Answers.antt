@@ -1,13 +1,11 @@
 -- Each cell passed fits; past the end of the marks all cells are empty. Assumes nothing.
-use Prim.Native.Nat.{ℕ, ◌-◌, ◌≤◌, ◌<◌}
 use native.Mathlib.Omega.{arith}
 use borrow.Author.Count.{below_more}
-use lib.ListN.{length, get_or}
+use lib.ListN.{get_or}
 use Rattle.gate.specs.Gate.{Decides}
 use Rattle.gate.specs.GateLaws.{decides-yes, decides-no}
 use Rattle.automaton.specs.Automaton.{automaton, MarkFits}
 use Rattle.automaton.specs.QuestionLaws.{marks-of-table}
-use borrow.Author.Rules.{rules}
 use Rattle.automaton.proofs.marks_fit.Goals as goal
 use Rattle.automaton.proofs.marks_fit.Goals.{After-mark_fits}
 

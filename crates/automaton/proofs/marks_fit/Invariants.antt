@@ -1,13 +1,7 @@
 -- Each cell passed fits; past the end of the marks all cells are empty. Assumes nothing.
 use Prim.Native.Nat.{ℕ, ◌-◌, ◌≤◌, ◌<◌}
-use native.Mathlib.Omega.{arith}
-use borrow.Author.Count.{below_more}
 use lib.ListN.{length, get_or}
-use Rattle.gate.specs.Gate.{Decides}
-use Rattle.gate.specs.GateLaws.{decides-yes, decides-no}
-use Rattle.automaton.specs.Automaton.{automaton, MarkFits}
-use Rattle.automaton.specs.QuestionLaws.{marks-of-table}
-use borrow.Author.Rules.{rules}
+use Rattle.automaton.specs.Automaton.{MarkFits}
 use Rattle.automaton.proofs.marks_fit.Given as goal
 
 abbrev pub invariant-loop-i : goal.invariant-loop-i

@@ -1,6 +1,5 @@
 -- Each edition has its question. Assumes nothing.
 use mathlib.Core.Path.{sym, subst}
-use borrow.Author.Rules.{rules}
 use lib.Dec.{eqb}
 use Rattle.gate.specs.Gate.{Decides}
 use Rattle.automaton.specs.Automaton.{RecurringFits}

@@ -1,7 +1,6 @@
 -- The members of a set are below n exactly where the set is below 2^n. Assumes nothing.
 use Prim.Native.Nat.{◌^◌, ◌<◌}
 use native.Mathlib.Omega.{arith}
-use borrow.Author.Rules.{rules}
 use Rattle.sets.specs.SetLaws.{member-lt, small-of-within}
 use Rattle.gate.specs.GateLaws.{decides-yes, decides-no}
 use Rattle.automaton.proofs.states_fit.Goals as goal

@@ -1,12 +1,11 @@
 -- The member-wise meaning of the inner function, and no member where there is no such letter. Assumes nothing.
-use borrow.Author.Rules.{rules}
 use Rattle.automaton.specs.SuccessorLaws.{successors-found, successors-none}
 use Rattle.automaton.proofs.successors.Goals as goal
 
 pub returns-then-letter-lt8 : goal.returns-then-letter-lt8
 returns-then-letter-lt8 c =
     let a = c.args in
-    successors-found a.table.now a.letter a.set (λ i. (c.shared_slice_known-1.given i).fits) c.if-letter-lt8.true
+    successors-found a.table.now a.letter a.set (λ i. (c.type_inv.table i).fits) c.if-letter-lt8.true
     c.successors_of.ensures
 
 pub returns : goal.returns

@@ -1,9 +1,6 @@
 -- `found` holds the successors of the members passed; from the first 2^q above the set on there is none left. Assumes nothing.
-use Prim.Native.Nat.{◌-◌, ◌^◌, ◌≤◌, ◌<◌}
-use mathlib.Core.Path.{◌≡◌, sym, ◌∙◌}
-use native.Mathlib.Omega.{arith}
-use borrow.Author.Rules.{rules}
-use Rattle.automaton.specs.SuccessorLaws.{below_none, below_more, below_all}
+use Prim.Native.Nat.{◌-◌, ◌≤◌}
+use mathlib.Core.Path.{◌≡◌}
 use Rattle.automaton.specs.Successors.{successors_below}
 use Rattle.automaton.proofs.successors_of.Given as goal
 

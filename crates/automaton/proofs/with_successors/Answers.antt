@@ -1,7 +1,6 @@
 -- A member's successors are added, and another's are not. Assumes nothing.
 use Prim.Native.Nat.{ℕ}
 use mathlib.Core.Path.{◌∙◌, ap}
-use borrow.Author.Rules.{rules}
 use Rattle.sets.specs.Sets.{union_of}
 use Rattle.automaton.specs.Graph.{successor_set}
 use Rattle.automaton.specs.SuccessorLaws.{given-member, given-other}

@@ -1,6 +1,5 @@
 -- Where the first number is in its range the result is that of the second; else it is false. Assumes nothing.
 use mathlib.Core.Path.{sym}
-use borrow.Author.Rules.{rules}
 use Rattle.columns.proofs.are_between.Goals as goal
 
 pub returns-then-is_between : goal.returns-then-is_between

@@ -2,7 +2,6 @@
 use native.Mathlib.Omega.{arith}
 use Rattle.columns.specs.Number.{digit_of}
 use borrow.Author.Tests.{le-ltb, lt-ltb}
-use borrow.Author.Rules.{rules}
 use Rattle.columns.proofs.digit.Goals as goal
 
 pub returns-then-b-lt48 : goal.returns-then-b-lt48

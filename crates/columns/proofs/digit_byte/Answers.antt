@@ -1,7 +1,6 @@
 -- `columns::digit_byte` meets its contract: the cases of `digit_byte`, at a place that is not written as a successor. Assumes nothing.
 use mathlib.Core.Path.{sym}
 use Rattle.columns.specs.ColumnLaws.{first-place, blank, digit}
-use borrow.Author.Rules.{rules}
 use Rattle.columns.proofs.digit_byte.Goals as goal
 
 pub returns-then-i-eq0 : goal.returns-then-i-eq0

@@ -5,7 +5,6 @@ use lib.Dec.{eqb}
 use borrow.Author.Tests.{eq-eqb, ne_eqb}
 use Rattle.columns.specs.Number.{with_number, is_numbered}
 use Rattle.columns.specs.declared.Number.{Number}
-use borrow.Author.Rules.{rules}
 use Rattle.columns.proofs.is_numbered.Goals as goal
 use Rattle.columns.proofs.is_numbered.Goals.{After-number_at}
 

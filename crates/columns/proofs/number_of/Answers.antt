@@ -9,7 +9,6 @@ use Rattle.columns.specs.declared.Number.TheVariants.{Is, Bad}
 use Prim.Native.Nat.{ℕ, ◌+◌, ◌*◌}
 use mathlib.Core.Path.{◌≡◌}
 use lib.Dec.{eqb}
-use borrow.Author.Rules.{rules}
 use Rattle.columns.proofs.number_of.Goals as goal
 use Rattle.columns.proofs.number_of.Goals.{After-digit-2, Else-a-digit_byte, Else-b-digit_byte}
 

@@ -1,10 +1,6 @@
 -- `columns::power` meets its contract. The loop's invariant: p is 10 to the i. Assumes nothing.
 use Prim.Native.Nat.{◌-◌, ◌^◌, ◌≤◌}
-use mathlib.Core.Path.{◌≡◌, refl, sym, ◌∙◌}
-use native.Mathlib.Omega.{arith}
-use native.Mathlib.Nat.{pow-suc, pow-le-pow_right}
-use native.Mathlib.Numerals.{add-one}
-use lib.Dec.{lit<}
+use mathlib.Core.Path.{◌≡◌}
 use Rattle.columns.proofs.power.Given as goal
 
 abbrev pub invariant-loop-i : goal.invariant-loop-i

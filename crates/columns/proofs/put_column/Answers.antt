@@ -1,10 +1,8 @@
 -- `columns::put_column` meets its contract. The loop's invariant: storing the last k places from here on gives the whole column stored. Assumes nothing.
-use Prim.Native.Nat.{◌+◌, ◌-◌, ◌/◌, ◌^◌, ◌≤◌}
+use Prim.Native.Nat.{◌-◌, ◌/◌, ◌^◌}
 use mathlib.Core.Path.{◌≡◌, refl, sym, ◌∙◌, ap}
 use native.Mathlib.Omega.{arith}
-use lib.ListN.{length, length-set}
-use lib.Seq.{sets}
-use Rattle.columns.specs.Column.{column}
+use lib.ListN.{length-set}
 use Rattle.columns.specs.ColumnLaws.{power_pos, power-down, column-step, column-over}
 use Rattle.columns.proofs.put_column.Goals as goal
 use Rattle.columns.proofs.put_column.Goals.{In-loop-k}

@@ -1,11 +1,9 @@
 -- `columns::put_column` meets its contract. The loop's invariant: storing the last k places from here on gives the whole column stored. Assumes nothing.
-use Prim.Native.Nat.{◌+◌, ◌-◌, ◌/◌, ◌^◌, ◌≤◌}
-use mathlib.Core.Path.{◌≡◌, refl, sym, ◌∙◌, ap}
-use native.Mathlib.Omega.{arith}
-use lib.ListN.{length, length-set}
+use Prim.Native.Nat.{◌+◌, ◌^◌, ◌≤◌}
+use mathlib.Core.Path.{◌≡◌}
+use lib.ListN.{length}
 use lib.Seq.{sets}
 use Rattle.columns.specs.Column.{column}
-use Rattle.columns.specs.ColumnLaws.{power_pos, power-down, column-step, column-over}
 use Rattle.columns.proofs.put_column.Given as goal
 
 abbrev pub invariant-loop-k : goal.invariant-loop-k

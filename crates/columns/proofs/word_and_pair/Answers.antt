@@ -1,6 +1,5 @@
 -- The word first, then what `pair_at` gives. Assumes nothing.
 use mathlib.Core.Path.{sym, ◌∙◌}
-use borrow.Author.Rules.{rules}
 use Rattle.columns.proofs.word_and_pair.Goals as goal
 
 pub returns-then-starts_at : goal.returns-then-starts_at

@@ -1,13 +1,12 @@
 -- The invariant: nothing that begins an endless path has been taken away, and the states below q stay. A state that does not stay makes the
 -- set a smaller number. Assumes nothing.
-use Prim.Native.Nat.{ℕ, ◌+◌, ◌-◌, ◌*◌, ◌^◌, ◌≤◌}
+use Prim.Native.Nat.{ℕ, ◌^◌}
 use mathlib.Core.Path.{◌≡◌, sym, ap, subst, ◌∙◌}
 use native.Mathlib.Omega.{arith}
 use Rattle.sets.specs.Sets.{minus_of}
 use Rattle.automaton.specs.Graph.{graph}
 use Rattle.endless.specs.Closed.{Narrowed}
 use Rattle.endless.specs.ClosedLaws.{narrowed-start, narrowed-more, narrowed-less, narrowed-end, set-falls}
-use borrow.Author.Rules.{rules}
 use Rattle.endless.proofs.states.Goals as goal
 use Rattle.endless.proofs.states.Goals.{After-minus-set}
 

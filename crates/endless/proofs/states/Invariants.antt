@@ -1,13 +1,8 @@
 -- The invariant: nothing that begins an endless path has been taken away, and the states below q stay. A state that does not stay makes the
 -- set a smaller number. Assumes nothing.
-use Prim.Native.Nat.{ℕ, ◌+◌, ◌-◌, ◌*◌, ◌^◌, ◌≤◌}
-use mathlib.Core.Path.{◌≡◌, sym, ap, subst, ◌∙◌}
-use native.Mathlib.Omega.{arith}
-use Rattle.sets.specs.Sets.{minus_of}
+use Prim.Native.Nat.{◌+◌, ◌-◌, ◌*◌, ◌≤◌}
 use Rattle.automaton.specs.Graph.{graph}
 use Rattle.endless.specs.Closed.{Narrowed}
-use Rattle.endless.specs.ClosedLaws.{narrowed-start, narrowed-more, narrowed-less, narrowed-end, set-falls}
-use borrow.Author.Rules.{rules}
 use Rattle.endless.proofs.states.Given as goal
 
 abbrev pub invariant-loop-q : goal.invariant-loop-q

@@ -1,6 +1,5 @@
 -- A set binds its own members alone. Assumes nothing.
 use Rattle.gate.specs.GateLaws.{decides-yes}
-use borrow.Author.Rules.{rules}
 use Rattle.endless.proofs.stays.Goals as goal
 
 pub returns-then-contains : goal.returns-then-contains

@@ -1,13 +1,9 @@
 -- The invariant: on no letter below l is there a transition into the set. Assumes nothing.
-use Prim.Native.Nat.{ℕ, ◌-◌, ◌≤◌, ◌<◌}
-use mathlib.Core.Path.{◌≡◌, sym, ◌∙◌}
+use mathlib.Core.Path.{sym, ◌∙◌}
 use native.Mathlib.Omega.{arith}
 use borrow.Author.Count.{below_more}
 use Rattle.gate.specs.GateLaws.{decides-yes, decides-no}
-use Rattle.sets.specs.Sets.{inter_of}
-use Rattle.automaton.specs.Graph.{successor_set}
 use Rattle.endless.specs.ClosedLaws.{steps_on, steps-none}
-use borrow.Author.Rules.{rules}
 use Rattle.endless.proofs.steps_into.Goals as goal
 
 pub loop-l-init : goal.loop-l-init

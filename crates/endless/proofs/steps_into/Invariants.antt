@@ -1,13 +1,8 @@
 -- The invariant: on no letter below l is there a transition into the set. Assumes nothing.
 use Prim.Native.Nat.{ℕ, ◌-◌, ◌≤◌, ◌<◌}
-use mathlib.Core.Path.{◌≡◌, sym, ◌∙◌}
-use native.Mathlib.Omega.{arith}
-use borrow.Author.Count.{below_more}
-use Rattle.gate.specs.GateLaws.{decides-yes, decides-no}
+use mathlib.Core.Path.{◌≡◌}
 use Rattle.sets.specs.Sets.{inter_of}
 use Rattle.automaton.specs.Graph.{successor_set}
-use Rattle.endless.specs.ClosedLaws.{steps_on, steps-none}
-use borrow.Author.Rules.{rules}
 use Rattle.endless.proofs.steps_into.Given as goal
 
 abbrev pub invariant-loop-l : goal.invariant-loop-l

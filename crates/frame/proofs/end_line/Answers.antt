@@ -1,20 +1,17 @@
--- Each answer is what the tests passed make of the definition. Assumes nothing.
-use mathlib.Core.Path.{sym, ◌∙◌}
-use borrow.Author.Tests.{eq-eqb, ne_eqb, not-true, not-false}
+-- `frame::end_line` meets its contract: the tests are those of `end_at`. Assumes nothing.
+use Rattle.std.proofs.Common.{arith}
+use Rattle.std.proofs.lemmas.Grind.{common_steps}
 use Rattle.frame.specs.Phase.{end_at}
-use borrow.Author.Rules.{rules}
 use Rattle.frame.proofs.end_line.Goals as goal
 
 pub returns-then-not-starts_at : goal.returns-then-not-starts_at
 unfolding end_at
-returns-then-not-starts_at c = simp (sym c.starts_at.ensures ∙ not-true _ c.if-not-starts_at.true)
+returns-then-not-starts_at c = grind (arith, common_steps)
 
 pub returns-then-s-at : goal.returns-then-s-at
 unfolding end_at
-returns-then-s-at c =
-    simp (sym c.starts_at.ensures ∙ not-false _ c.if-not-starts_at.false, ne_eqb _ _ c.if-s-at.true)
+returns-then-s-at c = grind (arith, common_steps)
 
 pub returns : goal.returns
 unfolding end_at
-returns c =
-    simp (sym c.starts_at.ensures ∙ not-false _ c.if-not-starts_at.false, eq-eqb _ _ c.if-s-at.false)
+returns c = grind (arith, common_steps)

@@ -16,7 +16,7 @@ returns c =
     let s = a.s.now in
     let rows = a.rows.now in
     let x = compose (stretch s a.start a.end) in
-    let e = c.compose-into.ensures in
+    let e = c.compose_into.ensures in
     let fits = c.requires.1 in
     let r = c.first_like.result in (
       e,

@@ -1,7 +1,6 @@
 -- `names::is_name` meets its contract: a list of 1 to 24 bytes is a name exactly if its parts end where it ends. Assumes nothing.
 use mathlib.Core.Path.{sym, ◌∙◌}
 use native.Mathlib.Omega.{arith}
-use borrow.Author.Rules.{rules}
 use Rattle.gate.specs.GateLaws.{decides-yes, decides-no}
 use Rattle.names.specs.ScanLaws.{whole_is, whole-ends}
 use Rattle.names.proofs.is_name.Goals as goal

@@ -1,8 +1,7 @@
 -- `names::is_umlaut` meets its contract: the bytes are those of `is_umlaut`. Assumes nothing.
 use Rattle.names.specs.Name.{is_umlaut}
-use borrow.Author.Rules.{rules}
 use Rattle.names.proofs.is_umlaut.Goals as goal
 
 pub returns : goal.returns
 unfolding is_umlaut
-returns c = c.one-of-lem.ensures
+returns c = c.one_of.ensures

@@ -1,8 +1,7 @@
 -- `names::is_vowel` meets its contract: the bytes are those of `is_vowel`. Assumes nothing.
 use Rattle.names.specs.Name.{is_vowel}
-use borrow.Author.Rules.{rules}
 use Rattle.names.proofs.is_vowel.Goals as goal
 
 pub returns : goal.returns
 unfolding is_vowel
-returns c = c.one-of-lem.ensures
+returns c = c.one_of.ensures

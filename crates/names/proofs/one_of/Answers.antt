@@ -1,11 +1,7 @@
 -- `names::one_of` meets its contract. The loop's invariant: whether b is one of the bytes left is the answer. Assumes nothing.
-use Prim.Native.Nat.{◌-◌}
-use mathlib.Core.Path.{◌≡◌, refl, sym, ◌∙◌}
+use mathlib.Core.Path.{refl, sym, ◌∙◌}
 use native.Mathlib.Omega.{arith}
-use lib.ListN.{length, drop}
-use Rattle.names.specs.Name.{one_of}
 use Rattle.names.specs.PartLaws.{one-here, one_later, one-nowhere}
-use borrow.Author.Rules.{rules}
 use Rattle.names.proofs.one_of.Goals as goal
 
 pub loop-i-init : goal.loop-i-init

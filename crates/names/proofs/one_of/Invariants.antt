@@ -1,11 +1,8 @@
 -- `names::one_of` meets its contract. The loop's invariant: whether b is one of the bytes left is the answer. Assumes nothing.
 use Prim.Native.Nat.{◌-◌}
-use mathlib.Core.Path.{◌≡◌, refl, sym, ◌∙◌}
-use native.Mathlib.Omega.{arith}
+use mathlib.Core.Path.{◌≡◌}
 use lib.ListN.{length, drop}
 use Rattle.names.specs.Name.{one_of}
-use Rattle.names.specs.PartLaws.{one-here, one_later, one-nowhere}
-use borrow.Author.Rules.{rules}
 use Rattle.names.proofs.one_of.Given as goal
 
 abbrev pub invariant-loop-i : goal.invariant-loop-i

@@ -1,10 +1,7 @@
 -- `names::parts_end` meets its contract. The loop's invariant: the parts from here on end where those from `start` on do. Assumes nothing.
 use Prim.Native.Nat.{◌+◌, ◌-◌, ◌*◌, ◌≤◌}
-use mathlib.Core.Path.{◌≡◌, refl, sym, ◌∙◌}
-use native.Mathlib.Omega.{arith}
-use Rattle.names.specs.Scan.{width_at, parts_end}
-use Rattle.names.specs.ScanLaws.{parts-stop, parts_next, parts-full}
-use borrow.Author.Rules.{rules}
+use mathlib.Core.Path.{◌≡◌}
+use Rattle.names.specs.Scan.{parts_end}
 use Rattle.names.proofs.parts_end.Given as goal
 
 abbrev pub invariant-loop-turn : goal.invariant-loop-turn

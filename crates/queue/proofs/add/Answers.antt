@@ -5,7 +5,6 @@ use Rattle.queue.specs.Queue.{Only}
 use Rattle.queue.specs.RoomLaws.{NewPair, new-pair, old-pair}
 use Rattle.queue.specs.PushLaws.{push}
 use Rattle.queue.specs.RowLaws.{unchanged}
-use borrow.Author.Rules.{rules}
 use Rattle.queue.proofs.add.Goals as goal
 use Rattle.queue.proofs.add.Goals.{Then-contains}
 

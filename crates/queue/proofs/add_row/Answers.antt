@@ -1,11 +1,10 @@
 -- The invariant: the pairs of p and the members below q are in the queue. The measure is what is left of 16. Assumes nothing.
-use Prim.Native.Nat.{ℕ, ◌-◌, ◌≤◌}
+use Prim.Native.Nat.{ℕ}
 use mathlib.Core.Path.{◌≡◌, sym, ◌∙◌, subst}
 use native.Mathlib.Omega.{arith}
 use Rattle.sets.specs.TestLaws.{within-is}
 use Rattle.queue.specs.Queue.{companions, Below, Longer}
 use Rattle.queue.specs.RowLaws.{unchanged, row_more, open-longer}
-use borrow.Author.Rules.{rules}
 use Rattle.queue.proofs.add_row.Goals as goal
 
 pub bounds-queue-p : goal.bounds-queue-p

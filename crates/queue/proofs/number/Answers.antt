@@ -1,6 +1,5 @@
 -- A 16-bit number fits a machine word. Assumes nothing.
 use native.Mathlib.Omega.{arith}
-use borrow.Author.Rules.{rules}
 use Rattle.queue.proofs.number.Goals as goal
 
 pub overflow_cast-result : goal.overflow_cast-result

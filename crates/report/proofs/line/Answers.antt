@@ -2,7 +2,6 @@
 use mathlib.Core.Path.{refl}
 use lib.ListN.{replicate}
 use Rattle.report.specs.ReportLaws.{line-put}
-use borrow.Author.Rules.{rules}
 use Rattle.report.proofs.line.Goals as goal
 
 pub returns : goal.returns

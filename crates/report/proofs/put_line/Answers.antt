@@ -1,7 +1,6 @@
 -- The line is written at the start, and what lies behind it cleared. Assumes nothing.
 use mathlib.Core.Path.{refl}
 use Rattle.gate.specs.GateLaws.{text-lent}
-use borrow.Author.Rules.{rules}
 use Rattle.report.proofs.put_line.Goals as goal
 
 pub returns : goal.returns

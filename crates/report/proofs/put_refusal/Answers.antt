@@ -4,7 +4,6 @@ use native.Mathlib.Omega.{arith}
 use Rattle.report.specs.Report.{line_of}
 use Rattle.report.specs.ReportLaws.{refusal-length}
 use Rattle.report.specs.OutputLaws.{front-lent}
-use borrow.Author.Rules.{rules}
 use Rattle.report.proofs.put_refusal.Goals as goal
 
 pub returns : goal.returns

@@ -1,5 +1,4 @@
 -- The line has the refusal's number and its line. Assumes nothing.
-use borrow.Author.Rules.{rules}
 use Rattle.report.proofs.refusal_line.Goals as goal
 
 pub returns : goal.returns

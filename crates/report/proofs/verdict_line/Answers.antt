@@ -1,5 +1,4 @@
 -- The word goes by the answer. Assumes nothing.
-use borrow.Author.Rules.{rules}
 use Rattle.report.proofs.verdict_line.Goals as goal
 
 pub returns-then-yes : goal.returns-then-yes

@@ -1,6 +1,5 @@
 -- The row stands behind the others and is the last of its digest. Assumes nothing.
 use Rattle.row_index.specs.IndexLaws.{added}
-use borrow.Author.Rules.{rules}
 use Rattle.row_index.proofs.add.Goals as goal
 
 pub returns : goal.returns

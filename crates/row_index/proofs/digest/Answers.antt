@@ -5,7 +5,6 @@ use native.Mathlib.Omega.{arith}
 use lib.ListN.{get_or}
 use Rattle.tuple_record.specs.Record.{set_cells}
 use Rattle.row_index.specs.Digest.{mix, digest_of}
-use borrow.Author.Rules.{rules}
 use Rattle.row_index.proofs.digest.Goals as goal
 
 pub returns : goal.returns

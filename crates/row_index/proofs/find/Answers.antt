@@ -2,8 +2,7 @@
 use Prim.Native.Nat.{◌-◌, ◌<◌}
 use mathlib.Core.Path.{◌≡◌}
 use native.Mathlib.Omega.{arith}
-use Rattle.row_index.specs.IndexLaws.{ChainWalk, walk_begins, walk-goes, walk_ends, walk-finds}
-use borrow.Author.Rules.{rules}
+use Rattle.row_index.specs.IndexLaws.{walk_begins, walk-goes, walk_ends, walk-finds}
 use Rattle.row_index.proofs.find.Goals as goal
 
 pub overflow_cast-p : goal.overflow_cast-p

@@ -1,9 +1,5 @@
 -- The walk along the chain of the digest passes no row that is looked for. Assumes nothing.
-use Prim.Native.Nat.{◌-◌, ◌<◌}
-use mathlib.Core.Path.{◌≡◌}
-use native.Mathlib.Omega.{arith}
-use Rattle.row_index.specs.IndexLaws.{ChainWalk, walk_begins, walk-goes, walk_ends, walk-finds}
-use borrow.Author.Rules.{rules}
+use Rattle.row_index.specs.IndexLaws.{ChainWalk}
 use Rattle.row_index.proofs.find.Given as goal
 
 abbrev pub invariant-loop-p : goal.invariant-loop-p

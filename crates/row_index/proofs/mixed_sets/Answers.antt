@@ -1,11 +1,10 @@
 -- What is left to mix in gives the whole. Assumes nothing.
-use Prim.Native.Nat.{ℕ, ◌+◌, ◌-◌, ◌≤◌, ◌<◌}
+use Prim.Native.Nat.{ℕ, ◌+◌, ◌-◌}
 use mathlib.Core.Path.{◌≡◌, sym, ap, ◌∙◌}
 use native.Mathlib.Omega.{arith}
 use Rattle.tuple_record.specs.Record.{set_cells}
 use Rattle.row_index.specs.Digest.{mix_from}
 use Rattle.row_index.specs.DigestLaws.{mix-stops, mix-more}
-use borrow.Author.Rules.{rules}
 use Rattle.row_index.proofs.mixed_sets.Goals as goal
 
 pub returns-then-x-eq0 : goal.returns-then-x-eq0

@@ -1,11 +1,8 @@
 -- What is left to mix in gives the whole. Assumes nothing.
-use Prim.Native.Nat.{ℕ, ◌+◌, ◌-◌, ◌≤◌, ◌<◌}
-use mathlib.Core.Path.{◌≡◌, sym, ap, ◌∙◌}
-use native.Mathlib.Omega.{arith}
+use Prim.Native.Nat.{◌-◌, ◌≤◌, ◌<◌}
+use mathlib.Core.Path.{◌≡◌}
 use Rattle.tuple_record.specs.Record.{set_cells}
 use Rattle.row_index.specs.Digest.{mix_from}
-use Rattle.row_index.specs.DigestLaws.{mix-stops, mix-more}
-use borrow.Author.Rules.{rules}
 use Rattle.row_index.proofs.mixed_sets.Given as goal
 
 abbrev pub invariant-loop-i : goal.invariant-loop-i

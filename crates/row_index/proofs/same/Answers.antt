@@ -1,10 +1,8 @@
 -- The cells passed are the same: `SameUpTo`. Assumes nothing.
-use Prim.Native.Nat.{◌-◌}
 use native.Mathlib.Omega.{arith}
 use Rattle.gate.specs.GateLaws.{decides-yes, decides-no}
 use Rattle.tuple_record.specs.Record.{row_cells, record_start}
-use Rattle.lists.specs.CellsLaws.{SameUpTo, same_none, same_more, same-all, same-cell}
-use borrow.Author.Rules.{rules}
+use Rattle.lists.specs.CellsLaws.{same_none, same_more, same-all, same-cell}
 use Rattle.row_index.proofs.same.Goals as goal
 
 pub loop-i-init : goal.loop-i-init

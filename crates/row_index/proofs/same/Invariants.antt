@@ -1,10 +1,7 @@
 -- The cells passed are the same: `SameUpTo`. Assumes nothing.
 use Prim.Native.Nat.{◌-◌}
-use native.Mathlib.Omega.{arith}
-use Rattle.gate.specs.GateLaws.{decides-yes, decides-no}
-use Rattle.tuple_record.specs.Record.{row_cells, record_start}
-use Rattle.lists.specs.CellsLaws.{SameUpTo, same_none, same_more, same-all, same-cell}
-use borrow.Author.Rules.{rules}
+use Rattle.tuple_record.specs.Record.{row_cells}
+use Rattle.lists.specs.CellsLaws.{SameUpTo}
 use Rattle.row_index.proofs.same.Given as goal
 
 abbrev pub invariant-loop-i : goal.invariant-loop-i

@@ -1,6 +1,5 @@
 -- A row is looked for by its digest, and added behind the others where it is new and there is room. Assumes nothing.
 use Rattle.rows.specs.RowsLaws.{number-found, number-added, number-over}
-use borrow.Author.Rules.{rules}
 use Rattle.rows.proofs.find_or_add.Goals as goal
 
 pub returns-then-t-m : goal.returns-then-t-m

@@ -1,5 +1,4 @@
 -- All sixteen numbers, moved down by 16 - n. Assumes nothing.
-use borrow.Author.Rules.{rules}
 use Rattle.sets.specs.OrderLaws.{below-members}
 use Rattle.sets.proofs.below.Goals as goal
 

@@ -1,6 +1,5 @@
 -- The last bit of the shifted mask is its remainder by 2. Assumes nothing.
 use Prim.Native.Nat.{◌/◌, ◌^◌}
-use borrow.Author.Rules.{rules}
 use borrow.Author.Tests.{eqb-true, eqb-false}
 use lib.Bits.{and_mask}
 use Rattle.sets.specs.Sets.{bit}

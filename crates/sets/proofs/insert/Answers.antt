@@ -1,6 +1,5 @@
 -- What the two calls ensure. Assumes nothing.
 use mathlib.Core.Path.{ap, ◌∙◌}
-use borrow.Author.Rules.{rules}
 use Rattle.sets.specs.Sets.{union_of}
 use Rattle.sets.proofs.insert.Goals as goal
 

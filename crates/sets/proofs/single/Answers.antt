@@ -1,6 +1,5 @@
 -- 2^q fits where q is below 16. Assumes nothing.
 use native.Mathlib.Nat.{one-mul, mod-eq_of_lt}
-use borrow.Author.Rules.{rules}
 use lib.Pow.{pow-lt}
 use Rattle.sets.proofs.single.Goals as goal
 

@@ -1,7 +1,6 @@
 -- A set lies within another if nothing is left of it without the other. Assumes nothing.
 use Prim.Native.Nat.{ℕ}
 use mathlib.Core.Path.{ap}
-use borrow.Author.Rules.{rules}
 use lib.Dec.{eqb}
 use Rattle.sets.specs.Sets.{is_within}
 use Rattle.sets.proofs.within.Goals as goal

@@ -1,12 +1,8 @@
 -- The loop's invariant: the chain of the letter reached ends where the whole chain does. Assumes nothing.
 use Prim.Native.Nat.{◌-◌, ◌<◌}
-use mathlib.Core.Path.{◌≡◌, refl, sym, ◌∙◌}
-use native.Mathlib.Omega.{arith}
+use mathlib.Core.Path.{◌≡◌}
 use lib.ListN.{get_or}
-use borrow.Author.Tests.{ltb-true, ltb-false}
 use Rattle.superseding.specs.Superseding.{superseding_in, final_letter}
-use Rattle.superseding.specs.SupersedingLaws.{chain-on, chain-falls, chain-out}
-use borrow.Author.Rules.{rules}
 use Rattle.superseding.proofs.final_letter.Given as goal
 
 abbrev pub invariant-loop-last : goal.invariant-loop-last

@@ -3,7 +3,6 @@ use Prim.Native.Nat.{◌+◌}
 use mathlib.Core.Path.{sym}
 use native.Mathlib.Omega.{arith}
 use Rattle.superseding.specs.SupersedingLaws.{superseding-at}
-use borrow.Author.Rules.{rules}
 use Rattle.superseding.proofs.superseding.Goals as goal
 
 pub overflow_cast-result : goal.overflow_cast-result

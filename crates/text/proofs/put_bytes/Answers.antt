@@ -1,7 +1,5 @@
 -- `text::put_bytes` meets its contract. With what is left of it the whole word is stored: `Storing`. Assumes nothing.
-use Prim.Native.Nat.{◌-◌}
-use lib.ListN.{length}
-use Rattle.lists.specs.StoreLaws.{Storing, store-none, store-more, store-end}
+use Rattle.lists.specs.StoreLaws.{store-none, store-more, store-end}
 use borrow.Author.Rules.{rules}
 use Rattle.text.proofs.put_bytes.Goals as goal
 

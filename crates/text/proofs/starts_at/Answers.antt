@@ -1,10 +1,6 @@
 -- `text::starts_at` meets its contract. The loop's invariant: whether the rest of the word stands at the place reached is the answer. Assumes nothing.
-use Prim.Native.Nat.{◌+◌, ◌-◌, ◌≤◌}
-use mathlib.Core.Path.{◌≡◌, sym, ◌∙◌}
-use lib.ListN.{length, drop}
+use mathlib.Core.Path.{sym, ◌∙◌}
 use native.Mathlib.Omega.{arith}
-use borrow.Author.Rules.{rules}
-use Rattle.text.specs.Word.{starts_at}
 use Rattle.text.specs.WordLaws.{starts_none, starts-yes, starts-no, starts-all}
 use Rattle.text.proofs.starts_at.Goals as goal
 

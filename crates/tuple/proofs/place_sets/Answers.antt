@@ -15,7 +15,7 @@ advance-p-requires c =
 pub bounds-w-0-2 : goal.bounds-w-0-2
 bounds-w-0-2 c =
     let s = c.requires in
-    omega (arith, c.advance-p.auto.1.1.0, cells-length s)
+    omega (arith, c.advance-p.auto.w, cells-length s)
 
 pub recurrent_of-requires : goal.recurrent_of-requires
 recurrent_of-requires c =
@@ -31,7 +31,7 @@ pub bounds-w-p : goal.bounds-w-p
 bounds-w-p c =
     let s = c.requires in
     let v = c.advance-p in
-    omega (arith, v.auto.1.1.0, cells-length s, count-few s v.ensures)
+    omega (arith, v.auto.w, cells-length s, count-few s v.ensures)
 
 pub returns : goal.returns
 returns c =

@@ -8,4 +8,4 @@ pub returns : goal.returns
 returns c =
     let g = c.args in
     let v = c.sweep in
-    rw c.dead_or-colour.ensures (settle-done g.n g.p g.w.now v.new.1.1.1.0 v.result.0 (omega arith) v.ensures)
+    rw c.dead_or-colour.ensures (settle-done g.n g.p g.w.now v.new.w v.result.0 (omega arith) v.ensures)

@@ -8,7 +8,7 @@ pub settle-requires : goal.settle-requires
 settle-requires c =
     let s = c.requires in
     let v = c.place_sets-p in
-    (s.fits.range.1, placed-few s v.ensures, v.auto.1.1.1.1.0 ∙ cells-length s)
+    (s.fits.range.1, placed-few s v.ensures, v.auto.w ∙ cells-length s)
 
 pub returns : goal.returns
 returns c =

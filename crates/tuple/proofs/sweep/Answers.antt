@@ -1,12 +1,13 @@
 -- Before each turn: the sets closed up so far, and what is removed from the places left. Assumes nothing.
 use Prim.Native.Nat.{◌+◌, ◌-◌, ◌≤◌, ◌<◌}
 use mathlib.Core.Path.{◌≡◌, ◌∙◌}
-use mathlib.Core.Logic.{inl, inr, ⊎_elim}
+use mathlib.Core.Logic.{inl, inr}
 use native.Mathlib.Omega.{arith}
 use lib.ListN.{length, length-set}
 use Rattle.tuple_record.specs.Record.{row_cells}
 use Rattle.tuple.specs.SweepLaws.{Sweeping, sweep-none, sweep-turn, sweep-length, sweep-end}
 use borrow.Author.Rules.{rules}
+use Rattle.tuple.proofs.sweep.Goals.{then-x-ne0, else-x-ne0}
 use Rattle.tuple.proofs.sweep.Goals as goal
 
 pub loop-i-init : goal.loop-i-init
@@ -26,12 +27,12 @@ loop-i-preserved c =
     let mark = c.is_marked-mark in
     let place = c.colour_at in
     let least = c.least-colour in
-    let out = c.out-of-lem in
+    let out = c.out_of-out in
     let long : g.p + 1 ≤ length g.w.now = omega (arith, c.requires.1, c.requires.2) in
     let turned : Sweeping g.n g.p (g.p + 1) g.w.now c.if-x-ne0.w least.result.0 out.result c.if-x-ne0.j (l.i + 1) =
     sweep-turn g.n g.p (g.p + 1) g.w.now long l.invariant.3 left.result least.result.0 out.result _ place.result.0
     mark.result here left.ensures (c.requires.4 l.i here) mark.ensures place.ensures least.ensures out.ensures
-    (⊎_elim (λ t. inl (t.0.taken, t.1, t.2)) (λ t. inr (t.0.left, t.1, t.2)) c.if-x-ne0.branch) in
+    (elim c.if-x-ne0.branch [ then-x-ne0 t ↦ inl (t.if-x-ne0.true, t.w-is, t.j-is) | else-x-ne0 t ↦ inr (t.if-x-ne0.false, t.w-is, t.j-is) ]) in
     (omega arith, omega (arith, turned.passed), sweep-length g.n g.p (g.p + 1) g.w.now long turned (omega arith) ∙ c.requires.2, turned)
 
 pub returns : goal.returns

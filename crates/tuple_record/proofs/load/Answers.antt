@@ -5,7 +5,6 @@ use native.Mathlib.Omega.{arith}
 use Rattle.tuple_record.specs.Record.{record_start, row_cells, row_at}
 use Rattle.lists.specs.CellsLaws.{part_length}
 use Rattle.lists.specs.StoreLaws.{sets_over}
-use borrow.Author.Rules.{rules}
 use Rattle.tuple_record.proofs.load.Goals as goal
 
 pub returns : goal.returns

@@ -1,7 +1,5 @@
 -- With what is left of it the whole row is stored: `Storing`. Assumes nothing.
-use Prim.Native.Nat.{◌-◌}
-use lib.ListN.{length}
-use Rattle.lists.specs.StoreLaws.{Storing, store-none, store-more, store-end}
+use Rattle.lists.specs.StoreLaws.{store-none, store-more, store-end}
 use borrow.Author.Rules.{rules}
 use Rattle.tuple_record.proofs.put.Goals as goal
 

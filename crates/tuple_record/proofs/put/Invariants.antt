@@ -1,8 +1,7 @@
 -- With what is left of it the whole row is stored: `Storing`. Assumes nothing.
 use Prim.Native.Nat.{◌-◌}
 use lib.ListN.{length}
-use Rattle.lists.specs.StoreLaws.{Storing, store-none, store-more, store-end}
-use borrow.Author.Rules.{rules}
+use Rattle.lists.specs.StoreLaws.{Storing}
 use Rattle.tuple_record.proofs.put.Given as goal
 
 abbrev pub invariant-loop-i : goal.invariant-loop-i

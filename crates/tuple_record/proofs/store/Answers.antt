@@ -3,7 +3,6 @@ use native.Mathlib.Omega.{arith}
 use lib.ListN.{length-set}
 use Rattle.tuple_record.specs.Record.{record_start}
 use Rattle.tuple_record.specs.RecordLaws.{record-written}
-use borrow.Author.Rules.{rules}
 use Rattle.tuple_record.proofs.store.Goals as goal
 
 pub bounds-table-at-2 : goal.bounds-table-at-2
