@@ -1,5 +1,6 @@
 // Building the tracker of a sheet file in lent tables that are long enough: its questions, its successor sets and marks, and every tuple that some word reaches.
 #![tactic(auto)]
+
 ghost use Rattle.std.specs.Prelude.{◌≤◌, length};
 ghost use Rattle.automaton.specs.Automaton.{transition_sets};
 ghost use Rattle.lent.specs.Lent.{witness_tables};

@@ -8,7 +8,7 @@ use Rattle.std.proofs.Math.Seq.{map-set_same}
 use Rattle.sets.specs.Sets.{bit, Member, union_of, inter_of}
 use Rattle.sets.specs.SetLaws.{ext-member, union-in, union_left, union_right, inter-in, inter-of, zero-inter, single-in, bit-lt}
 use Rattle.automaton.specs.Rewritten.{marked_into}
-use Rattle.automaton.specs.RewrittenLaws.{cell-into}
+use Rattle.automaton.proofs.RewrittenLaws.{cell-into}
 use Rattle.format.specs.Format.{State, Transition, Sheet, cell}
 use Rattle.format.specs.Numbers.{flag_set, inserted, table_of, where_member, marked_of, numbers}
 use Rattle.editions.specs.Rewritten.{marking, unflagging, rewritten}

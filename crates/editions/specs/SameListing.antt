@@ -7,7 +7,7 @@ use Rattle.automaton.specs.Automaton.{Automaton}
 use Rattle.automaton.specs.Rewritten.{marked_into}
 use Rattle.automaton.specs.declared.Edition.TheVariants.{StateBased}
 use Rattle.numbering.specs.Numbering.{MoreThan}
-use Rattle.numbering.specs.SameNumbering.{rewritten-more}
+use Rattle.numbering.proofs.SameNumbering.{rewritten-more}
 use Rattle.filling.specs.TrackerTables.{TrackerTables, Fitted}
 use Rattle.filling.specs.SameTracker.{rewritten-fitted}
 use Rattle.format.specs.Format.{Sheet}

@@ -5,7 +5,7 @@ use Rattle.std.proofs.Common.{sym, subst, ◌∙◌}
 use Rattle.gate.specs.declared.Refusal.{Refusal}
 use Rattle.automaton.specs.Automaton.{Automaton}
 use Rattle.automaton.specs.Reading.{Passes}
-use Rattle.automaton.specs.RewrittenLaws.{rewritten-passes}
+use Rattle.automaton.proofs.RewrittenLaws.{rewritten-passes}
 use Rattle.automaton.specs.declared.Edition.TheVariants.{StateBased}
 use Rattle.lent.specs.Lent.{lent_sets}
 use Rattle.numbering.specs.Numbering.{MoreThan}

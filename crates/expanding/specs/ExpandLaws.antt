@@ -11,14 +11,14 @@ use Rattle.tuple_record.specs.RecordLaws.{record-length, row_kept, from-kept, le
 use Rattle.row_index.specs.Index.{Indexed, Added}
 use Rattle.rows.specs.Rows.{FoundOrAdded}
 use Rattle.automaton.specs.Automaton.{Automaton, Fits}
-use Rattle.tuple.specs.Step.{Tuple, first, next, Formed}
+use Rattle.tuple.specs.Step.{Tuple, next, Formed}
 use Rattle.tuple.specs.Row.{row, tuple_of, Steps}
 use Rattle.tuple.specs.TupleLaws.{next-formed}
 use Rattle.tuple.specs.RowLaws.{formed-row, row-injective, formed-steps}
 use Rattle.numbering.specs.Numbering.{tuple_at, entered, FoundBy, FirstFound, TupleCells}
 use Rattle.numbering.specs.Explore.{step, found}
-use Rattle.numbering.specs.ExploreLaws.{Listed, Agree, step-skips, step_keeps, step-finds, step-is-finding, explored, agree-more, last-is, enters-alike, way-alike}
-use Rattle.numbering.specs.NumberingLaws.{found-reachable}
+use Rattle.numbering.proofs.ExploreLaws.{Listed, Agree, step-skips, step_keeps, step-finds, step-is-finding, explored, agree-more, last-is, enters-alike, way-alike}
+use Rattle.numbering.proofs.NumberingLaws.{found-reachable}
 use Rattle.expanding.specs.FormedLaws.{reachable-formed}
 use Rattle.expanding.specs.TablesLaws.{room-alike}
 use Rattle.expanding.specs.Expand.{NextsBefore, Filled, Taken, Goes}

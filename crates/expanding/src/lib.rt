@@ -1,5 +1,6 @@
 // One step of a tracker: step c is from tuple c / 8 on letter c % 8.
 #![tactic(auto)]
+
 ghost use Rattle.std.specs.Prelude.{◌≡◌, ◌<◌, ◌+◌, ◌/◌, ◌%◌};
 ghost use Rattle.tuple_record.specs.Record.{row_at};
 ghost use Rattle.automaton.specs.Automaton.{automaton};

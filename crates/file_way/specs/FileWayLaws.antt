@@ -9,7 +9,7 @@ use Rattle.tracker.specs.declared.Built.{Built}
 use Rattle.tracker.specs.declared.Built.TheVariants.{Refused as BuildRefused, Is}
 use Rattle.building.specs.FileBuild.{Builds}
 use Rattle.building.specs.FileBuildLaws.{file-built}
-use Rattle.ways.specs.FittedWayLaws.{fitted-down, fitted-shortest}
+use Rattle.ways.proofs.FittedWayLaws.{fitted-down, fitted-shortest}
 use Rattle.ways.specs.Spell.{LeadsDown}
 use Rattle.file_way.specs.declared.Way.{Way}
 use Rattle.file_way.specs.FileWay.{way_tables, EnoughForWay, ShowsWay}

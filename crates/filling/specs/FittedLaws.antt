@@ -10,7 +10,7 @@ use Rattle.tuple.specs.Step.{Tuple, place_set, Formed}
 use Rattle.tuple.specs.Row.{row}
 use Rattle.tuple.specs.RowLaws.{row-set, row-colour}
 use Rattle.numbering.specs.Numbering.{Reachable, tuple_at, FirstFound}
-use Rattle.numbering.specs.NumberingLaws.{numbering-reachable}
+use Rattle.numbering.proofs.NumberingLaws.{numbering-reachable}
 use Rattle.filling.specs.TrackerTables.{cleared_tracker, Fitted}
 use Rattle.expanding.specs.Tables.{TrackerTables, EnoughForTracker}
 use Rattle.expanding.specs.TablesLaws.{room-alike}

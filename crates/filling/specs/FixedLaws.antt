@@ -4,8 +4,8 @@ use Rattle.std.proofs.Common.{sym, ap, subst, ◌∙◌, ext_get_or}
 use Rattle.automaton.specs.Automaton.{Automaton}
 use Rattle.tuple.specs.Step.{Tuple}
 use Rattle.numbering.specs.Numbering.{TupleCells, NextCells}
-use Rattle.numbering.specs.NumberingLaws.{numbering-unique}
-use Rattle.numbering.specs.TableLaws.{tuple-cells-once, next-cells-once}
+use Rattle.numbering.proofs.NumberingLaws.{numbering-unique}
+use Rattle.numbering.proofs.TableLaws.{tuple-cells-once, next-cells-once}
 use Rattle.filling.specs.TrackerTables.{TrackerTables, Fitted}
 
 -- the same number in each cell of two trackers' tables, of whatever lengths

@@ -1,7 +1,6 @@
 pub mod TrackerTables
 pub mod TrackerTablesLaws
 pub mod Fill
-pub mod FillLaws
 pub mod FittedLaws
 pub mod FixedLaws
 pub mod SameTracker

@@ -5,7 +5,7 @@ use Rattle.automaton.specs.Rewritten.{marked_into}
 use Rattle.automaton.specs.declared.Edition.TheVariants.{StateBased}
 use Rattle.tuple.specs.SameSteps.{SameSteps, same_back}
 use Rattle.tuple.specs.RewrittenStep.{rewritten-steps}
-use Rattle.numbering.specs.SameNumbering.{same-numbering, same-tuple-cells, same-next-cells}
+use Rattle.numbering.proofs.SameNumbering.{same-numbering, same-tuple-cells, same-next-cells}
 use Rattle.filling.specs.TrackerTables.{TrackerTables, Fitted}
 use Rattle.filling.specs.FixedLaws.{SameNumbers, fitted-cells, fitted-once}
 

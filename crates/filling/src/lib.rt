@@ -1,5 +1,6 @@
 // The tables of a tracker, filled step by step, and cleared.
 #![tactic(auto)]
+
 ghost use Rattle.std.specs.Prelude.{◌≡◌, ◌≤◌, length};
 ghost use Rattle.tuple_record.specs.Record.{record_cells};
 ghost use Rattle.row_index.specs.Index.{Added};

@@ -9,7 +9,7 @@ use Rattle.columns.specs.Column.{column}
 use Rattle.columns.specs.LineLaws.{numbers_line-length}
 use Rattle.automaton.specs.declared.Edition.{Edition}
 use Rattle.automaton.specs.declared.Edition.TheVariants.{StateBased, TransitionBased}
-use Rattle.format.specs.Format.{State, Transition, Withdrawal, Sheet, sheet_word, head_line, name_line, withdrawal_line, state_numbers, state_line, transition_numbers, transition_line, state_width, transition_width, name_lines, withdrawal_lines, state_lines, transition_lines, lines, transition_index, Before, Faulty, wrong_name, name-twice, wrong-transition, withdrawn-letter, no_end, not_last}
+use Rattle.format.specs.Format.{State, Transition, Withdrawal, Sheet, sheet_word, head_line, name_line, withdrawal_line, state_numbers, state_line, transition_numbers, transition_line, state_width, transition_width, name_lines, withdrawal_lines, state_lines, transition_lines, lines, transition_index, Before, NameFault, EndFault, Faulty, least_after, wrong_name, name-twice, wrong-transition, withdrawn-letter, no_end, not_last}
 use Rattle.format.specs.Written.{longest_text}
 
 pub word-length : (e : Edition) → length (sheet_word e) ≡ 5
@@ -119,11 +119,18 @@ pub fault-number : {s : List ℕ} {number line : ℕ} → Faulty s number line �
 fault-number (Faulty.size a) = (omega arith, omega arith, inl (omega arith))
 fault-number (Faulty.head a b) = (omega arith, omega arith, inl (omega arith))
 fault-number (Faulty.range a i n k rest b c d e) = (omega arith, omega arith, inl (omega arith))
-fault-number (Faulty.name σ rest a b (wrong_name c)) = (omega arith, omega arith, inl (omega arith))
-fault-number (Faulty.name σ rest a b (name-twice x after c d e)) = (omega arith, omega arith, inl (omega arith))
+fault-number (Faulty.name σ rest a b f) = by f
+  where
+    by : {number : ℕ} → NameFault σ.names rest number → (2 ≤ number) × (number ≤ 16) × ((number ≤ 9) ⊎ (15 ≤ number))
+    by (wrong_name c) = (omega arith, omega arith, inl (omega arith))
+    by (name-twice x after c d e) = (omega arith, omega arith, inl (omega arith))
 fault-number (Faulty.withdrawal σ rest a b c d) = (omega arith, omega arith, inr (omega arith))
 fault-number (Faulty.state σ rest a b c d) = (omega arith, omega arith, inl (omega arith))
-fault-number (Faulty.end σ rest a b (wrong-transition c d)) = (omega arith, omega arith, inl (omega arith))
-fault-number (Faulty.end σ rest a b (withdrawn-letter t after c d e)) = (omega arith, omega arith, inr (omega arith))
-fault-number (Faulty.end σ rest a b (no_end c d)) = (omega arith, omega arith, inl (omega arith))
-fault-number (Faulty.end σ rest a b (not_last after c d)) = (omega arith, omega arith, inl (omega arith))
+fault-number (Faulty.end σ rest a b f) = by _ f
+  where
+    by : (due : ℕ) {number line : ℕ} → EndFault σ.edition σ.withdrawals σ.n σ.k (least_after 0 σ.transitions) rest due number line
+        → (2 ≤ number) × (number ≤ 16) × ((number ≤ 9) ⊎ (15 ≤ number))
+    by due (wrong-transition c d) = (omega arith, omega arith, inl (omega arith))
+    by due (withdrawn-letter t after c d e) = (omega arith, omega arith, inr (omega arith))
+    by due (no_end c d) = (omega arith, omega arith, inl (omega arith))
+    by due (not_last after c d) = (omega arith, omega arith, inl (omega arith))

@@ -1,5 +1,6 @@
 // The format of a sheet file, and how many bytes its state and transition lines have.
 #![tactic(auto)]
+
 ghost use Rattle.std.specs.Prelude.{◌≡◌, ◌≤◌};
 ghost use Rattle.format.specs.Format.{state_width, transition_width};
 

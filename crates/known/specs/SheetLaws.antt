@@ -22,7 +22,7 @@ use Rattle.parser.specs.CompleteLaws.{faulty-parse}
 use Rattle.parser.specs.UniqueLaws.{accepts-parse}
 use Rattle.tuple.specs.Step.{Tuple}
 use Rattle.numbering.specs.Numbering.{Numbering, MoreThan}
-use Rattle.numbering.specs.NumberingLaws.{found_all, found-more, more-excludes, numbering-unique}
+use Rattle.numbering.proofs.NumberingLaws.{found_all, found-more, more-excludes, numbering-unique}
 use Rattle.plan.specs.Parse.{plan_of}
 use Rattle.known.specs.Case.{Expected, judged, meeting, Shortest, met}
 use Rattle.known.specs.Case as E

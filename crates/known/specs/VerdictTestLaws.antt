@@ -14,7 +14,7 @@ use Rattle.automaton.specs.Automaton.{Automaton}
 use Rattle.tuple.specs.Step.{Tuple, colour_entered}
 use Rattle.numbering.specs.Numbering.{tuple_at}
 use Rattle.numbering.specs.Explore.{tuple_number}
-use Rattle.numbering.specs.ExploreLaws.{Listed, tuple-number-is, agree-more, last-is}
+use Rattle.numbering.proofs.ExploreLaws.{Listed, tuple-number-is, agree-more, last-is}
 use Rattle.passes.specs.declared.Answer.{Answer}
 use Rattle.passes.specs.declared.Answer.TheVariants.{Yes, No}
 use Rattle.passes.specs.declared.Verdict.{Verdict}

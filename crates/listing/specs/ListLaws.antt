@@ -6,7 +6,7 @@ use Rattle.gate.specs.GateLaws.{refused-first}
 use Rattle.gate.specs.declared.Refusal.{Refusal}
 use Rattle.automaton.specs.Automaton.{Automaton, Fits, AreNumbers}
 use Rattle.lent.specs.Lent.{cleared_witness}
-use Rattle.lent.specs.LentLaws.{numbers-number}
+use Rattle.lent.proofs.LentLaws.{numbers-number}
 use Rattle.filling.specs.TrackerTables.{TrackerTables, cleared_tracker, EnoughForTracker, Fitted}
 use Rattle.tracker.specs.Build.{BuildNumbersTables, build_numbers_tables, cleared_build_numbers, BuildsNumbers}
 use Rattle.tracker.specs.BuildLaws.{numbers-built}

@@ -1,5 +1,6 @@
 // One line of a listing, of each kind, at a position of the output.
 #![tactic(auto)]
+
 ghost use Rattle.std.specs.Prelude.{◌≡◌, ◌+◌, ◌≤◌, length};
 ghost use Rattle.std.proofs.lemmas.List.Edits.{sets};
 ghost use Rattle.listing_lines.specs.ListingLine.{columns, track_line, tuple_line};

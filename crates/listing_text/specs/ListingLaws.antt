@@ -9,8 +9,8 @@ use Rattle.tuple_record.specs.Record.{set_cells, record_cells, record_start, set
 use Rattle.tuple_record.specs.RecordLaws.{CellOf, cell-of}
 use Rattle.tuple.specs.TupleLaws.{small}
 use Rattle.numbering.specs.Numbering.{tuple_at, entered, FoundBy, WayFrom}
-use Rattle.numbering.specs.ExploreLaws.{way-mapped, way-once}
-use Rattle.numbering.specs.NumberingLaws.{numbers_apart}
+use Rattle.numbering.proofs.ExploreLaws.{way-mapped, way-once}
+use Rattle.numbering.proofs.NumberingLaws.{numbers_apart}
 use Rattle.filling.specs.TrackerTables.{TrackerTables, EnoughForTracker, Fitted}
 use Rattle.filling.specs.FittedLaws.{tuple, fitted-formed, fitted-set, fitted-colour, fitted-way, fitted-behind, fitted-next, fitted-room}
 use Rattle.text.specs.Bytes.{lf, end_line}

@@ -1,5 +1,6 @@
 // The text of a listing: how long it is, and its lines written one behind the other.
 #![tactic(auto)]
+
 ghost use Rattle.std.specs.Prelude.{◌≡◌, ◌+◌, ◌*◌, ◌≤◌, length};
 ghost use Rattle.std.proofs.lemmas.List.Edits.{sets};
 ghost use Rattle.gate.specs.Gate.{lent_text};

@@ -1,5 +1,6 @@
 // Meeting walks: whether there are any, and a shortest pair of them, traced back from where the search among pairs ends.
 #![tactic(auto)]
+
 ghost use Rattle.std.specs.Prelude.{◌≡◌, ℕ, ◌<◌, length};
 ghost use Rattle.sets.specs.Sets.{Member};
 ghost use Rattle.pairs.specs.Joining.{Backwards};

@@ -1,5 +1,6 @@
 // The name lines of a sheet: questions 5 and 6.
 #![tactic(auto)]
+
 ghost use Rattle.std.specs.Prelude.{◌≡◌, ◌+◌, ◌<◌, ◌≤◌, ◌^◌, [], length};
 ghost use Rattle.names.specs.Scan.{name_fits};
 ghost use Rattle.name_lines.specs.NameLines.{name_line_at, names_at, NamesRead};

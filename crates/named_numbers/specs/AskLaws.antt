@@ -6,7 +6,7 @@ use Rattle.gate.specs.declared.Refusal.{Refusal}
 use Rattle.automaton.specs.declared.Numbers.{Numbers}
 use Rattle.automaton.specs.Automaton.{Automaton, TransitionSets}
 use Rattle.lent.specs.Lent.{WitnessTables, EnoughForSheet, cleared_witness}
-use Rattle.lent.specs.LentLaws.{tables-twice, meets-cleared}
+use Rattle.lent.proofs.LentLaws.{tables-twice, meets-cleared}
 use Rattle.walks.specs.declared.Checked.{Checked}
 use Rattle.walks.specs.declared.Checked.TheVariants as K
 use Rattle.walks.specs.CheckLaws.{ready}

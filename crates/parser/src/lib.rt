@@ -1,5 +1,6 @@
 // The lines of a sheet file, read from the top: questions 2 to 9, 15 and 16.
 #![tactic(auto)]
+
 pub mod whole_file;
 
 use automaton::{Edition, Numbers};

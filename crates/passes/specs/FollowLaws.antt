@@ -6,7 +6,7 @@ use native.Mathlib.Omega.{arith}
 use Rattle.automaton.specs.Automaton.{Automaton, Fits}
 use Rattle.tuple.specs.Step.{Tuple, run, colour_entered}
 use Rattle.numbering.specs.Numbering.{tuple_at, Numbering}
-use Rattle.numbering.specs.NumberingLaws.{numbers_apart}
+use Rattle.numbering.proofs.NumberingLaws.{numbers_apart}
 use Rattle.filling.specs.TrackerTables.{TrackerTables, EnoughForTracker, Fitted}
 use Rattle.filling.specs.FittedLaws.{fitted-colour, fitted-next, fitted-room}
 use Rattle.passes.specs.declared.Verdict.{Verdict}

@@ -3,7 +3,7 @@ use Rattle.std.specs.Prelude.{ℕ, suc, ◌+◌, ◌*◌, ◌≡◌, ◌↔◌}
 use Rattle.std.proofs.Common.{subst}
 use Rattle.automaton.specs.Automaton.{Automaton}
 use Rattle.automaton.specs.Rewritten.{marked_into}
-use Rattle.automaton.specs.RewrittenLaws.{rewritten-passes}
+use Rattle.automaton.proofs.RewrittenLaws.{rewritten-passes}
 use Rattle.automaton.specs.declared.Edition.TheVariants.{StateBased}
 use Rattle.tuple.specs.Step.{Tuple, run}
 use Rattle.tuple.specs.SameSteps.{SameSteps, same_back, same-run}

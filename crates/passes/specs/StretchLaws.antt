@@ -4,7 +4,7 @@ use Rattle.std.specs.Prelude.{ℕ, suc, ◌+◌, ◌*◌, ◌-◌, ◌≤◌, �
 use Rattle.std.proofs.Common.{sym, ◌∙◌, ap, subst, arith, add-mul, mul-le-mul_right}
 use Rattle.std.proofs.Math.Decide.{le_ind}
 use Rattle.theory.specs.Run.{Least}
-use Rattle.theory.specs.Theorem.{least-repeating}
+use Rattle.theory.proofs.Theorem.{least-repeating}
 use Rattle.passes.specs.Letter.{letter_at}
 use Rattle.passes.specs.LetterLaws.{letter-repeats}
 use Rattle.passes.specs.Passes.{FirstRepeat, LeastOf}

@@ -1,5 +1,6 @@
 // The verdict on an endless word of letters, by tuple numbers: nothing is asked of a tracker's tables but next numbers and colours.
 #![tactic(auto)]
+
 ghost use Rattle.std.specs.Prelude.{◌≡◌, ◌+◌, ◌*◌, ◌<◌, ◌≤◌, min, length, get_or};
 ghost use Rattle.passes.specs.Passes.{LeastOf, AnswerIs, is_yes};
 ghost use Rattle.passes.specs.TableRun.{AllBelow, TablesFit, LettersFit, word_of, Passing, TableJudges};

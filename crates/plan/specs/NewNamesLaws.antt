@@ -1,5 +1,5 @@
 -- R-1, "Old grade names stay in plans for months": a plan with old names is read as the same plan in new names. Assumes nothing.
-use Rattle.std.specs.Prelude.{ℕ, ◌+◌, ◌*◌, ◌≤◌, refl, List, ◌∷◌, ◌++◌, length}
+use Rattle.std.specs.Prelude.{ℕ, ◌*◌, ◌≤◌, refl, List, ◌∷◌, ◌++◌, length}
 use native.Mathlib.Omega.{arith}
 use Rattle.std.proofs.Math.ListN.{length-append}
 use Rattle.text.specs.Bytes.{lf}

@@ -18,7 +18,7 @@ module _ {σ τ : Sheet} (same : SameLetters σ τ) where
   above-alike h = record { range = h.range; letters = h.letters; known = known_alike h.known; text = h.text }
 
   name-alike : {rest : List ℕ} {number : ℕ} → PlanNameFault σ rest number → PlanNameFault τ rest number
-  name-alike (PlanNameFault.Wrong-name f) = PlanNameFault.Wrong-name f
+  name-alike (PlanNameFault.wrong_name f) = PlanNameFault.wrong_name f
   name-alike (PlanNameFault.unknown-name x after is e f) = PlanNameFault.unknown-name x after is e (λ l h. f l (stands_alike (same-letters-back same) h))
 
   pub plan-fault-alike : {p : List ℕ} {number line : ℕ} → PlanFaulty σ p number line → PlanFaulty τ p number line

@@ -1,5 +1,6 @@
 // The plan file, read into letters.
 #![tactic(auto)]
+
 pub mod whole_file;
 
 use gate::Refusal;

@@ -1,5 +1,6 @@
 // The name lines of a plan: questions 12 and 14.
 #![tactic(auto)]
+
 ghost use Rattle.std.specs.Prelude.{◌≡◌, List, [], ℕ, ◌<◌, ◌≤◌, ◌^◌, length};
 ghost use Rattle.name_rows.specs.Rows.{HoldNames, OnlyRow};
 ghost use Rattle.superseding.specs.Superseding.{superseding_in};

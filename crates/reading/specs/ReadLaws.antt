@@ -1,5 +1,5 @@
 -- From the file and the walk check to the answer of reading. Assumes nothing.
-use Rattle.std.specs.Prelude.{ℕ, ◌-◌, ◌≤◌, ◌≡◌, List, length, take}
+use Rattle.std.specs.Prelude.{ℕ, ◌≤◌, ◌≡◌, List, length, take}
 use Rattle.std.proofs.Common.{sym, ◌∙◌, ap, subst, arith}
 use Rattle.gate.specs.Gate.{cleared}
 use Rattle.gate.specs.declared.Refusal.{Refusal}
@@ -9,7 +9,7 @@ use Rattle.automaton.specs.QuestionLaws.{same_graph, fits-graph}
 use Rattle.automaton.specs.declared.GraphNumbers.{GraphNumbers}
 use Rattle.automaton.specs.declared.Numbers.{Numbers}
 use Rattle.lent.specs.Lent.{WitnessTables, EnoughForWitness, cleared_witness, cleared_sets, EnoughForSheet}
-use Rattle.lent.specs.LentLaws.{tables-twice, long-cleared, meets-cleared, sets-twice, long-sets-cleared, lent-cleared}
+use Rattle.lent.proofs.LentLaws.{tables-twice, long-cleared, meets-cleared, sets-twice, long-sets-cleared, lent-cleared}
 use Rattle.meeting.specs.Answer.{Asked}
 use Rattle.walks.specs.Check.{AnsweredTen}
 use Rattle.walks.specs.CheckLaws.{meets-answered}

@@ -1,5 +1,6 @@
 // Questions 2 to 10 on a sheet file, which is read once: its numbers, its successor sets, its marks and its composed names.
 #![tactic(auto)]
+
 ghost use Rattle.std.specs.Prelude.{◌≡◌, ◌≤◌, length};
 ghost use Rattle.automaton.specs.Automaton.{transition_sets};
 ghost use Rattle.lent.specs.Lent.{witness_tables, EnoughForSheet, cleared_witness, cleared_sets};

@@ -1,5 +1,6 @@
 // The sheet file, read.
 #![tactic(auto)]
+
 ghost use Rattle.automaton.specs.Automaton.{transition_sets};
 ghost use Rattle.lent.specs.Lent.{witness_tables};
 ghost use Rattle.sheet.specs.Read.{sheet_tables, Reads};

@@ -1,5 +1,6 @@
 // The state lines of a sheet: question 7.
 #![tactic(auto)]
+
 ghost use Rattle.std.specs.Prelude.{◌≡◌, ◌<◌, ◌≤◌, ◌^◌};
 ghost use Rattle.automaton.specs.declared.Edition.TheVariants.{StateBased, TransitionBased};
 ghost use Rattle.state_lines.specs.StateLines.{state_line_at, states_at, FlagsFit, states_answer, SetsFit};

@@ -8,7 +8,7 @@ use Rattle.parser.specs.UniqueLaws.{file-unique}
 use Rattle.reading.specs.Read.{Accepted}
 use Rattle.reading.specs.ReadLaws.{refuses-once, accepted-unrefused}
 use Rattle.numbering.specs.Numbering.{MoreThan}
-use Rattle.numbering.specs.NumberingLaws.{more-excludes}
+use Rattle.numbering.proofs.NumberingLaws.{more-excludes}
 use Rattle.filling.specs.TrackerTables.{TrackerTables, Fitted}
 use Rattle.listing_text.specs.Listing.{listing}
 use Rattle.listing_text.specs.SameListing.{listing-fixed}

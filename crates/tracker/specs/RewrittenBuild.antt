@@ -4,12 +4,12 @@ use Rattle.std.proofs.Common.{ap}
 use Rattle.automaton.specs.Automaton.{Automaton, Fits, AreNumbers}
 use Rattle.automaton.specs.QuestionLaws.{fits-first-no}
 use Rattle.automaton.specs.Rewritten.{marked_into}
-use Rattle.automaton.specs.RewrittenLaws.{rewritten-length, rewritten-fits}
+use Rattle.automaton.proofs.RewrittenLaws.{rewritten-length, rewritten-fits}
 use Rattle.automaton.specs.declared.Edition.TheVariants.{StateBased, TransitionBased}
 use Rattle.automaton.specs.declared.Numbers.{Numbers}
 use Rattle.lent.specs.Lent.{WitnessTables, NumbersRefuse}
 use Rattle.gate.specs.declared.Refusal.{Refusal}
-use Rattle.numbering.specs.SameNumbering.{rewritten-more}
+use Rattle.numbering.proofs.SameNumbering.{rewritten-more}
 use Rattle.filling.specs.TrackerTables.{TrackerTables}
 use Rattle.filling.specs.SameTracker.{rewritten-fitted}
 use Rattle.tracker.specs.declared.Built.{Built}

@@ -1,5 +1,6 @@
 // The tracker: every tuple that some word reaches, numbered as found, in lent tables.
 #![tactic(auto)]
+
 ghost use Rattle.automaton.specs.Automaton.{transition_sets, automaton, Fits};
 ghost use Rattle.gate.specs.Gate.{Decides};
 ghost use Rattle.lent.specs.Lent.{witness_tables};

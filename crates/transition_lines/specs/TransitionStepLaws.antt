@@ -14,7 +14,6 @@ use Rattle.frame.specs.Answers.{end_answer}
 use Rattle.frame.specs.EndLaws.{end-outcome}
 use Rattle.transition_lines.specs.declared.TransitionLine.{TransitionLine}
 use Rattle.frame.specs.declared.End.{End}
-use Rattle.frame.specs.declared.End.TheVariants as End
 
 -- THE TRANSITION LINES: g of them may still come
 module _ (ed : Edition) (s cells : List ℕ) (n k line at least : ℕ) (sets : TransitionSets) (f g : ℕ) (h : g ≡ suc f) where

@@ -1,5 +1,6 @@
 // The transition lines of a sheet and its end: questions 8, 16 and 9.
 #![tactic(auto)]
+
 ghost use Rattle.std.specs.Prelude.{◌≡◌, ◌+◌, ◌<◌, ◌≤◌, ◌^◌, length, take};
 ghost use Rattle.superseding.specs.Superseding.{superseding_in};
 ghost use Rattle.automaton.specs.Automaton.{transition_sets};

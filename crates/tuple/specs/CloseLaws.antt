@@ -7,7 +7,7 @@ use Rattle.sets.specs.SetLaws.{no_member}
 use Rattle.sets.specs.TestLaws.{some_of, none_of, empty_of, full-of}
 use Rattle.finite.specs.Finite.{pigeon-rel}
 use Rattle.theory.specs.Run.{Some, None}
-use Rattle.theory.specs.Basic.{rank_mono}
+use Rattle.theory.proofs.Basic.{rank_mono}
 use Rattle.tuple.specs.Step.{unless_empty, closed, close_up, Place, set_at_place, turns}
 use Rattle.tuple.specs.PassLaws.{In, After, two, kept, own}
 

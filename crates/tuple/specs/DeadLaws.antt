@@ -1,5 +1,5 @@
 -- Colour 1, "1 if set 0 is empty": it is entered just when no walk is on the letters read, and then for ever. Assumes nothing.
-use Prim.Native.Nat.{ℕ, zero, suc, ◌+◌, ◌*◌, ◌≤◌, ◌<◌}
+use Prim.Native.Nat.{ℕ, suc, ◌≤◌, ◌<◌}
 use Rattle.std.specs.Prelude.{◌≡◌, refl, ◌⊎◌, ◌↔◌, List, [], ◌∷◌, length}
 use Rattle.std.proofs.Common.{subst, inl, inr, arith}
 use Rattle.std.proofs.Math.Decide.{ℕ_discrete}
@@ -11,7 +11,7 @@ use Rattle.automaton.specs.Graph.{Graph, Edge}
 use Rattle.automaton.specs.Meeting.{Walk}
 use Rattle.colour.specs.Colour.{dead, dead_or}
 use Rattle.theory.specs.Run.{None}
-use Rattle.theory.specs.Basic.{at_place, zero-kept}
+use Rattle.theory.proofs.Basic.{at_place, zero-kept}
 use Rattle.tuple.specs.Step.{Tuple, Place, place_set, places, pass, set_at_place, colour_of, next, run, colour_entered}
 use Rattle.tuple.specs.PassLaws.{In, After}
 use Rattle.tuple.specs.TupleLaws.{run-formed}

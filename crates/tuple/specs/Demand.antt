@@ -11,13 +11,14 @@ use Rattle.automaton.specs.Meeting.{Walk, Meet, Free}
 use Rattle.automaton.specs.Endless.{EndlessFrom, MeetingFree}
 use Rattle.automaton.specs.EndlessLaws.{reading-endless, reading-walk}
 use Rattle.automaton.specs.Reading.{Reading, Passes, Recurrent}
-use Rattle.automaton.specs.RecurrenceLaws.{recurs-takes}
+use Rattle.automaton.proofs.RecurrenceLaws.{recurs-takes}
 use Rattle.automaton.specs.EdgeLaws.{edge-dec}
 use Rattle.finite.specs.Paths.{glue, glue-lt, glue-ge, extend}
 use Rattle.finite.specs.Least.{lowest}
 use Rattle.theory.specs.Run.{Path, Often, Alone, Least}
-use Rattle.theory.specs.Endless.{LPO, least-endless}
-use Rattle.theory.specs.Theorem.{repeating, endless}
+use Rattle.theory.specs.Endless.{LPO}
+use Rattle.theory.proofs.Endless.{least-endless}
+use Rattle.theory.proofs.Theorem.{repeating, endless}
 use Rattle.tuple.specs.Step.{place_set, run, colour_entered}
 use Rattle.tuple.specs.PassLaws.{In}
 use Rattle.tuple.specs.TupleLaws.{first-in, first_member}

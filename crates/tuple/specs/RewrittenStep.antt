@@ -7,7 +7,7 @@ use Rattle.sets.specs.Sets.{Member, inter_of}
 use Rattle.sets.specs.SetLaws.{inter-in, inter-of, ext-member}
 use Rattle.automaton.specs.Automaton.{Automaton}
 use Rattle.automaton.specs.Rewritten.{marked_into}
-use Rattle.automaton.specs.RewrittenLaws.{marked-edge}
+use Rattle.automaton.proofs.RewrittenLaws.{marked-edge}
 use Rattle.automaton.specs.Successors.{successors_of}
 use Rattle.automaton.specs.SuccessorLaws.{successors-in, successors-of-member}
 use Rattle.automaton.specs.declared.Edition.{Edition}

@@ -9,10 +9,10 @@ use Rattle.automaton.specs.Automaton.{Automaton, graph_of, Fits}
 use Rattle.automaton.specs.Graph.{Edge}
 use Rattle.automaton.specs.Meeting.{Walk}
 use Rattle.theory.specs.Run.{Run}
-use Rattle.theory.specs.Basic.{is-reached, reaches}
+use Rattle.theory.proofs.Basic.{is-reached, reaches}
 use Rattle.automaton.specs.Reading.{Recurrent}
-use Rattle.automaton.specs.RecurrenceLaws.{recurrent-dec}
-use Rattle.tuple.specs.Step.{colour_entered, place_set, places, Place, pass, first, next, run}
+use Rattle.automaton.proofs.RecurrenceLaws.{recurrent-dec}
+use Rattle.tuple.specs.Step.{colour_entered, place_set, places, Place, pass, next, run}
 use Rattle.tuple.specs.PassLaws.{In, front, After, Marked, kept, gone, mark-some, mark-in, mark-out, turns-length}
 use Rattle.tuple.specs.CloseLaws.{rank, rank-some, rank-none, move, move⁻, dec-place}
 use Rattle.tuple.specs.ColourLaws.{col-mark, col-gone, col-pos, col-top, col-even, col-odd}

@@ -4,7 +4,7 @@ use Rattle.std.proofs.Common.{sym, ◌∙◌, inr, arith}
 use Rattle.automaton.specs.Automaton.{Automaton, TransitionSets, sets_of_automaton, graph_of, Fits}
 use Rattle.automaton.specs.Graph.{Graph}
 use Rattle.lent.specs.Lent.{WitnessTables, EnoughForSheet, cleared_witness, Meets}
-use Rattle.lent.specs.LentLaws.{lengths-cleared, tables-twice, refuse-cleared}
+use Rattle.lent.proofs.LentLaws.{lengths-cleared, tables-twice, refuse-cleared}
 use Rattle.walks.specs.declared.Checked.{Checked}
 use Rattle.walks.specs.declared.Checked.TheVariants.{Refused, Accepted}
 use Rattle.walks.specs.Check.{Checks, ChecksLong, AnsweredTen}

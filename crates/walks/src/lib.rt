@@ -1,5 +1,6 @@
 // The walk check: question 10, and the whole check of a sheet that is handed over as numbers.
 #![tactic(auto)]
+
 ghost use Rattle.std.specs.Prelude.{◌≡◌};
 ghost use Rattle.automaton.specs.Automaton.{transition_sets, automaton};
 ghost use Rattle.automaton.specs.Graph.{graph};

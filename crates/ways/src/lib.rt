@@ -1,5 +1,6 @@
 // The way back from a tuple, followed through a tracker's table: the word that it spells.
 #![tactic(auto)]
+
 ghost use Rattle.std.specs.Prelude.{◌≡◌, ◌<◌, ◌≤◌, length};
 ghost use Rattle.tuple_record.specs.Record.{from_in};
 ghost use Rattle.ways.specs.Way.{Spelled};

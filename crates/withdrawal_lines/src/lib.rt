@@ -1,5 +1,6 @@
 // The withdrawal lines of a sheet: question 15.
 #![tactic(auto)]
+
 ghost use Rattle.std.specs.Prelude.{◌≡◌, ◌+◌, ◌<◌, ◌≤◌, ◌^◌, length};
 ghost use Rattle.superseding.specs.Superseding.{superseding_in};
 ghost use Rattle.withdrawal_lines.specs.WithdrawalLines.{withdrawal_line_at, withdrawals_at, WithdrawalFits, WithdrawalsRead};

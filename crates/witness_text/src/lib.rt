@@ -1,5 +1,6 @@
 // The word and the two walks of a 10, line by line.
 #![tactic(auto)]
+
 ghost use Rattle.std.specs.Prelude.{◌+◌, ◌≤◌, ◌≡◌, ◌∷◌, length};
 ghost use Rattle.text.specs.Bytes.{space};
 ghost use Rattle.columns.specs.Column.{column};

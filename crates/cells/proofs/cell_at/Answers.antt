@@ -1,7 +1,6 @@
 -- Past the end of a list `get_or` gives its default. Assumes nothing.
 use lib.ListN.{get_or-eq_default}
 use mathlib.Core.Path.{sym}
-use borrow.Author.Rules.{rules}
 use Rattle.cells.proofs.cell_at.Goals as goal
 
 pub returns-else-i-list : goal.returns-else-i-list

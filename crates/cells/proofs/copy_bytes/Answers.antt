@@ -1,7 +1,5 @@
 -- The cells passed are the list's, with zeros behind it: `Copying`. Assumes nothing.
-use Prim.Native.Nat.{◌-◌}
-use lib.ListN.{length}
-use Rattle.cells.specs.CopyLaws.{Copying, copy-none, copy_more, copy-end}
+use Rattle.cells.specs.CopyLaws.{copy-none, copy_more, copy-end}
 use borrow.Author.Rules.{rules}
 use Rattle.cells.proofs.copy_bytes.Goals as goal
 

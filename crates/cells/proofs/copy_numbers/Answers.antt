@@ -1,7 +1,5 @@
 -- The cells passed are the list's, with zeros behind it: `Copying`. Assumes nothing.
-use Prim.Native.Nat.{◌-◌}
-use lib.ListN.{length}
-use Rattle.cells.specs.CopyLaws.{Copying, copy-none, copy_more, copy-end}
+use Rattle.cells.specs.CopyLaws.{copy-none, copy_more, copy-end}
 use borrow.Author.Rules.{rules}
 use Rattle.cells.proofs.copy_numbers.Goals as goal
 
@@ -9,7 +7,7 @@ pub loop-i-init : goal.loop-i-init
 loop-i-init c = copy-none _ _
 
 pub loop-i-preserved : goal.loop-i-preserved
-loop-i-preserved c = copy_more c.loop-i.invariant c.Cell-at.ensures (search rules)
+loop-i-preserved c = copy_more c.loop-i.invariant c.cell_at.ensures (search rules)
 
 pub returns : goal.returns
 returns c = copy-end c.loop-i.invariant (search rules)

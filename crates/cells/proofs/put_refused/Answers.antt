@@ -1,5 +1,4 @@
 -- The cells that are copied are those of the refusal, as they stand. Assumes nothing.
-use borrow.Author.Rules.{rules}
 use Rattle.cells.proofs.put_refused.Goals as goal
 
 pub returns : goal.returns

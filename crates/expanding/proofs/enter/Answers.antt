@@ -5,7 +5,6 @@ use mathlib.Core.List.{List}
 use Rattle.automaton.specs.Automaton.{automaton}
 use Rattle.tuple.specs.Step.{next}
 use Rattle.tuple.specs.Row.{row, tuple_of, Steps}
-use borrow.Author.Rules.{rules}
 use Rattle.expanding.proofs.enter.Goals as goal
 
 pub step-requires : goal.step-requires
@@ -16,6 +15,6 @@ step-requires c =
 pub returns : goal.returns
 returns c =
     let a = c.args in
-    subst (λ (l : List ℕ). c.step.new.1.1.1.1.0 ≡ row (next (automaton a.a a.table.now a.marks.now) (a.c % 8) (tuple_of l)))
+    subst (λ (l : List ℕ). c.step.new.w ≡ row (next (automaton a.a a.table.now a.marks.now) (a.c % 8) (tuple_of l)))
     c.load.ensures
     c.step.ensures

@@ -3,75 +3,67 @@ use mathlib.Core.Path.{refl}
 use Prim.Native.Nat.{◌*◌, ◌/◌, ◌%◌, ◌≤◌, ◌<◌}
 use native.Mathlib.Omega.{arith}
 use lib.ListN.{length}
-use Rattle.automaton.specs.Automaton.{Automaton, automaton}
+use Rattle.automaton.specs.Automaton.{automaton}
 use Rattle.expanding.specs.Expand.{Taken}
 use Rattle.expanding.specs.ExpandLaws.{fill-steps, Looked, goes-skip, goes-old, goes-new, goes_over}
-use borrow.Author.Rules.{rules}
 use Rattle.expanding.proofs.expand.Goals as goal
-use Rattle.expanding.proofs.expand.Goals.{After-enter, After-find_or_add-t, Else-a-c, Start}
+use Rattle.expanding.proofs.expand.Goals.{After-find_or_add-t, Else-a-c}
 
 -- behind the first test the step can be taken
-abbrev start : Else-a-c → Start
-start c = c.before.before.before.before.before.before.before.before
-
-abbrev given : Start → Automaton
-given c = automaton c.args.a c.args.table.now c.args.marks.now
-
-taken : (c : Else-a-c) → Taken (given (start c)) (start c).args.c (start c).args.m
-taken c = record { from = (start c).requires.1; letter = c.if-a-c.false }
+taken : (c : Else-a-c) → Taken (automaton c.args.a c.args.table.now c.args.marks.now) c.args.c c.args.m
+taken c = record { from = c.requires.1; letter = c.if-a-c.false }
 
 -- there are few tuples, and a cell for the step's number
-bounds : (c : Else-a-c) → let a = (start c).args in (a.c / 8 < a.m) × (a.m ≤ a.room) × (a.room ≤ 1024) × (8 * a.room ≤ length a.nexts.now)
-bounds c = let (f, from) = (start c).requires in (from, f.room-is, f.room_fits.most, f.room_fits.nexts)
+bounds : (c : Else-a-c) → let a = c.args in (a.c / 8 < a.m) × (a.m ≤ a.room) × (a.room ≤ 1024) × (8 * a.room ≤ length a.nexts.now)
+bounds c = let (f, from) = c.requires in (from, f.room-is, f.room_fits.most, f.room_fits.nexts)
 
 -- its row, once its number is told
-abbrev entered : After-find_or_add-t → After-enter
-entered c = c.before.before.before.before.before.before
-
-abbrev passed : After-find_or_add-t → Else-a-c
-passed c = (entered c).before.before.before
-
 looked : (c : After-find_or_add-t) →
-    let s = start (passed c) in
-    let a = s.args in
+    let a = c.args in
     let d = c.find_or_add-t in
-    Looked (given s) a.room a.c a.m a.tuples.now a.nexts.now a.head.now a.link.now (entered c).enter.new.1.1.1.1.1.0
-    (record { from = a.c / 8; letter = a.c % 8 }) d.new.0 d.new.1.1.1.1.1.0 d.new.1.1.1.1.1.1.0 d.result
-looked c = record { filled = (start (passed c)).requires.0; taken = taken (passed c); gives = (entered c).enter.ensures; from = refl; letter = refl; placed = c.find_or_add-t.ensures }
+    Looked (automaton a.a a.table.now a.marks.now) a.room a.c a.m a.tuples.now a.nexts.now a.head.now a.link.now c.enter.new.w
+    (record { from = a.c / 8; letter = a.c % 8 }) d.new.table d.new.head d.new.link d.result
+looked c = record {
+  filled = c.requires.0;
+  taken = record { from = c.requires.1; letter = c.if-a-c.false };
+  gives = c.enter.ensures;
+  from = refl;
+  letter = refl;
+  placed = c.find_or_add-t.ensures;
+}
 
 pub returns-then-a-c : goal.returns-then-a-c
 returns-then-a-c c = goes-skip c.requires.0 c.if-a-c.true
 
 pub enter-requires : goal.enter-requires
 enter-requires c =
-    let f = (start (goal.at.enter-requires c).After-struct_known-1).requires.0 in
-    let p = (start (goal.at.enter-requires c).After-struct_known-1).requires.1 in
+    let f = c.requires.0 in
+    let p = c.requires.1 in
     let q = f.room-is in
     let r = f.room_fits.most in
     let t = f.room_fits.tuples in
-    (fill-steps f (taken (goal.at.enter-requires c).After-struct_known-1), record { small = omega arith; row = omega arith; cells = refl })
+    (fill-steps f (taken (goal.at.enter-requires c).Else-a-c), record { small = omega arith; row = omega arith; cells = refl })
 
 pub overflow_cast-way : goal.overflow_cast-way
-overflow_cast-way c = let h = bounds (goal.at.overflow_cast-way c).After-struct_known-1 in omega arith
+overflow_cast-way c = let h = bounds (goal.at.overflow_cast-way c).Else-a-c in omega arith
 
 pub overflow_cast-way-2 : goal.overflow_cast-way-2
 overflow_cast-way-2 c = omega arith
 
 pub overflow_add-result : goal.overflow_add-result
-overflow_add-result c = let h = bounds (passed (goal.at.overflow_add-result c).After-find_or_add-t) in omega arith
+overflow_add-result c = let h = bounds (goal.at.overflow_add-result c).Else-a-c in omega arith
 
 pub returns-then-room-t : goal.returns-then-room-t
 returns-then-room-t c = goes_over (looked (goal.at.returns-then-room-t c).After-find_or_add-t) c.if-room-t.true
 
 pub overflow_cast-nexts : goal.overflow_cast-nexts
-overflow_cast-nexts c = let h = bounds (passed (goal.at.overflow_cast-nexts c).After-find_or_add-t) in omega arith
+overflow_cast-nexts c = let h = bounds (goal.at.overflow_cast-nexts c).Else-a-c in omega arith
 
 pub offset_bounds-nexts-c : goal.offset_bounds-nexts-c
-offset_bounds-nexts-c c =
-    let h = bounds (passed (goal.at.offset_bounds-nexts-c c).After-find_or_add-t) in omega arith
+offset_bounds-nexts-c c = let h = bounds (goal.at.offset_bounds-nexts-c c).Else-a-c in omega arith
 
 pub bounds-nexts-c : goal.bounds-nexts-c
-bounds-nexts-c c = let h = bounds (passed (goal.at.bounds-nexts-c c).After-find_or_add-t) in omega arith
+bounds-nexts-c c = let h = bounds (goal.at.bounds-nexts-c c).Else-a-c in omega arith
 
 pub returns-then-t-m : goal.returns-then-t-m
 returns-then-t-m c = goes-old (looked (goal.at.returns-then-t-m c).After-find_or_add-t) c.if-t-m.true

@@ -3,7 +3,7 @@ use mathlib.Core.Path.{subst}
 use native.Mathlib.Omega.{arith}
 use Rattle.automaton.specs.Automaton.{transition_sets}
 use Rattle.lent.specs.Lent.{witness_tables}
-use Rattle.lent.specs.LentLaws.{sets-cleared-alike}
+use Rattle.lent.proofs.LentLaws.{sets-cleared-alike}
 use Rattle.filling.specs.TrackerTables.{tracker_tables}
 use Rattle.tracker.specs.Build.{BuildTables, build_tables}
 use Rattle.building.specs.FileBuild.{Builds}

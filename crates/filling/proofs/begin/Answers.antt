@@ -7,7 +7,6 @@ use Rattle.tuple_record.specs.Record.{set_cells, row_cells}
 use Rattle.row_index.specs.Index.{Indexed, Added}
 use Rattle.row_index.specs.IndexLaws.{indexed-none}
 use Rattle.filling.specs.Fill.{first_cells, first_way}
-use borrow.Author.Rules.{rules}
 use Rattle.filling.proofs.begin.Goals as goal
 
 pub find_or_add-requires : goal.find_or_add-requires
@@ -23,5 +22,5 @@ returns c =
     let a = c.args in
     let d = c.find_or_add in
     subst
-    (λ (x : ℕ). Added a.tuples.now d.new.0 0 (set (set (replicate row_cells 0) 0 a.a.initial) set_cells x) first_way d.new.1.1.1.1.1.0 d.new.1.1.1.1.1.1.0)
+    (λ (x : ℕ). Added a.tuples.now d.new.table 0 (set (set (replicate row_cells 0) 0 a.a.initial) set_cells x) first_way d.new.head d.new.link)
     c.neutral-neutral.ensures (d.ensures.added (omega arith) (omega arith))

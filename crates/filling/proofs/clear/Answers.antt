@@ -1,7 +1,6 @@
 -- Each table is cleared. Assumes nothing.
 use Rattle.filling.specs.TrackerTables.{tracker_tables}
 use Rattle.filling.specs.TrackerTablesLaws.{tracker-cleared}
-use borrow.Author.Rules.{rules}
 use Rattle.filling.proofs.clear.Goals as goal
 
 pub returns : goal.returns

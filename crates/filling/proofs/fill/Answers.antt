@@ -1,33 +1,15 @@
 -- The tables hold what is found before each step, and behind the last step it is all. Assumes nothing.
-use Prim.Native.Nat.{◌+◌, ◌-◌, ◌*◌, ◌≤◌, ◌<◌}
-use mathlib.Core.Path.{◌≡◌, refl, sym, ◌∙◌}
+use Prim.Native.Nat.{◌+◌, ◌*◌, ◌≤◌, ◌<◌}
+use mathlib.Core.Path.{refl, sym, ◌∙◌}
 use native.Mathlib.Omega.{arith}
-use lib.ListN.{length}
 use Rattle.automaton.specs.Automaton.{automaton}
 use Rattle.expanding.specs.Tables.{tracker_tables}
-use Rattle.expanding.specs.Expand.{Filled}
-use Rattle.filling.specs.FillLaws.{filled-begins, fills-over, fills-all}
-use borrow.Author.Rules.{rules}
+use Rattle.filling.proofs.FillLaws.{filled-begins, fills-over, fills-all}
 use Rattle.filling.proofs.fill.Goals as goal
-use Rattle.filling.proofs.fill.Goals.{After-begin, After-expand-m, At-loop-c, Else-room-m, In-loop-c, Start}
-
--- the states that the later ones go back to
-abbrev start : After-begin → Start
-start c = c.before.before.before.before.before.before.before.before
-
-abbrev begun : At-loop-c → After-begin
-begun c = c.before.before.before.before.before
-
-abbrev inside : After-expand-m → In-loop-c
-inside c = c.before.before.before.before.before
-
-abbrev expanded : Else-room-m → After-expand-m
-expanded c = c.before.before.before.before.before.before.before
+use Rattle.filling.proofs.fill.Goals.{In-loop-c}
 
 -- the tuples fit in the room, so the steps are few
-few : (c : In-loop-c) →
-    let room = (start (begun c.before)).args.room in
-    (c.loop-c.c < 8 * room) × (room ≤ 1024)
+few : (c : In-loop-c) → (c.loop-c.c < 8 * c.args.room) × (c.args.room ≤ 1024)
 few c =
     let f = c.loop-c.invariant.0 in
     (omega (arith, f.room-is, c.loop-c-test.true), f.room_fits.most)
@@ -41,8 +23,7 @@ begin-requires c =
     (n, omega arith, record { heads = refl; links = refl })
 
 pub loop-c-init : goal.loop-c-init
-loop-c-init c =
-    (filled-begins (start (goal.at.loop-c-init c).After-begin).requires c.begin.ensures, refl, refl)
+loop-c-init c = (filled-begins c.requires c.begin.ensures, refl, refl)
 
 pub overflow_mul-m : goal.overflow_mul-m
 overflow_mul-m c =
@@ -59,25 +40,24 @@ expand-m-requires c =
 
 pub returns-then-room-m : goal.returns-then-room-m
 returns-then-room-m c =
-    let g = (start (begun (inside (goal.at.returns-then-room-m c).After-expand-m).before)).args in
-    fills-over {A = automaton g.a g.table.now g.marks.now} ((inside (goal.at.returns-then-room-m c).After-expand-m).before.loop.c + 1) c.if-room-m.true (c.expand-m.ensures.over c.if-room-m.true)
+    let g = c.args in
+    fills-over {A = automaton g.a g.table.now g.marks.now} (c.loop-c.c + 1) c.if-room-m.true (c.expand-m.ensures.over c.if-room-m.true)
 
 pub overflow_add-c : goal.overflow_add-c
-overflow_add-c c = let h = few (inside (expanded (goal.at.overflow_add-c c).Else-room-m)) in omega arith
+overflow_add-c c = let h = few (goal.at.overflow_add-c c).In-loop-c in omega arith
 
 pub loop-c-smaller : goal.loop-c-smaller
-loop-c-smaller c = let h = few (inside (expanded (goal.at.loop-c-smaller c).Else-room-m)) in omega arith
+loop-c-smaller c = let h = few (goal.at.loop-c-smaller c).In-loop-c in omega arith
 
 pub loop-c-preserved : goal.loop-c-preserved
 loop-c-preserved c =
-    let l = (inside (expanded (goal.at.loop-c-preserved c).Else-room-m)).before.loop in
-    let e = (expanded (goal.at.loop-c-preserved c).Else-room-m).expand in
-    (e.ensures.fitting c.if-room-m.false, e.kept.1.1.1.1.1.1.0 ∙ l.inv.1, e.kept.1.1.1.1.1.1.1.0 ∙ l.inv.2)
+    let l = c.loop-c in
+    let e = c.expand-m in
+    (e.ensures.fitting c.if-room-m.false, e.auto.tuples ∙ l.invariant.1, e.auto.nexts ∙ l.invariant.2)
 
 pub returns : goal.returns
 returns c =
-    let b = begun (goal.at.returns c).At-loop-c in
-    let a = (start b).args in
+    let a = c.args in
     let l = c.loop-c in
     let h = c.loop-c-test.false in
-    fills-all l.invariant.0 (tracker_tables a.tuples.now a.nexts.now) (sym (l.invariant.1 ∙ b.begin.kept.1.0)) (sym l.invariant.2) (omega arith)
+    fills-all l.invariant.0 (tracker_tables a.tuples.now a.nexts.now) (sym (l.invariant.1 ∙ c.begin.auto.tuples)) (sym l.invariant.2) (omega arith)

@@ -1,13 +1,9 @@
 -- The tables hold what is found before each step, and behind the last step it is all. Assumes nothing.
-use Prim.Native.Nat.{◌+◌, ◌-◌, ◌*◌, ◌≤◌, ◌<◌}
-use mathlib.Core.Path.{◌≡◌, refl, sym, ◌∙◌}
-use native.Mathlib.Omega.{arith}
+use Prim.Native.Nat.{◌-◌, ◌*◌}
+use mathlib.Core.Path.{◌≡◌}
 use lib.ListN.{length}
 use Rattle.automaton.specs.Automaton.{automaton}
-use Rattle.expanding.specs.Tables.{tracker_tables}
 use Rattle.expanding.specs.Expand.{Filled}
-use Rattle.filling.specs.FillLaws.{filled-begins, fills-over, fills-all}
-use borrow.Author.Rules.{rules}
 use Rattle.filling.proofs.fill.Given as goal
 
 abbrev pub invariant-loop-c : goal.invariant-loop-c

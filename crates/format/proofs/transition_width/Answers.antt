@@ -1,7 +1,6 @@
 -- Each edition has its width. Assumes nothing.
 use native.Mathlib.Omega.{arith}
 use mathlib.Core.Path.{refl}
-use borrow.Author.Rules.{rules}
 use Rattle.format.proofs.transition_width.Goals as goal
 
 pub returns-in-StateBased : goal.returns-in-StateBased

@@ -4,7 +4,7 @@ use native.Mathlib.Omega.{arith}
 use lib.ListN.{replicate}
 use Rattle.automaton.specs.Automaton.{transition_sets}
 use Rattle.lent.specs.Lent.{witness_tables}
-use Rattle.lent.specs.LentLaws.{sets-cleared-alike}
+use Rattle.lent.proofs.LentLaws.{sets-cleared-alike}
 use Rattle.filling.specs.TrackerTables.{tracker_tables}
 use Rattle.tracker.specs.declared.Built.{Built}
 use Rattle.tracker.specs.declared.Built.TheVariants.{Is}

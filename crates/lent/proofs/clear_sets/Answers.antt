@@ -1,6 +1,6 @@
 -- Each table is cleared. Assumes nothing.
 use Rattle.automaton.specs.Automaton.{transition_sets}
-use Rattle.lent.specs.LentLaws.{sets-cleared}
+use Rattle.lent.proofs.LentLaws.{sets-cleared}
 use Rattle.lent.proofs.clear_sets.Goals as goal
 
 pub returns : goal.returns

@@ -1,6 +1,6 @@
 -- Each table is cleared. Assumes nothing.
 use Rattle.lent.specs.Lent.{witness_tables}
-use Rattle.lent.specs.LentLaws.{tables-cleared}
+use Rattle.lent.proofs.LentLaws.{tables-cleared}
 use Rattle.lent.proofs.clear_witness.Goals as goal
 
 pub returns : goal.returns

@@ -1,5 +1,5 @@
 -- What is left to write gives the whole. Assumes nothing.
-use Prim.Native.Nat.{ℕ, ◌+◌, ◌-◌}
+use Prim.Native.Nat.{ℕ, ◌+◌}
 use mathlib.Core.Path.{◌≡◌}
 use mathlib.Core.List.{List}
 use native.Mathlib.Omega.{arith}
@@ -7,9 +7,8 @@ use lib.ListN.{length}
 use Rattle.columns.specs.Column.{column}
 use Rattle.columns.specs.ColumnLaws.{column-length}
 use Rattle.listing_lines.specs.PutLine.{cells_from}
-use Rattle.text.specs.PiecesLaws.{Putting, put-none, put-room, put-more, put_all}
+use Rattle.text.specs.PiecesLaws.{put-none, put-room, put-more, put_all}
 use Rattle.listing_lines.specs.PutLineLaws.{columns-length}
-use borrow.Author.Rules.{rules}
 use Rattle.listing_lines.proofs.put_cells.Goals as goal
 use Rattle.listing_lines.proofs.put_cells.Goals.{Start}
 
@@ -25,7 +24,7 @@ loop-i-init c =
     put-none (rw (columns-length c.args.w (cells_from c.args.table.now c.args.from) c.args.count) c.requires.bytes)
 
 pub overflow_cast-table : goal.overflow_cast-table
-overflow_cast-table c = omega (arith, c.shared_slice_known-in-loop-i-1.given (c.args.from + c.loop-i.i))
+overflow_cast-table c = omega (arith, c.type_inv.table (c.args.from + c.loop-i.i))
 
 pub put_column-requires : goal.put_column-requires
 put_column-requires c =

@@ -1,7 +1,6 @@
 -- The parts of the line follow one another. Assumes nothing.
 use mathlib.Core.Path.{sym}
 use Rattle.listing_lines.specs.PutLineLaws.{first-put}
-use borrow.Author.Rules.{rules}
 use Rattle.listing_lines.proofs.put_first.Goals as goal
 
 pub returns : goal.returns

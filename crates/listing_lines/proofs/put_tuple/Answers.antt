@@ -4,11 +4,10 @@ use mathlib.Core.Path.{sym}
 use native.Mathlib.Omega.{arith}
 use Rattle.tuple_record.specs.Record.{set_cells, record_start}
 use Rattle.listing_lines.specs.PutLineLaws.{tuple-put}
-use borrow.Author.Rules.{rules}
 use Rattle.listing_lines.proofs.put_tuple.Goals as goal
 
 pub overflow_cast-tuples : goal.overflow_cast-tuples
-overflow_cast-tuples c = omega (arith, c.shared_slice_known-3-1.given (record_start c.args.t + set_cells))
+overflow_cast-tuples c = omega (arith, c.type_inv.tuples (record_start c.args.t + set_cells))
 
 pub returns : goal.returns
 returns c =

@@ -4,7 +4,6 @@ use mathlib.Core.Path.{refl}
 use native.Mathlib.Omega.{arith}
 use Rattle.listing_lines.specs.PutLine.{line_bytes}
 use Rattle.listing_text.specs.PutLaws.{listing-small}
-use borrow.Author.Rules.{rules}
 use Rattle.listing_text.proofs.listing_length.Goals as goal
 use Rattle.listing_text.proofs.listing_length.Goals.{Start}
 

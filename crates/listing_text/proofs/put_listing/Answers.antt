@@ -4,7 +4,6 @@ use mathlib.Core.Path.{◌≡◌, sym}
 use native.Mathlib.Omega.{arith}
 use Rattle.listing_lines.specs.PutLine.{line_bytes}
 use Rattle.listing_text.specs.PutLaws.{listing-put}
-use borrow.Author.Rules.{rules}
 use Rattle.listing_text.proofs.put_listing.Goals as goal
 
 pub returns : goal.returns

@@ -1,5 +1,5 @@
 -- What is left to write gives the whole. Assumes nothing.
-use Prim.Native.Nat.{ℕ, ◌-◌, ◌<◌}
+use Prim.Native.Nat.{ℕ, ◌<◌}
 use mathlib.Core.Path.{◌≡◌}
 use mathlib.Core.List.{List}
 use native.Mathlib.Omega.{arith}
@@ -8,9 +8,8 @@ use Rattle.filling.specs.TrackerTablesLaws.{room-less}
 use Rattle.listing_lines.specs.ListingLine.{tuple_line}
 use Rattle.listing_lines.specs.PutLine.{line_bytes}
 use Rattle.listing_lines.specs.PutLineLaws.{line-length}
-use Rattle.text.specs.PiecesLaws.{Putting, put-none, put-room, put-more, put_all}
+use Rattle.text.specs.PiecesLaws.{put-none, put-room, put-more, put_all}
 use Rattle.listing_text.specs.PutLaws.{lines-length}
-use borrow.Author.Rules.{rules}
 use Rattle.listing_text.proofs.put_tuples.Goals as goal
 use Rattle.listing_text.proofs.put_tuples.Goals.{Start}
 

@@ -4,7 +4,6 @@ use native.Mathlib.Omega.{arith}
 use Rattle.gate.specs.GateLaws.{text-lent}
 use Rattle.listing_text.specs.Listing.{listing}
 use Rattle.listing_text.specs.PutLaws.{listing-length}
-use borrow.Author.Rules.{rules}
 use Rattle.listing_text.proofs.write.Goals as goal
 
 pub returns : goal.returns

@@ -1,11 +1,6 @@
 -- The invariant: no number below q is a member. Assumes nothing.
 use Prim.Native.Nat.{ℕ, ◌-◌, ◌≤◌, ◌<◌}
-use mathlib.Core.Path.{◌≡◌}
-use native.Mathlib.Omega.{arith}
-use borrow.Author.Count.{below_more}
 use Rattle.sets.specs.Sets.{Member}
-use Rattle.sets.specs.TestLaws.{last-member}
-use borrow.Author.Rules.{rules}
 use Rattle.meeting.proofs.member.Given as goal
 
 abbrev pub invariant-loop-q : goal.invariant-loop-q

@@ -5,7 +5,6 @@ use native.Mathlib.Omega.{arith}
 use lib.ListN.{length-replicate}
 use Rattle.gate.specs.GateLaws.{zeros}
 use Rattle.meeting.specs.AnswerLaws.{answer-free, answer-witness}
-use borrow.Author.Rules.{rules}
 use Rattle.meeting.proofs.search.Goals as goal
 
 pub explore-head-requires : goal.explore-head-requires
@@ -19,8 +18,8 @@ witness-requires c = (c.requires.0, c.explore-head.ensures.2 c.if-head-lt256.tru
 pub returns-then-head-lt256 : goal.returns-then-head-lt256
 returns-then-head-lt256 c =
     let g = c.witness in
-    let k = g.auto.1.1.1.1.1 in
-    answer-witness g.ensures.0 g.ensures.1 (record { word = k.0; one = k.1.0; other = k.1.1.0 })
+    let k = g.auto in
+    answer-witness g.ensures.0 g.ensures.1 (record { word = k.word; one = k.one; other = k.other })
 
 pub returns : goal.returns
 returns c =

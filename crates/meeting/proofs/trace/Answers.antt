@@ -1,13 +1,11 @@
 -- The invariant: the tables hold the walks from time t on, where they are in pair i. The measure is t. Assumes nothing.
-use Prim.Native.Nat.{ℕ, suc, ◌/◌, ◌-◌, ◌≤◌, ◌<◌}
+use Prim.Native.Nat.{ℕ, suc, ◌/◌, ◌-◌, ◌<◌}
 use mathlib.Core.Path.{◌≡◌, refl, subst, ◌∙◌}
 use native.Mathlib.Omega.{arith}
-use lib.ListN.{length}
 use Rattle.lent.specs.Lent.{witness_tables}
 use Rattle.queue.specs.Queue.{pair, depth}
 use Rattle.meeting.specs.Trace.{Leads}
 use Rattle.meeting.specs.TraceLaws.{leads-step}
-use borrow.Author.Rules.{rules}
 use Rattle.meeting.proofs.trace.Goals as goal
 use Rattle.meeting.proofs.trace.Goals.{After-number-o}
 
@@ -56,9 +54,9 @@ loop-t-preserved c =
       omega arith,
       omega arith,
       omega arith,
-      n.auto.0 ∙ l.invariant.3,
-      n.auto.1.0 ∙ l.invariant.4,
-      n.auto.1.1.0 ∙ l.invariant.5,
+      n.auto.word ∙ l.invariant.3,
+      n.auto.one ∙ l.invariant.4,
+      n.auto.other ∙ l.invariant.5,
       leads-step c.number-o.result k.result (l.t - 1) u c.number-o.ensures k.ensures (omega arith) (omega arith) (omega arith) n.ensures l.invariant.6,
     )
 

@@ -1,13 +1,10 @@
 -- The invariant: the tables hold the walks from time t on, where they are in pair i. The measure is t. Assumes nothing.
-use Prim.Native.Nat.{ℕ, suc, ◌/◌, ◌-◌, ◌≤◌, ◌<◌}
-use mathlib.Core.Path.{◌≡◌, refl, subst, ◌∙◌}
-use native.Mathlib.Omega.{arith}
+use Prim.Native.Nat.{◌≤◌}
+use mathlib.Core.Path.{◌≡◌}
 use lib.ListN.{length}
 use Rattle.lent.specs.Lent.{witness_tables}
 use Rattle.queue.specs.Queue.{pair, depth}
 use Rattle.meeting.specs.Trace.{Leads}
-use Rattle.meeting.specs.TraceLaws.{leads-step}
-use borrow.Author.Rules.{rules}
 use Rattle.meeting.proofs.trace.Given as goal
 
 abbrev pub invariant-loop-t : goal.invariant-loop-t

@@ -1,16 +1,9 @@
 -- The loop's invariant: what is left of the definition, from the place and the names reached, is the whole of it; the rows hold these names.
 -- Assumes nothing.
-use Prim.Native.Nat.{ℕ, ◌+◌, ◌-◌, ◌*◌, ◌≤◌, ◌<◌}
-use mathlib.Core.Path.{◌≡◌, refl, sym, ◌∙◌, subst}
-use mathlib.Core.List.{[]}
-use native.Mathlib.Omega.{arith}
-use native.Mathlib.Nat.{sub-zero}
-use lib.ListN.{length, drop}
-use Rattle.gate.specs.GateLaws.{same-cleared}
-use Rattle.names.specs.declared.Ending.TheVariants as E
-use Rattle.name_lines.specs.NameLines.{name_line_at}
-use Rattle.name_lines.specs.NameStepLaws.{NamesSoFar, names-bad, names-done, NameStored, row-stored}
-use borrow.Author.Rules.{rules}
+use Prim.Native.Nat.{◌+◌, ◌-◌, ◌*◌, ◌≤◌}
+use mathlib.Core.Path.{◌≡◌}
+use lib.ListN.{length}
+use Rattle.name_lines.specs.NameStepLaws.{NamesSoFar}
 use Rattle.name_lines.proofs.read_names.Given as goal
 
 abbrev pub invariant-loop-l : goal.invariant-loop-l

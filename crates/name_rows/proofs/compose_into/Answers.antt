@@ -1,6 +1,5 @@
 -- `name_rows::compose_into` meets its contract: the composed bytes, and then the zeros that a row is padded with. Assumes nothing.
 use mathlib.Core.Path.{◌∙◌}
-use borrow.Author.Rules.{rules}
 use native.Mathlib.Omega.{arith}
 use lib.ListN.{length-take}
 use Rattle.text.specs.Bytes.{stretch}

@@ -1,7 +1,6 @@
 -- `name_rows::diaeresis_at` meets its contract: the tests are those of `diaeresis_at`. Assumes nothing.
 use borrow.Author.Tests.{lt-ltb, le-ltb}
 use Rattle.name_rows.specs.Row.{diaeresis_at}
-use borrow.Author.Rules.{rules}
 use Rattle.name_rows.proofs.diaeresis_at.Goals as goal
 
 pub returns-then-end-i-lt3 : goal.returns-then-end-i-lt3

@@ -1,9 +1,7 @@
 -- The loop's invariant: no row passed is like row `count`. Assumes nothing.
-use Prim.Native.Nat.{ℕ, ◌-◌, ◌*◌, ◌≤◌, ◌<◌}
-use mathlib.Core.Path.{◌≡◌, refl}
+use mathlib.Core.Path.{refl}
 use native.Mathlib.Omega.{arith}
 use borrow.Author.Count.{below_more}
-use Rattle.name_rows.specs.Row.{name_row}
 use borrow.Author.Rules.{rules}
 use Rattle.name_rows.proofs.first_like.Goals as goal
 

@@ -7,7 +7,6 @@ use Rattle.names.specs.Name.{compose}
 use Rattle.names.specs.NameLaws.{composed-name}
 use Rattle.name_rows.specs.Rows.{HoldNames, FirstLike}
 use Rattle.name_rows.specs.RowsLaws.{holds-still, row-tells}
-use borrow.Author.Rules.{rules}
 use Rattle.name_rows.proofs.letter_of.Goals as goal
 
 pub returns : goal.returns

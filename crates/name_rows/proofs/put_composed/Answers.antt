@@ -1,6 +1,6 @@
 -- `name_rows::put_composed` meets its contract. The loop's invariant: storing what the rest of the stretch composes to gives all of it stored.
 -- Assumes nothing.
-use Rattle.std.specs.Prelude.{ℕ, suc, ◌+◌, ◌≤◌, ◌≡◌, true, false, List, length}
+use Rattle.std.specs.Prelude.{ℕ, ◌+◌, ◌≤◌, ◌<◌, ◌≡◌, refl, true, false, List, length}
 use Rattle.std.proofs.Common.{sym, ◌∙◌, ap, add-zero, arith}
 use Rattle.std.proofs.Math.ListN.{length-set}
 use Rattle.std.proofs.lemmas.List.Edits.{sets}

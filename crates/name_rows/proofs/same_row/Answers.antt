@@ -1,11 +1,9 @@
 -- `name_rows::same_row` meets its contract: the cells passed are the same, `SameUpTo`. Assumes nothing.
-use Prim.Native.Nat.{◌-◌}
 use mathlib.Core.Path.{sym, ◌∙◌}
 use native.Mathlib.Omega.{arith}
 use Rattle.gate.specs.GateLaws.{decides-yes, decides-no}
-use Rattle.lists.specs.CellsLaws.{part_length, part_at, SameUpTo, same_none, same_more, same-all, same-cell}
+use Rattle.lists.specs.CellsLaws.{part_length, part_at, same_none, same_more, same-all, same-cell}
 use Rattle.name_rows.specs.Row.{name_row}
-use borrow.Author.Rules.{rules}
 use Rattle.name_rows.proofs.same_row.Goals as goal
 
 pub loop-i-init : goal.loop-i-init

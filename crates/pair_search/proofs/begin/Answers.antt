@@ -1,11 +1,9 @@
 -- The invariant: the pairs of initial states whose first state is below p are in the queue. Assumes nothing.
-use Prim.Native.Nat.{◌-◌, ◌≤◌}
 use mathlib.Core.Path.{◌≡◌, subst}
 use native.Mathlib.Omega.{arith}
 use Rattle.automaton.specs.Graph.{graph}
 use Rattle.pair_search.specs.Search.{Started}
 use Rattle.pair_search.specs.StartLaws.{start-empty, start-open, start-more}
-use borrow.Author.Rules.{rules}
 use Rattle.pair_search.proofs.begin.Goals as goal
 
 pub loop-p-init : goal.loop-p-init

@@ -5,7 +5,6 @@ use Rattle.sets.specs.Sets.{inter_of}
 use Rattle.sets.specs.SetLaws.{inter-both}
 use Rattle.automaton.specs.Graph.{successor_set}
 use Rattle.pair_search.specs.Search.{Common}
-use borrow.Author.Rules.{rules}
 use Rattle.pair_search.proofs.common.Goals as goal
 
 pub returns : goal.returns

@@ -1,17 +1,11 @@
 -- The invariant: what the pair steps to is in the queue, for the letters and states of the first j steps. Assumes nothing.
-use Prim.Native.Nat.{◌+◌, ◌*◌, ◌/◌, ◌-◌, ◌≤◌}
+use Prim.Native.Nat.{◌+◌, ◌/◌}
 use mathlib.Core.Path.{refl}
 use native.Mathlib.Omega.{arith}
-use Rattle.automaton.specs.Graph.{graph}
-use Rattle.queue.specs.Queue.{AtMost, one, other}
-use Rattle.pair_search.specs.Search.{Grown, SuccessorsQueued}
+use Rattle.queue.specs.Queue.{AtMost}
 use Rattle.pair_search.specs.StepLaws.{grown-none, step-open, step-taken, all-taken}
-use borrow.Author.Rules.{rules}
 use Rattle.pair_search.proofs.expand.Goals as goal
 use Rattle.pair_search.proofs.expand.Goals.{At-loop-j, Start}
-
-abbrev start : At-loop-j → Start
-start t = t.before.before.before.before.before
 
 pub number-e-requires : goal.number-e-requires
 number-e-requires c =
@@ -30,14 +24,14 @@ loop-j-init c =
 
 pub add_row-reached-requires : goal.add_row-reached-requires
 add_row-reached-requires c =
-    let p = (start (goal.at.add_row-reached-requires c).At-loop-j).requires in
+    let p = c.requires in
     let r = p.queue.room in
     let h = p.some in
     (step-open p.fits h c.number-e.ensures refl c.loop-j.j c.loop-j.invariant.1 p.queue, omega arith)
 
 pub loop-j-preserved : goal.loop-j-preserved
 loop-j-preserved c =
-    let p = (start (goal.at.loop-j-preserved c).At-loop-j).requires in
+    let p = c.requires in
     let l = c.loop-j in
     let x = c.guarded-next in
     let y = c.add_row-reached in
@@ -46,12 +40,12 @@ loop-j-preserved c =
 
 pub shape_of-queue : goal.shape_of-queue
 shape_of-queue c =
-    let a = (start (goal.at.shape_of-queue c).At-loop-j).requires.queue.size in
+    let a = c.requires.queue.size in
     let b = c.loop-j.invariant.1.queue.size in
     omega arith
 
 pub returns : goal.returns
 returns c =
-    let p = (start (goal.at.returns c).At-loop-j).requires in
+    let p = c.requires in
     let l = c.loop-j in
     all-taken p.fits p.some c.number-e.ensures refl l.j l.invariant.1 c.loop-j-test.false l.invariant.2

@@ -1,12 +1,8 @@
 -- The invariant: what the pair steps to is in the queue, for the letters and states of the first j steps. Assumes nothing.
-use Prim.Native.Nat.{◌+◌, ◌*◌, ◌/◌, ◌-◌, ◌≤◌}
-use mathlib.Core.Path.{refl}
-use native.Mathlib.Omega.{arith}
+use Prim.Native.Nat.{◌*◌, ◌-◌, ◌≤◌}
 use Rattle.automaton.specs.Graph.{graph}
-use Rattle.queue.specs.Queue.{AtMost, one, other}
+use Rattle.queue.specs.Queue.{one, other}
 use Rattle.pair_search.specs.Search.{Grown, SuccessorsQueued}
-use Rattle.pair_search.specs.StepLaws.{grown-none, step-open, step-taken, all-taken}
-use borrow.Author.Rules.{rules}
 use Rattle.pair_search.proofs.expand.Given as goal
 
 abbrev pub invariant-loop-j : goal.invariant-loop-j

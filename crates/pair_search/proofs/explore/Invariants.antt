@@ -1,11 +1,7 @@
 -- The invariant is Search: the pairs before head are done, and none of them joins. The measure: there are at most 256 pairs. Assumes nothing.
 use Prim.Native.Nat.{◌-◌}
-use native.Mathlib.Omega.{arith}
 use Rattle.automaton.specs.Graph.{graph}
 use Rattle.pair_search.specs.Search.{Search}
-use Rattle.pair_search.specs.SearchLaws.{search-start, search-ready, search-more}
-use Rattle.pair_search.specs.FoundLaws.{search-found, search-free}
-use borrow.Author.Rules.{rules}
 use Rattle.pair_search.proofs.explore.Given as goal
 
 abbrev pub invariant-loop-head : goal.invariant-loop-head

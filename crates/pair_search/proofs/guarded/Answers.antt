@@ -1,6 +1,5 @@
 -- The two cases of the test. Assumes nothing.
 use Rattle.sets.specs.SetLaws.{no_member}
-use borrow.Author.Rules.{rules}
 use Rattle.pair_search.proofs.guarded.Goals as goal
 
 pub returns-then-contains : goal.returns-then-contains

@@ -1,10 +1,6 @@
 -- The invariant: the pair joins on no letter below l. Assumes nothing.
 use Prim.Native.Nat.{ℕ, ◌-◌, ◌≤◌, ◌<◌}
-use native.Mathlib.Omega.{arith}
-use borrow.Author.Count.{below_more}
 use Rattle.pair_search.specs.Search.{JoinsOn}
-use Rattle.pair_search.specs.JoinLaws.{common-joins, common-none}
-use borrow.Author.Rules.{rules}
 use Rattle.pair_search.proofs.joining.Given as goal
 
 abbrev pub invariant-loop-l : goal.invariant-loop-l

@@ -1,12 +1,12 @@
 -- The loop's invariant: the number reached on the letters read, and the least colour of those entered. Assumes nothing.
-use Prim.Native.Nat.{ℕ, suc, ◌+◌, ◌-◌, ◌*◌, ◌≤◌, ◌<◌}
+use Prim.Native.Nat.{ℕ, suc, ◌+◌, ◌*◌}
 use mathlib.Core.Path.{◌≡◌, refl, sym, ◌∙◌, ap}
 use native.Mathlib.Omega.{arith}
 use native.Mathlib.Numerals.{add-one}
 use lib.ListN.{get_or}
 use Rattle.tuple_record.specs.Record.{set_cells, record_start, colour_in}
 use Rattle.passes.specs.TableRun.{reached, entered_in}
-use Rattle.passes.specs.LeastLaws.{LeastSoFar, so_far_more}
+use Rattle.passes.specs.LeastLaws.{so_far_more}
 use Rattle.passes.specs.TableRunLaws.{reached-none, reached-more}
 use borrow.Author.Rules.{rules}
 use Rattle.passes.proofs.follow.Goals as goal
@@ -28,7 +28,7 @@ loop-i-preserved c =
     ∙ (ap (λ (x : ℕ). get_or a.nexts.now (8 * x + w v.i) 0) v.invariant.2 ∙ reached-more a.nexts.now a.start w v.i)) in
     let f : entered_in a.tuples.now a.nexts.now a.start w v.i ≡ colour_in a.tuples.now n.result =
     ap (colour_in a.tuples.now) (sym e) in
-    let small = c.shared_slice_known-in-loop-i-1.given (record_start n.result + set_cells) in
+    let small = c.type_inv.tuples (record_start n.result + set_cells) in
     let l = so_far_more (entered_in a.tuples.now a.nexts.now a.start w) v.i v.least v.invariant.3 (omega arith) in
     (search rules, n.ensures.1, rw add-one e, rw (c.lesser-least.ensures, ← f) l)
 

@@ -1,14 +1,9 @@
 -- The loop's invariant: the number reached on the letters read, and the least colour of those entered. Assumes nothing.
-use Prim.Native.Nat.{ℕ, suc, ◌+◌, ◌-◌, ◌*◌, ◌≤◌, ◌<◌}
-use mathlib.Core.Path.{◌≡◌, refl, sym, ◌∙◌, ap}
-use native.Mathlib.Omega.{arith}
-use native.Mathlib.Numerals.{add-one}
+use Prim.Native.Nat.{◌+◌, ◌-◌, ◌≤◌, ◌<◌}
+use mathlib.Core.Path.{◌≡◌}
 use lib.ListN.{get_or}
-use Rattle.tuple_record.specs.Record.{set_cells, record_start, colour_in}
 use Rattle.passes.specs.TableRun.{reached, entered_in}
-use Rattle.passes.specs.LeastLaws.{LeastSoFar, so_far_more}
-use Rattle.passes.specs.TableRunLaws.{reached-none, reached-more}
-use borrow.Author.Rules.{rules}
+use Rattle.passes.specs.LeastLaws.{LeastSoFar}
 use Rattle.passes.proofs.follow.Given as goal
 
 abbrev pub invariant-loop-i : goal.invariant-loop-i

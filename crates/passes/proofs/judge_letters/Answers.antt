@@ -1,26 +1,22 @@
 -- The loop's invariant: `seen` tells the ends of the passes run apart, and `leasts` has their least colours. It ends since ends that differ are
 -- no more than tuples. Assumes nothing.
 use mathlib.Core.Path.{refl}
-use Prim.Native.Nat.{◌-◌, ◌≤◌, ◌<◌}
+use Prim.Native.Nat.{◌≤◌, ◌<◌}
 use native.Mathlib.Omega.{arith}
 use lib.ListN.{get_or}
-use borrow.Author.Rules.{rules}
-use Rattle.passes.specs.PassLaws.{AfterPasses, passes_none, passes-few, passes-more, repeat-range, repeat-judged}
+use Rattle.passes.specs.PassLaws.{passes_none, passes-few, passes-more, repeat-range, repeat-judged}
 use Rattle.passes.proofs.judge_letters.Goals as goal
-use Rattle.passes.proofs.judge_letters.Goals.{After-loop-seen, At-loop-seen, In-loop-seen, Start}
-
-abbrev start : At-loop-seen → Start
-start c = c.before.before.before.before.before
+use Rattle.passes.proofs.judge_letters.Goals.{After-loop-seen, In-loop-seen}
 
 -- while no end is met again the passes are fewer than the tuples
-few : (c : In-loop-seen) → c.loop-seen.passes < (start c.before).args.count
-few c = let pre = (start c.before).pre in passes-few pre.0 pre.1 c.loop-seen.invariant c.loop-seen-test.true
+few : (c : In-loop-seen) → c.loop-seen.passes < c.args.count
+few c = let pre = c.requires in passes-few pre.0 pre.1 c.loop-seen.invariant c.loop-seen-test.true
 
 -- the end met again tells a pass that was run
 range : (c : After-loop-seen) →
     let l = c.loop-seen in
     (get_or l.seen l.at 0 ≤ l.passes) × (l.passes < 1025)
-range c = let pre = (start c.before).pre in repeat-range pre.0 pre.1 c.loop-seen.invariant c.loop-seen-test.false
+range c = let pre = c.requires in repeat-range pre.0 pre.1 c.loop-seen.invariant c.loop-seen-test.false
 
 pub loop-seen-init : goal.loop-seen-init
 loop-seen-init c =
@@ -35,7 +31,7 @@ loop-seen-smaller c = let l = few (goal.at.loop-seen-smaller c).In-loop-seen in 
 
 pub loop-seen-preserved : goal.loop-seen-preserved
 loop-seen-preserved c =
-    let pre = (start (goal.at.loop-seen-preserved c).At-loop-seen).pre in
+    let pre = c.requires in
     passes-more pre.0 pre.1 c.loop-seen.invariant c.loop-seen-test.true c.follow-end.result c.follow-end.ensures
 
 pub overflow_cast-seen-2 : goal.overflow_cast-seen-2
@@ -48,5 +44,5 @@ least_of-least-requires c =
 
 pub returns : goal.returns
 returns c =
-    let pre = (start (goal.at.returns c).At-loop-seen).pre in
+    let pre = c.requires in
     repeat-judged pre.0 pre.1 c.loop-seen.invariant c.loop-seen-test.false _ refl c.least_of-least.ensures c.answer_of.ensures

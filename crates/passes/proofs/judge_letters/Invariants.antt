@@ -1,11 +1,7 @@
 -- The loop's invariant: `seen` tells the ends of the passes run apart, and `leasts` has their least colours. It ends since ends that differ are
 -- no more than tuples. Assumes nothing.
-use mathlib.Core.Path.{refl}
-use Prim.Native.Nat.{◌-◌, ◌≤◌, ◌<◌}
-use native.Mathlib.Omega.{arith}
-use lib.ListN.{get_or}
-use borrow.Author.Rules.{rules}
-use Rattle.passes.specs.PassLaws.{AfterPasses, passes_none, passes-few, passes-more, repeat-range, repeat-judged}
+use Prim.Native.Nat.{◌-◌}
+use Rattle.passes.specs.PassLaws.{AfterPasses}
 use Rattle.passes.proofs.judge_letters.Given as goal
 
 abbrev pub invariant-loop-seen : goal.invariant-loop-seen

@@ -1,11 +1,7 @@
 -- The loop's invariant: the least of the cells up to i. Assumes nothing.
-use mathlib.Core.Path.{◌≡◌}
 use Prim.Native.Nat.{◌+◌, ◌-◌, ◌≤◌}
-use native.Mathlib.Omega.{arith}
 use lib.ListN.{get_or}
 use Rattle.passes.specs.Passes.{LeastOf}
-use Rattle.passes.specs.LeastLaws.{least-one, least_more}
-use borrow.Author.Rules.{rules}
 use Rattle.passes.proofs.least_of.Given as goal
 
 abbrev pub invariant-loop-i : goal.invariant-loop-i

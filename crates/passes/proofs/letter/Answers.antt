@@ -1,7 +1,6 @@
 -- A letter is below 8, so it fits, by the requires. Assumes nothing.
 use mathlib.Core.Path.{refl}
 use native.Mathlib.Omega.{arith}
-use borrow.Author.Rules.{rules}
 use Rattle.passes.proofs.letter.Goals as goal
 
 pub overflow_cast-result : goal.overflow_cast-result

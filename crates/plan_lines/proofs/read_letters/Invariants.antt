@@ -1,19 +1,9 @@
 -- The loop's invariant: what is left to read after the letters in the buffer is left of the whole, and only row k is written. Assumes nothing.
-use Prim.Native.Nat.{ℕ, ◌+◌, ◌-◌, ◌≤◌, ◌<◌}
-use mathlib.Core.Path.{◌≡◌, refl, sym, ◌∙◌, ap}
-use native.Mathlib.Omega.{arith}
-use native.Mathlib.Nat.{sub-zero}
-use mathlib.Core.List.{List, [], ◌∷◌, ◌++◌}
-use lib.ListN.{length, take, drop, length-set, take-append-drop}
-use Rattle.plan_lines.specs.StepLaws.{SoFar, letters-step, letters-done, superseding-still, letter-stored, letter-behind}
-use Rattle.gate.specs.GateLaws.{same-cleared}
-use Rattle.frame.specs.Phase.{refused}
-use Rattle.name_rows.specs.Rows.{HoldNames, OnlyRow}
-use Rattle.name_rows.specs.RowsLaws.{only_none, only-again}
-use Rattle.superseding.specs.Superseding.{superseding_in}
-use Rattle.plan_lines.specs.declared.LetterLine.{LetterLine}
-use Rattle.plan_lines.specs.LetterLines.{letter_line_at, with_letter, letters_at}
-use borrow.Author.Rules.{rules}
+use Prim.Native.Nat.{◌+◌, ◌-◌, ◌≤◌}
+use mathlib.Core.Path.{◌≡◌}
+use lib.ListN.{length, drop}
+use Rattle.plan_lines.specs.StepLaws.{SoFar}
+use Rattle.name_rows.specs.Rows.{OnlyRow}
 use Rattle.plan_lines.proofs.read_letters.Given as goal
 
 abbrev pub invariant-loop-i : goal.invariant-loop-i

@@ -5,151 +5,79 @@ use native.Mathlib.Omega.{arith}
 use lib.ListN.{length, replicate}
 use lib.Seq.{length-take-le}
 use Rattle.automaton.specs.Automaton.{TransitionSets, transition_sets}
-use Rattle.lent.specs.LentLaws.{sets-cleared-alike}
-use Rattle.lent.specs.Lent.{WitnessTables, witness_tables, cleared_witness}
+use Rattle.lent.proofs.LentLaws.{sets-cleared-alike}
+use Rattle.lent.specs.Lent.{WitnessTables, witness_tables}
 use Rattle.parser.specs.Parse.{parse}
 use Rattle.parser.specs.PhaseAnswers.{FileRead}
 use Rattle.parser.specs.declared.File.{File}
+use Rattle.parser.specs.declared.File.TheVariants.{Is}
+use Rattle.automaton.specs.declared.Numbers.{Numbers}
 use Rattle.parser.specs.LettersOfLaws.{FileAccepted, read-accepted}
 use Rattle.reading.specs.ReadLaws.{asked, free-accepts, meeting-refuses, fault-refuses}
-use borrow.Author.Rules.{rules}
 use Rattle.reading.proofs.read_cleared.Goals as goal
-use Rattle.reading.proofs.read_cleared.Goals.{After-ask-length, After-clear_sets, After-graph_of, After-read_file, After-slice_known-in-Is-6-1, In-Is, In-Refused, Start, Then-length-eq0}
+use Rattle.reading.proofs.read_cleared.Goals.{After-ask-length, After-read_file}
 
-abbrev start : After-read_file → Start
-start c = c.before.before.before.before.before.before.before.before.before.before.before
+-- the tables, as they were lent
+abbrev lent : After-read_file → WitnessTables
+lent c = witness_tables c.args.word.now c.args.one.now c.args.other.now
 
-abbrev lent : Start → WitnessTables
-lent s = witness_tables s.args.word.now s.args.one.now s.args.other.now
-
-abbrev sets : Start → TransitionSets
-sets s = transition_sets s.args.table.now s.args.marks.now
-
--- the states behind the reading of the file: it is refused, or it is read and its automaton asked
-abbrev read-refused : In-Refused → After-read_file
-read-refused c = c.before.before.before.before.before.before.before.before.before
-
-abbrev read : In-Is → After-read_file
-read c = c.before.before.before.before.before.before.before.before.before
-
-abbrev told : After-ask-length → In-Is
-told c = c.before.before.before.before.before.before
-
-abbrev graphed : After-ask-length → After-graph_of
-graphed c = c.before.before.before.before.before
-
--- the walk check, from the ends: no walks meet, or the tables are cleared
-abbrev free-at : Then-length-eq0 → After-ask-length
-free-at c = c.before.before.before.before.before.before.before
-
-abbrev emptied : After-slice_known-in-Is-6-1 → After-clear_sets
-emptied c = c.before.before.before.before.before.before.before.before
-
-abbrev meeting-at : After-slice_known-in-Is-6-1 → After-ask-length
-meeting-at c = (emptied c).before.before.before.before.before.before.before.before.before.before
-
--- what it leaves
-abbrev witness : After-ask-length → WitnessTables
-witness c = witness_tables c.ask-length.new.1.1.0 c.ask-length.new.1.1.1.0 c.ask-length.new.1.1.1.1.0
-
-zeros : (c : After-read_file) → lent (start c) ≡ cleared_witness (lent (start c))
-zeros c = (start c).requires.3
+abbrev sets : After-read_file → TransitionSets
+sets c = transition_sets c.args.table.now c.args.marks.now
 
 -- the tables behind the reading
 abbrev filled : After-read_file → TransitionSets
-filled c = transition_sets c.read_file.new.1.0 c.read_file.new.1.1.0
+filled c = transition_sets c.read_file.new.table c.read_file.new.marks
 
-cells : (c : After-read_file) → 128 ≤ length c.read_file.new.1.0
-cells c = omega (arith, (start c).requires.0.tables.cells, c.read_file.auto.1.0)
+cells : (c : After-read_file) → 128 ≤ length c.read_file.new.table
+cells c = omega (arith, c.requires.0.tables.cells, c.read_file.auto.table)
 
 -- the answer x on the file
 abbrev Read-as : After-read_file → File → Type 0
-Read-as c x = FileRead (parse (start c).args.sheet.now) (sets (start c)) (filled c) (start c).args.rows.now c.read_file.new.1.1.1.0 x
+Read-as c x = FileRead (parse c.args.sheet.now) (sets c) (filled c) c.args.rows.now c.read_file.new.rows x
+
+read_as : (c : After-read_file) (x : File) → c.read_file.result ≡ x → Read-as c x
+read_as c x told = subst (Read-as c) told c.read_file.ensures
 
 -- the file is read
-reads-file :
-    (c : In-Is) →
-    let s = start (read c) in
-    let z = (read c).read-file in
-    FileAccepted s.args.sheet.now (sets s) (filled (read c)) s.args.rows.now z.last.1.1.1.0 c.in-Is.a
-reads-file c =
-    let s = start (read c) in
-    let z = (read c).read-file in
-    read-accepted s.args.sheet.now (sets s) (filled (read c)) s.args.rows.now z.last.1.1.1.0 c.in-Is.a
-    (subst (Read-as (read c)) c.in-Is.is z.ensures)
+abbrev Reads-file : After-read_file → Numbers → Type 0
+Reads-file c a = FileAccepted c.args.sheet.now (sets c) (filled c) c.args.rows.now c.read_file.new.rows a
+
+reads-file : (c : After-read_file) (a : Numbers) → c.read_file.result ≡ Is a → Reads-file c a
+reads-file c a told =
+    read-accepted c.args.sheet.now (sets c) (filled c) c.args.rows.now c.read_file.new.rows a (read_as c (Is a) told)
+
+-- what the walk check leaves
+abbrev witness : After-ask-length → WitnessTables
+witness c = witness_tables c.ask-length.new.word c.ask-length.new.one c.ask-length.new.other
 
 pub slice_bounds-ask-end : goal.slice_bounds-ask-end
-slice_bounds-ask-end c = cells (read (goal.at.slice_bounds-ask-end c).In-Is)
+slice_bounds-ask-end c = cells (goal.at.slice_bounds-ask-end c).After-read_file
 
 pub slice_bounds-ask-end-in-Is : goal.slice_bounds-ask-end-in-Is
 slice_bounds-ask-end-in-Is c =
-    sym (length-take-le 128 (read (goal.at.slice_bounds-ask-end-in-Is c).In-Is-2).read-file.new.1.0 (cells (read (goal.at.slice_bounds-ask-end-in-Is c).In-Is-2)))
+    sym (length-take-le 128 c.read_file.new.table (cells (goal.at.slice_bounds-ask-end-in-Is c).After-read_file))
 
 pub ask-length-requires : goal.ask-length-requires
 ask-length-requires c =
-    asked (reads-file (goal.at.ask-length-requires c).In-Is-2) c.graph-of.ensures (zeros (read (goal.at.ask-length-requires c).In-Is-2)) (start (read (goal.at.ask-length-requires c).In-Is-2)).requires.0.long
-
-pub shape_of-table-then-length-eq0 : goal.shape_of-table-then-length-eq0
-shape_of-table-then-length-eq0 c =
-    (read (told (free-at (goal.at.shape_of-table-then-length-eq0 c).Then-length-eq0))).read-file.auto.1.0
-
-pub shape_of-marks-then-length-eq0 : goal.shape_of-marks-then-length-eq0
-shape_of-marks-then-length-eq0 c =
-    (read (told (free-at (goal.at.shape_of-marks-then-length-eq0 c).Then-length-eq0))).read-file.auto.1.1.0
-
-pub shape_of-rows-then-length-eq0 : goal.shape_of-rows-then-length-eq0
-shape_of-rows-then-length-eq0 c =
-    (read (told (free-at (goal.at.shape_of-rows-then-length-eq0 c).Then-length-eq0))).read-file.auto.1.1.1.0
-
-pub shape_of-word-then-length-eq0 : goal.shape_of-word-then-length-eq0
-shape_of-word-then-length-eq0 c = (free-at (goal.at.shape_of-word-then-length-eq0 c).Then-length-eq0).ask.auto.1.1.0
-
-pub shape_of-one-then-length-eq0 : goal.shape_of-one-then-length-eq0
-shape_of-one-then-length-eq0 c = (free-at (goal.at.shape_of-one-then-length-eq0 c).Then-length-eq0).ask.auto.1.1.1.0
-
-pub shape_of-other-then-length-eq0 : goal.shape_of-other-then-length-eq0
-shape_of-other-then-length-eq0 c = (free-at (goal.at.shape_of-other-then-length-eq0 c).Then-length-eq0).ask.auto.1.1.1.1.0
+    asked (reads-file (goal.at.ask-length-requires c).After-read_file c.in-Is.a c.in-Is.is) c.graph_of.ensures c.requires.3 c.requires.0.long
 
 pub returns-then-length-eq0 : goal.returns-then-length-eq0
 returns-then-length-eq0 c =
-    let g = free-at (goal.at.returns-then-length-eq0 c).Then-length-eq0 in
-    free-accepts (reads-file (told g)) (graphed g).graph-of.ensures (zeros (read (told g))) {after = witness g} g.ask.ensures c.if-length-eq0.true
-
-pub shape_of-table-in-Refused : goal.shape_of-table-in-Refused
-shape_of-table-in-Refused c = (read-refused (goal.at.shape_of-table-in-Refused c).In-Refused).read-file.auto.1.0
-
-pub shape_of-marks-in-Refused : goal.shape_of-marks-in-Refused
-shape_of-marks-in-Refused c = (read-refused (goal.at.shape_of-marks-in-Refused c).In-Refused).read-file.auto.1.1.0
-
-pub shape_of-rows-in-Refused : goal.shape_of-rows-in-Refused
-shape_of-rows-in-Refused c = (read-refused (goal.at.shape_of-rows-in-Refused c).In-Refused).read-file.auto.1.1.1.0
+    let at = goal.at.returns-then-length-eq0 c in
+    free-accepts (reads-file at.After-read_file c.in-Is.a c.in-Is.is) c.graph_of.ensures c.requires.3 {after = witness at.After-ask-length}
+    c.ask-length.ensures c.if-length-eq0.true
 
 pub returns-in-Refused : goal.returns-in-Refused
 returns-in-Refused c =
-    let s = start (read-refused (goal.at.returns-in-Refused c).In-Refused) in
-    let z = (read-refused (goal.at.returns-in-Refused c).In-Refused).read-file in
-    fault-refuses s.args.sheet.now (sets s) (filled (read-refused (goal.at.returns-in-Refused c).In-Refused)) s.args.rows.now z.last.1.1.1.0 c.in-Refused.r
-    (subst (Read-as (read-refused (goal.at.returns-in-Refused c).In-Refused)) c.in-Refused.is z.ensures) (zeros (read-refused (goal.at.returns-in-Refused c).In-Refused))
-
-pub shape_of-marks-else-length-eq0 : goal.shape_of-marks-else-length-eq0
-shape_of-marks-else-length-eq0 c =
-    (emptied (goal.at.shape_of-marks-else-length-eq0 c).After-slice_known-in-Is-6-1).clear-sets.auto.1.0 ∙ (read (told (meeting-at (goal.at.shape_of-marks-else-length-eq0 c).After-slice_known-in-Is-6-1))).read-file.auto.1.1.0
-
-pub shape_of-rows-else-length-eq0 : goal.shape_of-rows-else-length-eq0
-shape_of-rows-else-length-eq0 c =
-    c.clear_bytes.auto.0 ∙ (read (told (meeting-at (goal.at.shape_of-rows-else-length-eq0 c).After-slice_known-in-Is-6-1))).read-file.auto.1.1.1.0
-
-pub shape_of-one : goal.shape_of-one
-shape_of-one c = (meeting-at (goal.at.shape_of-one c).After-slice_known-in-Is-6-1).ask.auto.1.1.1.0
-
-pub shape_of-other : goal.shape_of-other
-shape_of-other c = (meeting-at (goal.at.shape_of-other c).After-slice_known-in-Is-6-1).ask.auto.1.1.1.1.0
+    let z = (goal.at.returns-in-Refused c).After-read_file in
+    fault-refuses c.args.sheet.now (sets z) (filled z) c.args.rows.now c.read_file.new.rows c.in-Refused.r (read_as z _ c.in-Refused.is) c.requires.3
 
 pub returns-else-length-eq0 : goal.returns-else-length-eq0
 returns-else-length-eq0 c =
-    let k = emptied (goal.at.returns-else-length-eq0 c).After-slice_known-in-Is-6-1 in
-    let g = meeting-at (goal.at.returns-else-length-eq0 c).After-slice_known-in-Is-6-1 in
-    let f = read (told g) in
-    meeting-refuses (reads-file (told g)) (graphed g).graph-of.ensures (zeros f) {after = witness g} g.ask.ensures k.before.before.before.if1.left
-    (k.clear-sets.ensures ∙ sets-cleared-alike (sets (start f)) (filled f) f.read-file.kept.1.0 f.read-file.kept.1.1.0)
-    (c.clear_bytes.ensures ∙ ap (λ (n : ℕ). replicate {A = ℕ} n 0) f.read-file.kept.1.1.1.0)
+    let at = goal.at.returns-else-length-eq0 c in
+    let z = at.After-read_file in
+    let k = c.read_file.auto in
+    meeting-refuses (reads-file z c.in-Is.a c.in-Is.is) c.graph_of.ensures c.requires.3 {after = witness at.After-ask-length}
+    c.ask-length.ensures c.if-length-eq0.false
+    (c.clear_sets.ensures ∙ sets-cleared-alike (sets z) (filled z) k.table k.marks)
+    (c.clear_bytes.ensures ∙ ap (λ (n : ℕ). replicate {A = ℕ} n 0) k.rows)

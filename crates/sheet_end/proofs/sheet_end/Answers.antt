@@ -3,10 +3,8 @@ use native.Mathlib.Omega.{arith}
 use mathlib.Core.Path.{◌≡◌, refl}
 use borrow.Author.Count.{below_more}
 use Rattle.sheet_end.specs.SplitLaws.{end-within, none_below}
-use Prim.Native.Nat.{ℕ, ◌-◌, ◌≤◌, ◌<◌}
 use lib.ListN.{length}
-use Rattle.sheet_end.specs.Split.{EndLine, SheetEnds}
-use borrow.Author.Rules.{rules}
+use Rattle.sheet_end.specs.Split.{SheetEnds}
 use Rattle.sheet_end.proofs.sheet_end.Goals as goal
 
 pub returns-then-ends_at : goal.returns-then-ends_at

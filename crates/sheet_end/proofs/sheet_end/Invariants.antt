@@ -1,12 +1,7 @@
 -- No line that starts before `a` is just END. Assumes nothing.
-use native.Mathlib.Omega.{arith}
-use mathlib.Core.Path.{◌≡◌, refl}
-use borrow.Author.Count.{below_more}
-use Rattle.sheet_end.specs.SplitLaws.{end-within, none_below}
 use Prim.Native.Nat.{ℕ, ◌-◌, ◌≤◌, ◌<◌}
 use lib.ListN.{length}
-use Rattle.sheet_end.specs.Split.{EndLine, SheetEnds}
-use borrow.Author.Rules.{rules}
+use Rattle.sheet_end.specs.Split.{EndLine}
 use Rattle.sheet_end.proofs.sheet_end.Given as goal
 
 abbrev pub invariant-loop-a : goal.invariant-loop-a

@@ -1,7 +1,6 @@
 -- `sheet_lines::flag` meets its contract: a bit is 1 or 0. Assumes nothing.
 use mathlib.Core.Path.{sym}
 use Rattle.sets.specs.SetLaws.{bit-out}
-use borrow.Author.Rules.{rules}
 use Rattle.sheet_lines.proofs.flag.Goals as goal
 
 pub returns-then-contains : goal.returns-then-contains

@@ -1,13 +1,10 @@
 -- `sheet_lines::name_length` meets its contract. The loop's invariant: what is passed and what is left of the row up to its first zero
 -- make the whole name. Assumes nothing.
-use Prim.Native.Nat.{◌+◌, ◌-◌, ◌≤◌}
-use mathlib.Core.Path.{◌≡◌, ap, ◌∙◌}
+use mathlib.Core.Path.{ap, ◌∙◌}
 use native.Mathlib.Omega.{arith}
 use native.Mathlib.Nat.{zero-add}
 use lib.ListN.{length}
-use Rattle.sheet_lines.specs.RowName.{row_name}
-use Rattle.sheet_lines.specs.RowNameLaws.{rest_of, rest-whole, rest-zero, rest-byte, rest-none}
-use borrow.Author.Rules.{rules}
+use Rattle.sheet_lines.specs.RowNameLaws.{rest-whole, rest-zero, rest-byte, rest-none}
 use Rattle.sheet_lines.proofs.name_length.Goals as goal
 
 pub loop-i-init : goal.loop-i-init

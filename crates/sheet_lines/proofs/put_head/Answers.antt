@@ -1,5 +1,4 @@
 -- `sheet_lines::put_head` meets its contract: the parts are stored one behind the other. Assumes nothing.
-use borrow.Author.Rules.{rules}
 use Rattle.sheet_lines.specs.LineLaws.{head-stored}
 use Rattle.sheet_lines.proofs.put_head.Goals as goal
 

@@ -2,25 +2,24 @@
 use native.Mathlib.Omega.{arith}
 use lib.ListN.{length-set}
 use Rattle.sheet_lines.specs.LineLaws.{name-stored}
-use borrow.Author.Rules.{rules}
 use Rattle.sheet_lines.proofs.put_name.Goals as goal
 
 pub put_column-requires : goal.put_column-requires
 put_column-requires c = simp length-set (omega arith)
 
 pub bounds-out-at-2 : goal.bounds-out-at-2
-bounds-out-at-2 c = omega (arith, simp length-set at c.put_column.auto.0)
+bounds-out-at-2 c = omega (arith, simp length-set at c.put_column.auto.out)
 
 pub put_bytes-requires : goal.put_bytes-requires
-put_bytes-requires c = simp length-set (omega (arith, simp length-set at c.put_column.auto.0))
+put_bytes-requires c = simp length-set (omega (arith, simp length-set at c.put_column.auto.out))
 
 pub bounds-out-behind : goal.bounds-out-behind
 bounds-out-behind c =
-    omega (arith, simp length-set at c.put_bytes.auto.0, simp length-set at c.put_column.auto.0)
+    omega (arith, simp length-set at c.put_bytes.auto.out, simp length-set at c.put_column.auto.out)
 
 pub shape_of-out : goal.shape_of-out
 shape_of-out c =
-    simp length-set (omega (arith, simp length-set at c.put_bytes.auto.0, simp length-set at c.put_column.auto.0))
+    simp length-set (omega (arith, simp length-set at c.put_bytes.auto.out, simp length-set at c.put_column.auto.out))
 
 pub returns : goal.returns
 returns c =

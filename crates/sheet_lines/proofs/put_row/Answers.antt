@@ -1,6 +1,5 @@
 -- `sheet_lines::put_row` meets its contract: the stretch that is handed on is the name in the row. Assumes nothing.
 use Rattle.sheet_lines.specs.RowNameLaws.{row-name-is}
-use borrow.Author.Rules.{rules}
 use Rattle.sheet_lines.proofs.put_row.Goals as goal
 
 pub returns : goal.returns

@@ -1,5 +1,4 @@
 -- `sheet_lines::put_state` meets its contract: the flags are the bits of the two sets. Assumes nothing.
-use borrow.Author.Rules.{rules}
 use mathlib.Core.Path.{ap}
 use native.Mathlib.Omega.{arith}
 use Rattle.format.specs.Format.{state_line, state_width}

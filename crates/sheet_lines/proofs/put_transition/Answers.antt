@@ -1,5 +1,4 @@
 -- `sheet_lines::put_transition` meets its contract: a transition's numbers are those of its place. Assumes nothing.
-use borrow.Author.Rules.{rules}
 use mathlib.Core.Path.{ap}
 use native.Mathlib.Omega.{arith}
 use Rattle.format.specs.Format.{transition_line, transition_width}

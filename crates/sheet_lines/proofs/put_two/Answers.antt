@@ -1,5 +1,4 @@
 -- `sheet_lines::put_two` meets its contract: the parts are stored one behind the other. Assumes nothing.
-use borrow.Author.Rules.{rules}
 use mathlib.Core.List.{[], ◌∷◌}
 use native.Mathlib.Omega.{arith}
 use lib.ListN.{length-set}
@@ -10,7 +9,7 @@ pub put_last-requires : goal.put_last-requires
 put_last-requires c = simp length-set (omega arith)
 
 pub shape_of-out : goal.shape_of-out
-shape_of-out c = simp length-set at c.put_last.auto.0
+shape_of-out c = simp length-set at c.put_last.auto.out
 
 pub returns : goal.returns
 returns c =

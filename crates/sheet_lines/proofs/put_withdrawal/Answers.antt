@@ -1,5 +1,4 @@
 -- `sheet_lines::put_withdrawal` meets its contract: a withdrawal has two numbers. Assumes nothing.
-use borrow.Author.Rules.{rules}
 use Rattle.format.specs.Format.{withdrawal_line}
 use Rattle.sheet_lines.proofs.put_withdrawal.Goals as goal
 

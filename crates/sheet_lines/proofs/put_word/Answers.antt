@@ -1,5 +1,4 @@
 -- `sheet_lines::put_word` meets its contract: each edition has its word. Assumes nothing.
-use borrow.Author.Rules.{rules}
 use Rattle.sheet_lines.proofs.put_word.Goals as goal
 
 pub returns-in-StateBased : goal.returns-in-StateBased

@@ -1,15 +1,7 @@
 -- The loop's invariant: what is left of the definition, from the place reached, is the whole of it. Assumes nothing.
 use Prim.Native.Nat.{◌+◌, ◌-◌, ◌*◌, ◌^◌, ◌≤◌, ◌<◌}
-use mathlib.Core.Path.{◌≡◌, refl, sym, ◌∙◌, ap}
-use native.Mathlib.Nat.{sub-zero}
-use native.Mathlib.Omega.{arith}
-use lib.Pow.{pow_mono}
-use Rattle.format.specs.Format.{state_width}
-use Rattle.state_lines.specs.declared.StateLine.{StateLine}
-use Rattle.state_lines.specs.StateLines.{with_flags, states_at, states_answer}
-use Rattle.frame.specs.Phase.{refused}
-use Rattle.state_lines.specs.StateStepLaws.{states-turn, states-done, flag-part, double}
-use borrow.Author.Rules.{rules}
+use mathlib.Core.Path.{◌≡◌}
+use Rattle.state_lines.specs.StateLines.{states_at}
 use Rattle.state_lines.proofs.read_states.Given as goal
 
 abbrev pub invariant-loop-q : goal.invariant-loop-q

@@ -4,49 +4,32 @@ use Rattle.automaton.specs.Automaton.{automaton}
 use Rattle.filling.specs.TrackerTables.{TrackerTables, tracker_tables, Fitted}
 use Rattle.filling.specs.Fill.{Filling}
 use Rattle.filling.specs.TrackerTablesLaws.{cleared-alike}
-use Rattle.filling.specs.FillLaws.{cleared-filling, cleared-fitted}
-use borrow.Author.Rules.{rules}
+use Rattle.filling.proofs.FillLaws.{cleared-filling, cleared-fitted}
 use Rattle.tracker.proofs.track.Goals as goal
-use Rattle.tracker.proofs.track.Goals.{After-clear, Start}
-
--- the start, from behind the first clearing
-abbrev start : After-clear → Start
-start c = c.before.before.before.before.before.before.before
-
-abbrev lent : Start → TrackerTables
-lent c = tracker_tables c.args.tuples.now c.args.nexts.now
 
 pub fill-m-requires : goal.fill-m-requires
 fill-m-requires c =
-    let s = start (goal.at.fill-m-requires c).After-clear in
-    let A = automaton s.args.a s.args.table.now s.args.marks.now in
-    subst (Filling A s.args.room) (sym c.clear.ensures) (cleared-filling A s.args.room (lent s) s.pre.0 s.pre.1)
-
-pub shape_of-tuples-then-room-m : goal.shape_of-tuples-then-room-m
-shape_of-tuples-then-room-m c = c.clear-then-room-m.auto.0 ∙ c.fill-m.auto.1.1.1.1.0 ∙ c.clear.auto.0
-
-pub shape_of-nexts-then-room-m : goal.shape_of-nexts-then-room-m
-shape_of-nexts-then-room-m c = c.clear-then-room-m.auto.1.0 ∙ c.fill-m.auto.1.1.1.1.1.0 ∙ c.clear.auto.1.0
+    let g = c.args in
+    let A = automaton g.a g.table.now g.marks.now in
+    let lent = tracker_tables g.tuples.now g.nexts.now in
+    subst (Filling A g.room) (sym c.clear.ensures) (cleared-filling A g.room lent c.requires.0 c.requires.1)
 
 pub returns-then-room-m : goal.returns-then-room-m
 returns-then-room-m c =
+    let g = c.args in
     let f = c.fill-m in
-    let v = tracker_tables f.new.1.1.1.1.0 f.new.1.1.1.1.1.0 in
     let k = c.clear.auto in
-    let q = cleared-alike v (lent (start (goal.at.returns-then-room-m c).After-clear)) (f.auto.1.1.1.1.0 ∙ k.0) (f.auto.1.1.1.1.1.0 ∙ k.1.0) in
+    let filled = tracker_tables f.new.tuples f.new.nexts in
+    let lent = tracker_tables g.tuples.now g.nexts.now in
+    let q = cleared-alike filled lent (f.auto.tuples ∙ k.tuples) (f.auto.nexts ∙ k.nexts) in
     (f.ensures.over c.if-room-m.true, refl, c.clear-then-room-m.ensures ∙ q)
-
-pub shape_of-tuples : goal.shape_of-tuples
-shape_of-tuples c = c.fill-m.auto.1.1.1.1.0 ∙ c.clear.auto.0
-
-pub shape_of-nexts : goal.shape_of-nexts
-shape_of-nexts c = c.fill-m.auto.1.1.1.1.1.0 ∙ c.clear.auto.1.0
 
 pub returns : goal.returns
 returns c =
-    let s = start (goal.at.returns c).After-clear in
+    let g = c.args in
     let f = c.fill-m in
-    let A = automaton s.args.a s.args.table.now s.args.marks.now in
-    let w = tracker_tables f.new.1.1.1.1.0 f.new.1.1.1.1.1.0 in
-    let h = subst (λ (x : TrackerTables). Fitted A s.args.room x w f.result) c.clear.ensures (f.ensures.fitting c.if-room-m.false) in
-    (record { edition = refl; n = refl; k = refl; initial = refl; recurring = refl }, cleared-fitted A s.args.room (lent s) w f.result h)
+    let A = automaton g.a g.table.now g.marks.now in
+    let lent = tracker_tables g.tuples.now g.nexts.now in
+    let w = tracker_tables f.new.tuples f.new.nexts in
+    let h = subst (λ (x : TrackerTables). Fitted A g.room x w f.result) c.clear.ensures (f.ensures.fitting c.if-room-m.false) in
+    (record { edition = refl; n = refl; k = refl; initial = refl; recurring = refl }, cleared-fitted A g.room lent w f.result h)

@@ -1,7 +1,6 @@
 -- A bit is 0 or 1. Assumes nothing.
 use mathlib.Core.Path.{◌≡◌, refl}
 use native.Mathlib.Omega.{arith}
-use borrow.Author.Rules.{rules}
 use Rattle.transition_lines.proofs.insert_where.Goals as goal
 
 pub returns-then-bit-eq1 : goal.returns-then-bit-eq1

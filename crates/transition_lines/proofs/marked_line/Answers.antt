@@ -2,28 +2,27 @@
 use Prim.Native.Nat.{◌+◌}
 use mathlib.Core.Path.{◌≡◌, sym, ◌∙◌}
 use borrow.Author.Tests.{lt-leb, le-leb}
-use borrow.Author.Rules.{rules}
 use Rattle.columns.specs.Pair.{pair_at, with_pair}
 use Rattle.automaton.specs.declared.Edition.TheVariants.{TransitionBased}
 use Rattle.transition_lines.specs.TransitionLines.{marked_one, line_from}
 use Rattle.transition_lines.specs.declared.TransitionLine.TheVariants as T
 use Rattle.transition_lines.proofs.marked_line.Goals as goal
-use Rattle.transition_lines.proofs.marked_line.Goals.{In-Are-2, In-Is-2}
+use Rattle.transition_lines.proofs.marked_line.Goals.{In-Are, In-Is}
 
 -- what is left of the definition behind the letter, and then behind the two numbers at the end
-behind : (c : In-Is-2) →
+behind : (c : In-Is) →
     let a = c.args in
     line_from TransitionBased a.s.now a.at a.n a.k a.least a.from ≡
     with_pair (pair_at a.s.now (a.at + 7)) (λ to mark. marked_one a.n a.k a.least a.from c.in-Is.letter to mark) T.Bad
 unfolding line_from
 behind c = simp (sym c.number_at.ensures, c.in-Is.is)
 
-last : (c : In-Are-2) →
+last : (c : In-Are) →
     let a = c.args in
-    let z = c.to-1.given.0 in
     line_from TransitionBased a.s.now a.at a.n a.k a.least a.from ≡
-    marked_one a.n a.k a.least a.from c.in-Is.letter z.0 z.1.0
-last c = behind c.before.before.before.before ∙ simp (sym c.pair_at.ensures, c.in-Are.is)
+    marked_one a.n a.k a.least a.from c.in-Is.letter c.in-Are.to c.in-Are.mark
+unfolding line_from
+last c = simp (sym c.number_at.ensures, c.in-Is.is, sym c.pair_at.ensures, c.in-Are.is)
 
 pub returns-in_default : goal.returns-in_default
 unfolding line_from
@@ -31,14 +30,14 @@ returns-in_default c = (simp (sym c.number_at.ensures, c.in_default.is), tt)
 
 pub returns-in_default-pair_at : goal.returns-in_default-pair_at
 returns-in_default-pair_at c =
-    (sym (behind (goal.at.returns-in_default-pair_at c).In-Is-2 ∙ simp (sym c.pair_at.ensures, c.in_default-pair_at.is)), tt)
+    (sym (behind (goal.at.returns-in_default-pair_at c).In-Is ∙ simp (sym c.pair_at.ensures, c.in_default-pair_at.is)), tt)
 
 pub returns-then-mark-gt1 : goal.returns-then-mark-gt1
 unfolding marked_one
 returns-then-mark-gt1 c =
-    (sym (last (goal.at.returns-then-mark-gt1 c).In-Are-2 ∙ simp (lt-leb _ _ c.if-mark-gt1.true)), tt)
+    (sym (last (goal.at.returns-then-mark-gt1 c).In-Are ∙ simp (lt-leb _ _ c.if-mark-gt1.true)), tt)
 
 pub returns : goal.returns
 unfolding marked_one
 returns c =
-    (sym (last (goal.at.returns c).In-Are-2 ∙ simp (le-leb _ _ c.if-mark-gt1.false, sym c.transition_of.ensures.0)), c.transition_of.ensures.1)
+    (sym (last (goal.at.returns c).In-Are ∙ simp (le-leb _ _ c.if-mark-gt1.false, sym c.transition_of.ensures.0)), c.transition_of.ensures.1)

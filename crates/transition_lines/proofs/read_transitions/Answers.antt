@@ -8,8 +8,9 @@ use lib.ListN.{length, get_or, take, drop, length-set, take-append-drop}
 use lib.Seq.{drop-set-lt, take-set-lt, get_or-take}
 use lib.Dec.{eqb}
 use borrow.Author.Tests.{eq-eqb, ne_eqb}
+use Rattle.automaton.specs.declared.Edition.{Edition}
 use Rattle.automaton.specs.Automaton.{TransitionSets, transition_sets}
-use Rattle.lent.specs.LentLaws.{sets-cleared-alike}
+use Rattle.lent.proofs.LentLaws.{sets-cleared-alike}
 use Rattle.format.specs.FormatLaws.{transition-width}
 use Rattle.lists.specs.Choice.{choose}
 use Rattle.superseding.specs.Superseding.{superseding_in}
@@ -17,67 +18,51 @@ use Rattle.format.specs.Format.{Transition, transition_index, transition_width}
 use Rattle.format.specs.NumbersLaws.{transition, where-length}
 use Rattle.format.specs.Numbers.{inserted}
 use Rattle.transition_lines.specs.declared.TransitionLine.{TransitionLine}
-use Rattle.transition_lines.specs.TransitionLines.{with_transition, if_in_force, with_marked, transitions_at, FillsTable}
+use Rattle.transition_lines.specs.TransitionLines.{transition_line_at, with_transition, if_in_force, with_marked, transitions_at, FillsTable}
 use Rattle.frame.specs.Phase.{Phase, refused}
 use Rattle.frame.specs.declared.End.{End}
-use Rattle.frame.specs.declared.End.TheVariants as End
 use Rattle.transition_lines.specs.TransitionStepLaws.{transitions-turn, transitions-done, TablesLeft, end-fills, where-drop, where-take}
 use Rattle.text.specs.WordLaws.{within}
-use borrow.Author.Rules.{rules}
+use Rattle.transition_lines.proofs.read_transitions.Invariants.{front}
 use Rattle.transition_lines.proofs.read_transitions.Goals as goal
 use Rattle.transition_lines.proofs.read_transitions.Goals.{After-end_line, After-superseding, After-transition_line, At-loop-edition, In-Is, In-loop-edition, Start}
 
--- the first 128 cells of the two tables
-abbrev front : List ℕ → List ℕ → TransitionSets
-front table marks = transition_sets (take 128 table) (take 128 marks)
+-- where a T stands, which so lies within the file
+inside : (s : List ℕ) (at : ℕ) {b : ℕ} → b ≡ get_or s at 0 → b ≡ 84 → at < length s
+inside s at e w = within s at (omega arith)
 
--- in a turn a T stands at the place, which so lies within the file
-a-T : (c : In-loop-edition) → get_or c.args.s.now c.loop-edition.at 0 ≡ 84
-a-T c = sym c.opening.ensures ∙ c.loop-edition-test.true
+-- what is left of the definition behind a turn that takes transition t
+abbrev left : Edition → (s rows : List ℕ) (n k first line at : ℕ) (table marks : List ℕ) → Transition → Phase TransitionSets
+left e s rows n k first line at table marks t =
+    transitions_at e s (superseding_in rows) n k (line + 1) (at + transition_width e) (transition_index t + 1)
+    (with_marked (front table marks) t)
+    (length s + 1 + first - (line + 1))
 
-inside : (c : In-loop-edition) → c.loop-edition.at < length c.args.s.now
-inside c = within c.args.s.now c.loop-edition.at (omega (arith, a-T c))
-
--- the whole of the definition, and what is left of it behind a turn that takes transition t
-abbrev whole : Start → Phase TransitionSets
-whole c =
-    let a = c.args in
-    transitions_at a.edition a.s.now (superseding_in a.rows.now) a.n a.k a.first a.start 0 (front a.table.now a.marks.now) (length a.s.now + 1)
-
-abbrev left : At-loop-edition → Transition → Phase TransitionSets
-left c t =
-    let l = c.loop-edition in
-    let a = c.args in
-    transitions_at a.edition a.s.now (superseding_in a.rows.now) a.n a.k (l.line + 1) (l.at + transition_width a.edition) (transition_index t + 1)
-    (with_marked (front l.table l.marks) t)
-    (length a.s.now + 1 + a.first - (l.line + 1))
-
--- what a line holds decides what is left of the definition
-turn : (c : After-transition_line) →
-    let l = c.loop-edition in
-    let a = c.args in
-    (w : TransitionLine) → c.transition_line.result ≡ w →
-    with_transition w (λ t. if_in_force (superseding_in a.rows.now) l.line t (left c.before.before.before t)) (refused 8 l.line) ≡
-    whole c.before.before.before.before.before.before.before.before.before
-turn c w e =
-    let l = c.loop-edition in
-    let a = c.args in
+-- what a line holds decides what is left of the definition, the whole of which is x
+turn : (ed : Edition) (s rows : List ℕ) (n k first line at least : ℕ) (table marks : List ℕ) {b : ℕ} {w : TransitionLine} {x : Phase TransitionSets} →
+    b ≡ get_or s at 0 → b ≡ 84 → line ≤ at + first → transition_line_at ed s at n k least ≡ w →
+    transitions_at ed s (superseding_in rows) n k line at least (front table marks) (length s + 1 + first - line) ≡ x →
+    with_transition w (λ t. if_in_force (superseding_in rows) line t (left ed s rows n k first line at table marks t)) (refused 8 line) ≡ x
+turn ed s rows n k first line at least table marks o t early is e =
     sym
-    (transitions-turn a.edition a.s.now (superseding_in a.rows.now) a.n a.k l.line l.at l.least (front l.table l.marks) _ (length a.s.now + 1 + a.first - l.line)
-    (omega (arith, inside c.before)) (a-T c.before) (sym c.transition_line.ensures.0 ∙ e)) ∙
-    l.invariant.7
+    (transitions-turn ed s (superseding_in rows) n k line at least (front table marks) (length s + 1 + first - (line + 1)) (length s + 1 + first - line)
+    (omega (arith, inside s at o t)) (sym o ∙ t) is) ∙ e
 
 -- and then the cell of its letter
 letter-turn : (c : After-superseding) →
     let l = c.loop-edition in
-    let z = c.from-1.given.0 in
+    let a = c.args in
+    let z = c.in-Is in
     (b : Bool) → eqb c.superseding.result 0 ≡ b →
-    choose b (left c.before.before.before.before.before.before.before (transition z.0 z.1.0 z.1.1.0 z.1.1.1.0)) (refused 16 l.line) ≡
-    whole c.before.before.before.before.before.before.before.before.before.before.before.before.before
+    choose b (left a.edition a.s.now a.rows.now a.n a.k a.first l.line l.at l.table l.marks (transition z.from z.letter z.to z.mark)) (refused 16 l.line) ≡
+    transitions_at a.edition a.s.now (superseding_in a.rows.now) a.n a.k a.first a.start 0 (front a.table.now a.marks.now) (length a.s.now + 1)
 letter-turn c b e =
     let a = c.args in
+    let l = c.loop-edition in
     let cell : c.superseding.result ≡ get_or (superseding_in a.rows.now) c.in-Is.letter 0 = c.superseding.ensures.0 in
-    rw (← cell, e) at (turn c.before.before.before.before _ c.in-Is.is)
+    rw (← cell, e) at
+    (turn a.edition a.s.now a.rows.now a.n a.k a.first l.line l.at l.least l.table l.marks c.opening.ensures c.loop-edition-test.true l.invariant.0
+    (sym c.transition_line.ensures.0 ∙ c.in-Is.is) l.invariant.7)
 
 -- from, letter, to and mark are small
 small :
@@ -90,7 +75,8 @@ ended : (c : After-end_line) (r : End) → c.end_line.result ≡ r →
     let l = c.loop-edition in
     let a = c.args in
     (after : TransitionSets) → TablesLeft (front l.table l.marks) (transition_sets a.table.now a.marks.now) after r →
-    FillsTable (whole c.before.before.before.before.before.before.before.before.before) (transition_sets a.table.now a.marks.now) after r
+    FillsTable
+    (transitions_at a.edition a.s.now (superseding_in a.rows.now) a.n a.k a.first a.start 0 (front a.table.now a.marks.now) (length a.s.now + 1)) (transition_sets a.table.now a.marks.now) after r
 ended c r told after left =
     let l = c.loop-edition in
     let a = c.args in
@@ -110,28 +96,29 @@ loop-edition-init c =
     (omega arith, omega arith, omega arith, refl, refl, refl, refl, rw z)
 
 pub transition_line-requires : goal.transition_line-requires
-transition_line-requires c = omega (arith, inside (goal.at.transition_line-requires c).In-loop-edition)
+transition_line-requires c = omega (arith, inside c.args.s.now c.loop-edition.at c.opening.ensures c.loop-edition-test.true)
 
 pub shape_of-table-in_default : goal.shape_of-table-in_default
-shape_of-table-in_default c = c.clear_sets.auto.0 ∙ c.loop-edition.invariant.3
+shape_of-table-in_default c = c.clear_sets.auto.table ∙ c.loop-edition.invariant.3
 
 pub shape_of-marks-in_default : goal.shape_of-marks-in_default
-shape_of-marks-in_default c = c.clear_sets.auto.1.0 ∙ c.loop-edition.invariant.4
+shape_of-marks-in_default c = c.clear_sets.auto.marks ∙ c.loop-edition.invariant.4
 
 pub returns-in_default : goal.returns-in_default
 returns-in_default c =
     let l = c.loop-edition in
     let a = c.args in
-    rw (← turn (goal.at.returns-in_default c).After-transition_line _ c.in_default.is) (refl, c.clear_sets.ensures ∙ sets-cleared-alike (transition_sets a.table.now a.marks.now) (transition_sets l.table l.marks) l.invariant.3 l.invariant.4)
+    rw (← turn a.edition a.s.now a.rows.now a.n a.k a.first l.line l.at l.least l.table l.marks c.opening.ensures c.loop-edition-test.true l.invariant.0
+    (sym c.transition_line.ensures.0 ∙ c.in_default.is) l.invariant.7) (refl, c.clear_sets.ensures ∙ sets-cleared-alike (transition_sets a.table.now a.marks.now) (transition_sets l.table l.marks) l.invariant.3 l.invariant.4)
 
 pub superseding-requires : goal.superseding-requires
 superseding-requires c = omega (arith, small (goal.at.superseding-requires c).In-Is)
 
 pub shape_of-table-then-superseding-ne0 : goal.shape_of-table-then-superseding-ne0
-shape_of-table-then-superseding-ne0 c = c.clear_sets-then-superseding-ne0.auto.0 ∙ c.loop-edition.invariant.3
+shape_of-table-then-superseding-ne0 c = c.clear_sets-then-superseding-ne0.auto.table ∙ c.loop-edition.invariant.3
 
 pub shape_of-marks-then-superseding-ne0 : goal.shape_of-marks-then-superseding-ne0
-shape_of-marks-then-superseding-ne0 c = c.clear_sets-then-superseding-ne0.auto.1.0 ∙ c.loop-edition.invariant.4
+shape_of-marks-then-superseding-ne0 c = c.clear_sets-then-superseding-ne0.auto.marks ∙ c.loop-edition.invariant.4
 
 pub returns-then-superseding-ne0 : goal.returns-then-superseding-ne0
 returns-then-superseding-ne0 c =
@@ -174,16 +161,16 @@ pub overflow_add-least-in-loop-edition : goal.overflow_add-least-in-loop-edition
 overflow_add-least-in-loop-edition c = omega (arith, small (goal.at.overflow_add-least-in-loop-edition c).In-Is)
 
 pub loop-edition-smaller : goal.loop-edition-smaller
-loop-edition-smaller c = omega (arith, inside (goal.at.loop-edition-smaller c).In-loop-edition)
+loop-edition-smaller c = omega (arith, inside c.args.s.now c.loop-edition.at c.opening.ensures c.loop-edition-test.true)
 
 pub loop-edition-preserved : goal.loop-edition-preserved
 unfolding inserted
 loop-edition-preserved c =
     let l = c.loop-edition in
-    let z = c.from-1.given.0 in
-    let w = inside (goal.at.loop-edition-preserved c).In-loop-edition in
-    let b : 8 * z.0 + z.1.0 < 128 = omega (arith, small (goal.at.loop-edition-preserved c).In-Is) in
-    let t = transition z.0 z.1.0 z.1.1.0 z.1.1.1.0 in
+    let z = c.in-Is in
+    let w = inside c.args.s.now c.loop-edition.at c.opening.ensures c.loop-edition-test.true in
+    let b : 8 * z.from + z.letter < 128 = omega (arith, small (goal.at.loop-edition-preserved c).In-Is) in
+    let t = transition z.from z.letter z.to z.mark in
     let size = c.transition_width-size.ensures in
     let width = transition-width c.args.edition in
     let placed = c.insert_where.ensures in (
@@ -191,18 +178,18 @@ loop-edition-preserved c =
       omega (arith, size, width),
       omega arith,
       simp length-set l.invariant.3,
-      ap length placed ∙ (where-length t.mark l.marks (8 * z.0 + z.1.0) t.to ∙ l.invariant.4),
-      drop-set-lt 128 l.table (8 * z.0 + z.1.0) c.insert.result b ∙ l.invariant.5,
-      ap (drop 128) placed ∙ (where-drop t.mark l.marks (8 * z.0 + z.1.0) t.to b ∙ l.invariant.6),
-      rw (size.0, ap (take 128) placed ∙ where-take t.mark l.marks (8 * z.0 + z.1.0) t.to b, take-set-lt 128 l.table (8 * z.0 + z.1.0) c.insert.result b, c.insert.ensures, ← get_or-take 128 l.table (8 * z.0 + z.1.0) 0 b)
+      ap length placed ∙ (where-length t.mark l.marks (8 * z.from + z.letter) t.to ∙ l.invariant.4),
+      drop-set-lt 128 l.table (8 * z.from + z.letter) c.insert.result b ∙ l.invariant.5,
+      ap (drop 128) placed ∙ (where-drop t.mark l.marks (8 * z.from + z.letter) t.to b ∙ l.invariant.6),
+      rw (size.0, ap (take 128) placed ∙ where-take t.mark l.marks (8 * z.from + z.letter) t.to b, take-set-lt 128 l.table (8 * z.from + z.letter) c.insert.result b, c.insert.ensures, ← get_or-take 128 l.table (8 * z.from + z.letter) 0 b)
           (letter-turn (goal.at.loop-edition-preserved c).After-superseding true (eq-eqb _ _ c.if-superseding-ne0.false)),
     )
 
 pub shape_of-table-in-Refused : goal.shape_of-table-in-Refused
-shape_of-table-in-Refused c = c.clear_sets-in-Refused.auto.0 ∙ c.loop-edition.invariant.3
+shape_of-table-in-Refused c = c.clear_sets-in-Refused.auto.table ∙ c.loop-edition.invariant.3
 
 pub shape_of-marks-in-Refused : goal.shape_of-marks-in-Refused
-shape_of-marks-in-Refused c = c.clear_sets-in-Refused.auto.1.0 ∙ c.loop-edition.invariant.4
+shape_of-marks-in-Refused c = c.clear_sets-in-Refused.auto.marks ∙ c.loop-edition.invariant.4
 
 pub returns-in-Refused : goal.returns-in-Refused
 returns-in-Refused c =

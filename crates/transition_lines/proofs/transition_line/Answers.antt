@@ -1,12 +1,11 @@
 -- The line's first number, and behind it each edition has its form. Assumes nothing.
 use mathlib.Core.Path.{◌≡◌, sym, ◌∙◌}
-use borrow.Author.Rules.{rules}
 use Rattle.transition_lines.specs.TransitionLines.{line_from, transition_line_at}
 use Rattle.transition_lines.proofs.transition_line.Goals as goal
-use Rattle.transition_lines.proofs.transition_line.Goals.{In-Is-2}
+use Rattle.transition_lines.proofs.transition_line.Goals.{In-Is}
 
 -- what is left of the definition behind the line's first number
-behind : (c : In-Is-2) →
+behind : (c : In-Is) →
     let a = c.args in
     transition_line_at a.edition a.s.now a.at a.n a.k a.least ≡
     line_from a.edition a.s.now a.at a.n a.k a.least c.in-Is.from
@@ -19,8 +18,8 @@ returns-in_default c = (simp (sym c.number_at.ensures, c.in_default.is), tt)
 
 pub returns-in-StateBased : goal.returns-in-StateBased
 returns-in-StateBased c =
-    (sym (behind (goal.at.returns-in-StateBased c).In-Is-2 ∙ rw c.in-StateBased.is (sym c.unmarked_line.ensures.0)), c.unmarked_line.ensures.1)
+    (sym (behind (goal.at.returns-in-StateBased c).In-Is ∙ rw c.in-StateBased.is (sym c.unmarked_line.ensures.0)), c.unmarked_line.ensures.1)
 
 pub returns-in-TransitionBased : goal.returns-in-TransitionBased
 returns-in-TransitionBased c =
-    (sym (behind (goal.at.returns-in-TransitionBased c).In-Is-2 ∙ rw c.in-TransitionBased.is (sym c.marked_line.ensures.0)), c.marked_line.ensures.1)
+    (sym (behind (goal.at.returns-in-TransitionBased c).In-Is ∙ rw c.in-TransitionBased.is (sym c.marked_line.ensures.0)), c.marked_line.ensures.1)

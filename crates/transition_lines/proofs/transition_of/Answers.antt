@@ -8,7 +8,6 @@ use borrow.Author.Tests.{lt-ltb, le-ltb, lt-leb, le-leb}
 use Rattle.lists.specs.Choice.{choose}
 use Rattle.transition_lines.specs.declared.TransitionLine.TheVariants.{Is, Bad}
 use Rattle.transition_lines.specs.TransitionLines.{transition_of}
-use borrow.Author.Rules.{rules}
 use Rattle.transition_lines.proofs.transition_of.Goals as goal
 use Rattle.transition_lines.proofs.transition_of.Goals.{Else-to-n}
 

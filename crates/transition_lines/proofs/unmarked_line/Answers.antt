@@ -1,6 +1,5 @@
 -- Each answer is what the tests passed make of the definition. Assumes nothing.
 use mathlib.Core.Path.{sym}
-use borrow.Author.Rules.{rules}
 use Rattle.transition_lines.specs.TransitionLines.{line_from}
 use Rattle.transition_lines.proofs.unmarked_line.Goals as goal
 

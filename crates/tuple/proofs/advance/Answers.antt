@@ -1,12 +1,8 @@
 -- Each cell passed is a set, and replaced by its successors. Assumes nothing.
-use Prim.Native.Nat.{◌-◌, ◌≤◌}
-use mathlib.Core.Path.{◌≡◌}
 use native.Mathlib.Omega.{arith}
-use lib.ListN.{length, length-set}
-use Rattle.tuple_record.specs.Record.{set_cells, row_cells}
+use lib.ListN.{length-set}
 use Rattle.automaton.specs.SuccessorLaws.{successors-are}
-use Rattle.tuple.specs.AdvanceLaws.{Advancing, advance-none, advance-stop, advance-end, advance-more}
-use borrow.Author.Rules.{rules}
+use Rattle.tuple.specs.AdvanceLaws.{advance-none, advance-stop, advance-end, advance-more}
 use Rattle.tuple.proofs.advance.Goals as goal
 
 pub loop-i-init : goal.loop-i-init

@@ -1,12 +1,9 @@
 -- Each cell passed is a set, and replaced by its successors. Assumes nothing.
 use Prim.Native.Nat.{◌-◌, ◌≤◌}
 use mathlib.Core.Path.{◌≡◌}
-use native.Mathlib.Omega.{arith}
-use lib.ListN.{length, length-set}
+use lib.ListN.{length}
 use Rattle.tuple_record.specs.Record.{set_cells, row_cells}
-use Rattle.automaton.specs.SuccessorLaws.{successors-are}
-use Rattle.tuple.specs.AdvanceLaws.{Advancing, advance-none, advance-stop, advance-end, advance-more}
-use borrow.Author.Rules.{rules}
+use Rattle.tuple.specs.AdvanceLaws.{Advancing}
 use Rattle.tuple.proofs.advance.Given as goal
 
 abbrev pub invariant-loop-i : goal.invariant-loop-i

@@ -1,7 +1,6 @@
 -- By the test of the set. Assumes nothing.
 use borrow.Author.Tests.{eq-eqb, ne_eqb}
 use Rattle.tuple.specs.Step.{is_marked}
-use borrow.Author.Rules.{rules}
 use Rattle.tuple.proofs.is_marked.Goals as goal
 
 pub returns-then-x-eq0 : goal.returns-then-x-eq0

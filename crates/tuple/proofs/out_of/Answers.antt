@@ -1,6 +1,5 @@
 -- By the mark. Assumes nothing.
 use Rattle.tuple.specs.Parts.{out_of}
-use borrow.Author.Rules.{rules}
 use Rattle.tuple.proofs.out_of.Goals as goal
 
 pub returns-then-mark : goal.returns-then-mark

@@ -1,7 +1,6 @@
 -- The successors, and the new set at the place behind them. Assumes nothing.
 use native.Mathlib.Omega.{arith}
 use Rattle.tuple.specs.StepLaws.{cells-length, count-few, place-done}
-use borrow.Author.Rules.{rules}
 use Rattle.tuple.proofs.place_sets.Goals as goal
 
 pub bounds-w-0 : goal.bounds-w-0

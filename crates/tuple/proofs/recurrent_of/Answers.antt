@@ -1,6 +1,5 @@
 -- Each edition has its recurrent transitions. Assumes nothing.
 use mathlib.Core.Path.{sym, ◌∙◌, ap}
-use borrow.Author.Rules.{rules}
 use Rattle.automaton.specs.SuccessorLaws.{successors-are}
 use Rattle.automaton.specs.declared.Edition.{Edition}
 use Rattle.tuple.specs.Parts.{recurrent_from}

@@ -1,7 +1,6 @@
 -- The members of later places, the pass, and the colour. Assumes nothing.
 use native.Mathlib.Omega.{arith}
 use Rattle.tuple.specs.StepLaws.{settle-done}
-use borrow.Author.Rules.{rules}
 use Rattle.tuple.proofs.settle.Goals as goal
 
 pub returns : goal.returns

@@ -1,7 +1,6 @@
 -- Points 1 and 2, then points 3 to 5. Assumes nothing.
 use mathlib.Core.Path.{◌∙◌}
 use Rattle.tuple.specs.StepLaws.{cells-length, placed-few, step-done}
-use borrow.Author.Rules.{rules}
 use Rattle.tuple.proofs.step.Goals as goal
 
 pub settle-requires : goal.settle-requires

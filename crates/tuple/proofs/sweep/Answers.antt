@@ -1,12 +1,10 @@
 -- Before each turn: the sets closed up so far, and what is removed from the places left. Assumes nothing.
-use Prim.Native.Nat.{◌+◌, ◌-◌, ◌≤◌, ◌<◌}
-use mathlib.Core.Path.{◌≡◌, ◌∙◌}
+use Prim.Native.Nat.{◌+◌, ◌≤◌, ◌<◌}
+use mathlib.Core.Path.{◌∙◌}
 use mathlib.Core.Logic.{inl, inr}
 use native.Mathlib.Omega.{arith}
 use lib.ListN.{length, length-set}
-use Rattle.tuple_record.specs.Record.{row_cells}
 use Rattle.tuple.specs.SweepLaws.{Sweeping, sweep-none, sweep-turn, sweep-length, sweep-end}
-use borrow.Author.Rules.{rules}
 use Rattle.tuple.proofs.sweep.Goals.{then-x-ne0, else-x-ne0}
 use Rattle.tuple.proofs.sweep.Goals as goal
 

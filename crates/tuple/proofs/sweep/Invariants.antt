@@ -1,12 +1,9 @@
 -- Before each turn: the sets closed up so far, and what is removed from the places left. Assumes nothing.
-use Prim.Native.Nat.{◌+◌, ◌-◌, ◌≤◌, ◌<◌}
-use mathlib.Core.Path.{◌≡◌, ◌∙◌}
-use mathlib.Core.Logic.{inl, inr, ⊎_elim}
-use native.Mathlib.Omega.{arith}
-use lib.ListN.{length, length-set}
+use Prim.Native.Nat.{◌+◌, ◌-◌, ◌≤◌}
+use mathlib.Core.Path.{◌≡◌}
+use lib.ListN.{length}
 use Rattle.tuple_record.specs.Record.{row_cells}
-use Rattle.tuple.specs.SweepLaws.{Sweeping, sweep-none, sweep-turn, sweep-length, sweep-end}
-use borrow.Author.Rules.{rules}
+use Rattle.tuple.specs.SweepLaws.{Sweeping}
 use Rattle.tuple.proofs.sweep.Given as goal
 
 abbrev pub invariant-loop-i : goal.invariant-loop-i

@@ -1,12 +1,8 @@
 -- From the last place on: the cells passed have the members of the places behind them. Assumes nothing.
-use Prim.Native.Nat.{◌≤◌}
-use mathlib.Core.Path.{◌≡◌, refl, sym, ◌∙◌}
+use mathlib.Core.Path.{refl, sym, ◌∙◌}
 use native.Mathlib.Omega.{arith}
-use lib.ListN.{length, length-set}
-use lib.Seq.{slice}
-use Rattle.tuple.specs.Step.{union_all}
-use Rattle.tuple.specs.UnionLaws.{UnionsFrom, unions-none, unions-more, unions-set}
-use borrow.Author.Rules.{rules}
+use lib.ListN.{length-set}
+use Rattle.tuple.specs.UnionLaws.{unions-none, unions-more, unions-set}
 use Rattle.tuple.proofs.unions.Goals as goal
 
 pub loop-i-init : goal.loop-i-init

@@ -1,12 +1,10 @@
 -- From the last place on: the cells passed have the members of the places behind them. Assumes nothing.
 use Prim.Native.Nat.{◌≤◌}
-use mathlib.Core.Path.{◌≡◌, refl, sym, ◌∙◌}
-use native.Mathlib.Omega.{arith}
-use lib.ListN.{length, length-set}
+use mathlib.Core.Path.{◌≡◌}
+use lib.ListN.{length}
 use lib.Seq.{slice}
 use Rattle.tuple.specs.Step.{union_all}
-use Rattle.tuple.specs.UnionLaws.{UnionsFrom, unions-none, unions-more, unions-set}
-use borrow.Author.Rules.{rules}
+use Rattle.tuple.specs.UnionLaws.{UnionsFrom}
 use Rattle.tuple.proofs.unions.Given as goal
 
 abbrev pub invariant-loop-i : goal.invariant-loop-i

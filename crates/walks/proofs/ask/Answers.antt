@@ -1,7 +1,6 @@
 -- The states that count are those that begin an endless path, and a transition into one of these leaves one of these. Assumes nothing.
 use Rattle.automaton.specs.EndlessLaws.{endless-back}
 use Rattle.meeting.specs.AnswerLaws.{backwards-same, answer-same}
-use borrow.Author.Rules.{rules}
 use Rattle.walks.proofs.ask.Goals as goal
 
 pub states-counts-requires : goal.states-counts-requires

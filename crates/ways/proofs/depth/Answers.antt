@@ -1,6 +1,6 @@
 -- The way back is followed, and each step leads down: `Followed`. Assumes nothing.
 use native.Mathlib.Omega.{arith}
-use Rattle.ways.specs.SpellLaws.{Followed, followed-none, followed-more, followed-end}
+use Rattle.ways.specs.SpellLaws.{followed-none, followed-more, followed-end}
 use Rattle.ways.proofs.depth.Goals as goal
 
 pub loop-at-init : goal.loop-at-init

@@ -1,6 +1,5 @@
 -- The way back is followed, and each step leads down: `Followed`. Assumes nothing.
-use native.Mathlib.Omega.{arith}
-use Rattle.ways.specs.SpellLaws.{Followed, followed-none, followed-more, followed-end}
+use Rattle.ways.specs.SpellLaws.{Followed}
 use Rattle.ways.proofs.depth.Given as goal
 
 abbrev pub invariant-loop-at : goal.invariant-loop-at

@@ -1,7 +1,6 @@
 -- The letters are written from the last on: `Writing`. Assumes nothing.
 use native.Mathlib.Omega.{arith}
-use Rattle.ways.specs.SpellLaws.{Writing, writing-none, writing_more, writing-end}
-use borrow.Author.Rules.{rules}
+use Rattle.ways.specs.SpellLaws.{writing-none, writing_more, writing-end}
 use Rattle.ways.proofs.put_letters.Goals as goal
 
 pub loop-left-init : goal.loop-left-init

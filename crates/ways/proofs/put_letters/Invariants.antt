@@ -1,7 +1,5 @@
 -- The letters are written from the last on: `Writing`. Assumes nothing.
-use native.Mathlib.Omega.{arith}
-use Rattle.ways.specs.SpellLaws.{Writing, writing-none, writing_more, writing-end}
-use borrow.Author.Rules.{rules}
+use Rattle.ways.specs.SpellLaws.{Writing}
 use Rattle.ways.proofs.put_letters.Given as goal
 
 abbrev pub invariant-loop-left : goal.invariant-loop-left

@@ -1,6 +1,5 @@
 -- The letters are cleared, counted and written. Assumes nothing.
 use Rattle.ways.specs.SpellLaws.{cleared-spelling, cleared-spelled}
-use borrow.Author.Rules.{rules}
 use Rattle.ways.proofs.spell.Goals as goal
 
 pub put_letters-requires : goal.put_letters-requires

@@ -1,9 +1,10 @@
 -- The loop's invariant: what is left of the definition, from the place and the cells reached, is the whole of it. Assumes nothing.
-use Prim.Native.Nat.{◌+◌, ◌-◌, ◌*◌, ◌≤◌, ◌<◌}
+use Prim.Native.Nat.{ℕ, ◌+◌, ◌-◌, ◌≤◌, ◌<◌}
 use mathlib.Core.Path.{◌≡◌, refl, sym, ◌∙◌}
+use mathlib.Core.List.{List}
 use native.Mathlib.Omega.{arith}
 use lib.ListN.{length, get_or, set}
-use Rattle.superseding.specs.Superseding.{superseding_in, with_superseding}
+use Rattle.superseding.specs.Superseding.{superseding_in}
 use Rattle.superseding.specs.SupersedingLaws.{eight_cells, cell-stored, eight-kept, withdraw-more}
 use Rattle.frame.specs.Phase.{refused}
 use Rattle.text.specs.WordLaws.{within}
@@ -11,16 +12,12 @@ use Rattle.withdrawal_lines.specs.declared.WithdrawalLine.{WithdrawalLine}
 use Rattle.withdrawal_lines.specs.WithdrawalLines.{with_withdrawal, withdrawals_at}
 use Rattle.withdrawal_lines.specs.WithdrawalLaws.{withdrawals-end}
 use Rattle.withdrawal_lines.specs.WithdrawalStepLaws.{withdrawals-turn}
-use borrow.Author.Rules.{rules}
 use Rattle.withdrawal_lines.proofs.read_withdrawals.Goals as goal
 use Rattle.withdrawal_lines.proofs.read_withdrawals.Goals.{After-withdrawal_line, In-Is, In-loop-least}
 
 -- in a turn a W stands at the place, which so lies within the file
-a-W : (c : In-loop-least) → get_or c.args.s.now c.loop-least.at 0 ≡ 87
-a-W c = sym c.opening.ensures ∙ c.loop-least-test.true
-
-inside : (c : In-loop-least) → c.loop-least.at < length c.args.s.now
-inside c = within c.args.s.now c.loop-least.at (omega (arith, a-W c))
+inside : (s : List ℕ) (at : ℕ) {b : ℕ} → b ≡ get_or s at 0 → b ≡ 87 → at < length s
+inside s at e w = within s at (omega arith)
 
 -- what a line holds decides what is left of the definition
 turn : (c : After-withdrawal_line) →
@@ -35,14 +32,13 @@ turn c v e =
     let l = c.loop-least in
     let a = c.args in
     sym
-    (withdrawals-turn a.s.now a.k l.line l.at l.least (superseding_in l.rows) _ (length a.s.now + 1 + a.first - l.line) (omega (arith, inside c.before))
-    (a-W c.before) (sym c.withdrawal_line.ensures.0 ∙ e)) ∙
+    (withdrawals-turn a.s.now a.k l.line l.at l.least (superseding_in l.rows) _ (length a.s.now + 1 + a.first - l.line) (omega (arith, inside c.args.s.now c.loop-least.at c.opening.ensures c.loop-least-test.true))
+    (sym c.opening.ensures ∙ c.loop-least-test.true) (sym c.withdrawal_line.ensures.0 ∙ e)) ∙
     l.invariant.0
 
 -- the letter is not below the least one, and the superseding letter is one of eight
 small : (c : In-Is) →
-    let z = c.letter-1.given.0 in
-    (c.loop-least.least ≤ z.0) × (z.0 < z.1.0) × (z.1.0 < 8)
+    (c.loop-least.least ≤ c.in-Is.letter) × (c.in-Is.letter < c.in-Is.by) × (c.in-Is.by < 8)
 small c = rw c.in-Is.is at c.withdrawal_line.ensures.1
 
 pub loop-least-init : goal.loop-least-init
@@ -65,19 +61,19 @@ pub overflow_add-least : goal.overflow_add-least
 overflow_add-least c = omega (arith, small (goal.at.overflow_add-least c).In-Is)
 
 pub loop-least-smaller : goal.loop-least-smaller
-loop-least-smaller c = omega (arith, inside (goal.at.loop-least-smaller c).In-loop-least)
+loop-least-smaller c = omega (arith, inside c.args.s.now c.loop-least.at c.opening.ensures c.loop-least-test.true)
 
 pub loop-least-preserved : goal.loop-least-preserved
 loop-least-preserved c =
     let l = c.loop-least in
     let a = c.args in
-    let z = c.letter-1.given.0 in
+    let z = c.in-Is in
     let stored = c.withdraw.ensures in
     let (low, larger, most) = small (goal.at.loop-least-preserved c).In-Is in
-    let h : z.0 < 8 = omega arith in (
-      rw (stored, cell-stored l.rows z.0 z.1.0 h) (turn (goal.at.loop-least-preserved c).After-withdrawal_line _ c.in-Is.is),
-      rw stored (withdraw-more a.rows.now l.rows z.0 z.1.0 h (omega arith) l.invariant.1),
-      c.withdraw.auto.0 ∙ l.invariant.2,
+    let h : z.letter < 8 = omega arith in (
+      rw (stored, cell-stored l.rows z.letter z.by h) (turn (goal.at.loop-least-preserved c).After-withdrawal_line _ c.in-Is.is),
+      rw stored (withdraw-more a.rows.now l.rows z.letter z.by h (omega arith) l.invariant.1),
+      c.withdraw.auto.rows ∙ l.invariant.2,
       omega arith,
       omega arith,
       omega arith,

@@ -1,17 +1,9 @@
 -- The loop's invariant: what is left of the definition, from the place and the cells reached, is the whole of it. Assumes nothing.
-use Prim.Native.Nat.{◌+◌, ◌-◌, ◌*◌, ◌≤◌, ◌<◌}
-use mathlib.Core.Path.{◌≡◌, refl, sym, ◌∙◌}
-use native.Mathlib.Omega.{arith}
-use lib.ListN.{length, get_or, set}
+use Prim.Native.Nat.{◌+◌, ◌-◌, ◌*◌, ◌≤◌}
+use mathlib.Core.Path.{◌≡◌}
+use lib.ListN.{length}
 use Rattle.superseding.specs.Superseding.{superseding_in, with_superseding}
-use Rattle.superseding.specs.SupersedingLaws.{eight_cells, cell-stored, eight-kept, withdraw-more}
-use Rattle.frame.specs.Phase.{refused}
-use Rattle.text.specs.WordLaws.{within}
-use Rattle.withdrawal_lines.specs.declared.WithdrawalLine.{WithdrawalLine}
-use Rattle.withdrawal_lines.specs.WithdrawalLines.{with_withdrawal, withdrawals_at}
-use Rattle.withdrawal_lines.specs.WithdrawalLaws.{withdrawals-end}
-use Rattle.withdrawal_lines.specs.WithdrawalStepLaws.{withdrawals-turn}
-use borrow.Author.Rules.{rules}
+use Rattle.withdrawal_lines.specs.WithdrawalLines.{withdrawals_at}
 use Rattle.withdrawal_lines.proofs.read_withdrawals.Given as goal
 
 abbrev pub invariant-loop-least : goal.invariant-loop-least

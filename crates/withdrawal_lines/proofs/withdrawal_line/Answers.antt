@@ -3,12 +3,11 @@ use mathlib.Core.Path.{◌≡◌, sym, ◌∙◌}
 use native.Mathlib.Omega.{arith}
 use borrow.Author.Tests.{lt-ltb, le-ltb, lt-leb, le-leb}
 use Rattle.withdrawal_lines.specs.WithdrawalLines.{withdrawal_of, withdrawal_line_at}
-use borrow.Author.Rules.{rules}
 use Rattle.withdrawal_lines.proofs.withdrawal_line.Goals as goal
-use Rattle.withdrawal_lines.proofs.withdrawal_line.Goals.{In-Are-2}
+use Rattle.withdrawal_lines.proofs.withdrawal_line.Goals.{In-Are}
 
 -- what is left of the definition behind the line's two numbers
-behind : (c : In-Are-2) →
+behind : (c : In-Are) →
     let a = c.args in
     withdrawal_line_at a.s.now a.at a.k a.least ≡ withdrawal_of a.k a.least c.in-Are.letter c.in-Are.by
 unfolding withdrawal_line_at
@@ -21,19 +20,19 @@ returns-in_default c = (simp (sym c.pair_at.ensures, c.in_default.is), tt)
 pub returns-then-letter-least : goal.returns-then-letter-least
 unfolding withdrawal_of
 returns-then-letter-least c =
-    (sym (behind (goal.at.returns-then-letter-least c).In-Are-2 ∙ simp (lt-leb _ _ c.if-letter-least.true)), tt)
+    (sym (behind (goal.at.returns-then-letter-least c).In-Are ∙ simp (lt-leb _ _ c.if-letter-least.true)), tt)
 
 pub returns-then-by-letter : goal.returns-then-by-letter
 unfolding withdrawal_of
 returns-then-by-letter c =
-    (sym (behind (goal.at.returns-then-by-letter c).In-Are-2 ∙ simp (le-leb _ _ c.if-letter-least.false, le-ltb _ _ c.if-by-letter.true)), tt)
+    (sym (behind (goal.at.returns-then-by-letter c).In-Are ∙ simp (le-leb _ _ c.if-letter-least.false, le-ltb _ _ c.if-by-letter.true)), tt)
 
 pub returns-then-k-by : goal.returns-then-k-by
 unfolding withdrawal_of
 returns-then-k-by c =
-    (sym (behind (goal.at.returns-then-k-by c).In-Are-2 ∙ simp (le-leb _ _ c.if-letter-least.false, lt-ltb _ _ c.if-by-letter.false, le-ltb _ _ c.if-k-by.true)), tt)
+    (sym (behind (goal.at.returns-then-k-by c).In-Are ∙ simp (le-leb _ _ c.if-letter-least.false, lt-ltb _ _ c.if-by-letter.false, le-ltb _ _ c.if-k-by.true)), tt)
 
 pub returns : goal.returns
 unfolding withdrawal_of
 returns c =
-    (sym (behind (goal.at.returns c).In-Are-2 ∙ simp (le-leb _ _ c.if-letter-least.false, lt-ltb _ _ c.if-by-letter.false, lt-ltb _ _ c.if-k-by.false)), omega arith)
+    (sym (behind (goal.at.returns c).In-Are ∙ simp (le-leb _ _ c.if-letter-least.false, lt-ltb _ _ c.if-by-letter.false, lt-ltb _ _ c.if-k-by.false)), omega arith)

@@ -7,7 +7,6 @@ use lib.ListN.{length}
 use Rattle.lent.specs.Lent.{WitnessTables, witness_tables}
 use Rattle.witness_text.specs.WitnessText.{cells_line, witness_text}
 use Rattle.witness_text.specs.PutLaws.{witness-length, written-append}
-use borrow.Author.Rules.{rules}
 use Rattle.witness_text.proofs.put.Goals as goal
 use Rattle.witness_text.proofs.put.Goals.{Start}
 
@@ -24,20 +23,20 @@ size c = witness-length (witness c) c.args.t
 
 pub put_cells_line-first-requires : goal.put_cells_line-first-requires
 put_cells_line-first-requires c =
-    record { cells = omega (arith, c.requires.0.word); room = omega (arith, size (goal.at.put_cells_line-first-requires c).After-slice_known-1) }
+    record { cells = omega (arith, c.requires.0.word); room = omega (arith, size (goal.at.put_cells_line-first-requires c).Start) }
 
 pub put_cells_line-second-requires : goal.put_cells_line-second-requires
 put_cells_line-second-requires c =
     record {
       cells = omega (arith, c.requires.0.one);
-      room = omega (arith, c.put_cells_line-first.ensures.behind-it, size (goal.at.put_cells_line-second-requires c).After-shared_slice_known-1);
+      room = omega (arith, c.put_cells_line-first.ensures.behind-it, size (goal.at.put_cells_line-second-requires c).Start);
     }
 
 pub put_cells_line-requires : goal.put_cells_line-requires
 put_cells_line-requires c =
     record {
       cells = omega (arith, c.requires.0.other);
-      room = omega (arith, c.put_cells_line-first.ensures.behind-it, c.put_cells_line-second.ensures.behind-it, size (goal.at.put_cells_line-requires c).After-shared_slice_known-2-1);
+      room = omega (arith, c.put_cells_line-first.ensures.behind-it, c.put_cells_line-second.ensures.behind-it, size (goal.at.put_cells_line-requires c).Start);
     }
 
 pub returns : goal.returns

@@ -1,7 +1,6 @@
 -- A space, and the number behind it. Assumes nothing.
 use native.Mathlib.Omega.{arith}
 use Rattle.witness_text.specs.PutLaws.{spaced-length, cell-written}
-use borrow.Author.Rules.{rules}
 use Rattle.witness_text.proofs.put_cell.Goals as goal
 
 pub put_bytes-requires : goal.put_bytes-requires

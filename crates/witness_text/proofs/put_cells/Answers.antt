@@ -1,17 +1,13 @@
 -- What is left to write gives the whole. Assumes nothing.
-use Prim.Native.Nat.{◌-◌}
 use native.Mathlib.Omega.{arith}
-use lib.ListN.{get_or}
-use Rattle.text.specs.PiecesLaws.{Putting, put-none, put-room, put-more, put_all, put-end}
-use Rattle.witness_text.specs.WitnessText.{spaced}
-use borrow.Author.Rules.{rules}
+use Rattle.text.specs.PiecesLaws.{put-none, put-room, put-more, put_all, put-end}
 use Rattle.witness_text.proofs.put_cells.Goals as goal
 
 pub loop-i-init : goal.loop-i-init
 loop-i-init c = put-none c.requires.room
 
 pub overflow_cast-table : goal.overflow_cast-table
-overflow_cast-table c = omega (arith, c.shared_slice_known-in-loop-i-1.given c.loop-i.i)
+overflow_cast-table c = omega (arith, c.type_inv.table c.loop-i.i)
 
 pub put_cell-at-requires : goal.put_cell-at-requires
 put_cell-at-requires c = put-room c.loop-i.invariant c.loop-i-test.true

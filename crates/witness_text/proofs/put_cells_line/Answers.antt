@@ -8,7 +8,6 @@ use Rattle.text.specs.Bytes.{lf}
 use Rattle.witness_text.specs.Put.{spaced_cells}
 use Rattle.witness_text.specs.WitnessText.{cells_line}
 use Rattle.witness_text.specs.PutLaws.{cells-line-length, written_one, written-append}
-use borrow.Author.Rules.{rules}
 use Rattle.witness_text.proofs.put_cells_line.Goals as goal
 use Rattle.witness_text.proofs.put_cells_line.Goals.{Start}
 
@@ -26,11 +25,11 @@ put_cells-end-requires c =
 
 pub put_bytes-requires-2 : goal.put_bytes-requires-2
 put_bytes-requires-2 c =
-    omega (arith, size (goal.at.put_bytes-requires-2 c).After-slice_known-1, c.put_cells-end.ensures.behind-it)
+    omega (arith, size (goal.at.put_bytes-requires-2 c).Start, c.put_cells-end.ensures.behind-it)
 
 pub overflow_add-result : goal.overflow_add-result
 overflow_add-result c =
-    omega (arith, size (goal.at.overflow_add-result c).After-slice_known-1, c.put_cells-end.ensures.behind-it)
+    omega (arith, size (goal.at.overflow_add-result c).Start, c.put_cells-end.ensures.behind-it)
 
 pub returns : goal.returns
 unfolding cells_line

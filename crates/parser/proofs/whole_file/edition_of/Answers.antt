@@ -1,6 +1,5 @@
 -- The word at the top decides. Assumes nothing.
-use mathlib.Core.Path.{sym, ◌∙◌}
-use borrow.Author.Rules.{rules}
+use Rattle.std.proofs.Common.{sym, ◌∙◌}
 use Rattle.parser.specs.Parse.{edition_of}
 use Rattle.parser.proofs.whole_file.edition_of.Goals as goal
 

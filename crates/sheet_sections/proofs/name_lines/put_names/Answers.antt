@@ -1,11 +1,9 @@
 -- `sheet_sections::name_lines::put_names` meets its contract: what is left to write gives the whole. Assumes nothing.
-use Prim.Native.Nat.{◌-◌}
 use native.Mathlib.Omega.{arith}
-use borrow.Author.Rules.{rules}
 use Rattle.format.specs.FormatLaws.{name-length}
-use Rattle.text.specs.PiecesLaws.{Putting, put-none, put-room, put-more, put_all, put-end}
+use Rattle.text.specs.PiecesLaws.{put-none, put-room, put-more, put_all, put-end}
 use Rattle.sheet_lines.specs.RowName.{row_name}
-use Rattle.sheet_sections.specs.RowNamesLaws.{row_text, names-pieces}
+use Rattle.sheet_sections.specs.RowNamesLaws.{names-pieces}
 use Rattle.sheet_sections.proofs.name_lines.put_names.Goals as goal
 
 pub loop-l-init : goal.loop-l-init

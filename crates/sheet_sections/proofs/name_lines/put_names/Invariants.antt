@@ -1,11 +1,7 @@
 -- `sheet_sections::name_lines::put_names` meets its contract: what is left to write gives the whole. Assumes nothing.
 use Prim.Native.Nat.{◌-◌}
-use native.Mathlib.Omega.{arith}
-use borrow.Author.Rules.{rules}
-use Rattle.format.specs.FormatLaws.{name-length}
-use Rattle.text.specs.PiecesLaws.{Putting, put-none, put-room, put-more, put_all, put-end}
-use Rattle.sheet_lines.specs.RowName.{row_name}
-use Rattle.sheet_sections.specs.RowNamesLaws.{row_text, names-pieces}
+use Rattle.text.specs.PiecesLaws.{Putting}
+use Rattle.sheet_sections.specs.RowNamesLaws.{row_text}
 use Rattle.sheet_sections.proofs.name_lines.put_names.Given as goal
 
 abbrev pub invariant-loop-l : goal.invariant-loop-l

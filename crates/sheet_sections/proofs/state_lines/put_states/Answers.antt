@@ -1,11 +1,9 @@
 -- `sheet_sections::state_lines::put_states` meets its contract: what is left to write gives the whole. Assumes nothing.
-use Prim.Native.Nat.{◌-◌}
 use native.Mathlib.Omega.{arith}
-use Rattle.text.specs.PiecesLaws.{Putting, put-none, put-room, put-more, put_all, put-end}
+use Rattle.text.specs.PiecesLaws.{put-none, put-room, put-more, put_all, put-end}
 use Rattle.format.specs.FormatLaws.{state-length}
 use Rattle.format.specs.Written.{state_of}
-use Rattle.sheet_sections.specs.StatesLaws.{state_text, states-pieces}
-use borrow.Author.Rules.{rules}
+use Rattle.sheet_sections.specs.StatesLaws.{states-pieces}
 use Rattle.sheet_sections.proofs.state_lines.put_states.Goals as goal
 
 pub loop-q-init : goal.loop-q-init

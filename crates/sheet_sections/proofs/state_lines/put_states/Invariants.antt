@@ -1,11 +1,7 @@
 -- `sheet_sections::state_lines::put_states` meets its contract: what is left to write gives the whole. Assumes nothing.
 use Prim.Native.Nat.{◌-◌}
-use native.Mathlib.Omega.{arith}
-use Rattle.text.specs.PiecesLaws.{Putting, put-none, put-room, put-more, put_all, put-end}
-use Rattle.format.specs.FormatLaws.{state-length}
-use Rattle.format.specs.Written.{state_of}
-use Rattle.sheet_sections.specs.StatesLaws.{state_text, states-pieces}
-use borrow.Author.Rules.{rules}
+use Rattle.text.specs.PiecesLaws.{Putting}
+use Rattle.sheet_sections.specs.StatesLaws.{state_text}
 use Rattle.sheet_sections.proofs.state_lines.put_states.Given as goal
 
 abbrev pub invariant-loop-q : goal.invariant-loop-q

@@ -1,14 +1,13 @@
 -- `sheet_sections::transition_lines::count_transitions` meets its contract. The loop's invariant: what is counted and what is left make all transitions.
 -- Assumes nothing.
-use Prim.Native.Nat.{ℕ, ◌+◌, ◌-◌}
+use Prim.Native.Nat.{ℕ}
 use mathlib.Core.Path.{◌≡◌, sym, ap, ◌∙◌}
 use mathlib.Core.List.{List, []}
 use native.Mathlib.Omega.{arith}
 use native.Mathlib.Nat.{zero-add}
-use borrow.Author.Rules.{rules}
 use lib.ListN.{length}
 use Rattle.format.specs.Written.{most_transitions}
-use Rattle.sheet_sections.specs.Places.{transitions_from, Stop}
+use Rattle.sheet_sections.specs.Places.{transitions_from}
 use Rattle.sheet_sections.specs.PlacesLaws.{count_next, count-last}
 use Rattle.sheet_sections.specs.LengthLaws.{transitions_of-most}
 use Rattle.sheet_sections.proofs.transition_lines.count_transitions.Goals as goal

@@ -1,13 +1,9 @@
 -- `sheet_sections::transition_lines::next_place` meets its contract. The loop's invariant: no transition stands at the places passed. Assumes nothing.
-use Prim.Native.Nat.{ℕ, ◌≤◌, ◌-◌, ◌/◌, ◌%◌}
+use Prim.Native.Nat.{◌/◌, ◌%◌}
 use lib.ListN.{get_or}
-use mathlib.Core.Path.{◌≡◌, refl, ◌∙◌}
-use mathlib.Core.List.{List}
+use mathlib.Core.Path.{refl, ◌∙◌}
 use native.Mathlib.Omega.{arith}
-use borrow.Author.Rules.{rules}
 use Rattle.sets.specs.SetLaws.{bit-out}
-use Rattle.format.specs.Written.{most_transitions}
-use Rattle.sheet_sections.specs.Places.{transitions_from}
 use Rattle.sheet_sections.specs.PlacesLaws.{place-empty, cell-empty}
 use Rattle.sheet_sections.proofs.transition_lines.next_place.Goals as goal
 

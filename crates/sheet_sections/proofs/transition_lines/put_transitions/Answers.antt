@@ -1,14 +1,7 @@
 -- `sheet_sections::transition_lines::put_transitions` meets its contract. The loop's invariant: storing the lines that are left gives all lines stored.
 -- Assumes nothing.
-use Prim.Native.Nat.{◌+◌, ◌-◌}
-use mathlib.Core.Path.{◌≡◌, refl, sym, ◌∙◌}
+use mathlib.Core.Path.{refl, sym, ◌∙◌}
 use native.Mathlib.Omega.{arith}
-use borrow.Author.Rules.{rules}
-use lib.ListN.{length}
-use lib.Seq.{sets}
-use Rattle.format.specs.Format.{transition_lines}
-use Rattle.format.specs.Written.{most_transitions}
-use Rattle.sheet_sections.specs.Places.{transitions_from, Stop}
 use Rattle.sheet_sections.specs.PlacesLaws.{bytes_next, bytes-here, bytes-last, lines_next, lines-last}
 use Rattle.sheet_sections.proofs.transition_lines.put_transitions.Goals as goal
 
@@ -39,7 +32,7 @@ loop-i-preserved c =
     let s = c.args in
     let next = bytes_next s.marks.now l.invariant.0 (omega arith) first s.edition l.at in
     let lines = lines_next s.marks.now l.invariant.0 (omega arith) first s.edition l.out l.at in
-    (first.stop, put.auto.0 ∙ l.invariant.1, rw width (next ∙ l.invariant.2), rw (put.ensures, width) (sym lines ∙ l.invariant.3))
+    (first.stop, put.auto.out ∙ l.invariant.1, rw width (next ∙ l.invariant.2), rw (put.ensures, width) (sym lines ∙ l.invariant.3))
 
 pub returns : goal.returns
 returns c =

@@ -1,15 +1,12 @@
 -- `sheet_sections::transition_lines::put_transitions` meets its contract. The loop's invariant: storing the lines that are left gives all lines stored.
 -- Assumes nothing.
 use Prim.Native.Nat.{◌+◌, ◌-◌}
-use mathlib.Core.Path.{◌≡◌, refl, sym, ◌∙◌}
-use native.Mathlib.Omega.{arith}
-use borrow.Author.Rules.{rules}
+use mathlib.Core.Path.{◌≡◌}
 use lib.ListN.{length}
 use lib.Seq.{sets}
 use Rattle.format.specs.Format.{transition_lines}
 use Rattle.format.specs.Written.{most_transitions}
 use Rattle.sheet_sections.specs.Places.{transitions_from, Stop}
-use Rattle.sheet_sections.specs.PlacesLaws.{bytes_next, bytes-here, bytes-last, lines_next, lines-last}
 use Rattle.sheet_sections.proofs.transition_lines.put_transitions.Given as goal
 
 abbrev pub invariant-loop-i : goal.invariant-loop-i

@@ -1,10 +1,7 @@
 -- `sheet_sections::withdrawal_lines::put_withdrawals` meets its contract: what is left to write gives the whole. Assumes nothing.
-use Prim.Native.Nat.{◌-◌}
 use native.Mathlib.Omega.{arith}
-use borrow.Author.Rules.{rules}
-use Rattle.text.specs.PiecesLaws.{Putting, put-none, put-room, put-more, put_all, put-end}
+use Rattle.text.specs.PiecesLaws.{put-none, put-room, put-more, put_all, put-end}
 use Rattle.superseding.specs.Superseding.{superseding_in}
-use Rattle.sheet_sections.specs.RowWithdrawals.{withdrawal_text}
 use Rattle.sheet_sections.specs.RowWithdrawalsLaws.{withdrawals-pieces}
 use Rattle.sheet_sections.proofs.withdrawal_lines.put_withdrawals.Goals as goal
 

@@ -1,17 +1,12 @@
 -- `sheet_sections::withdrawal_lines::withdrawals_length` meets its contract. The loop's invariant: what is counted and the lines that are left make all lines.
 -- Assumes nothing.
-use Prim.Native.Nat.{◌+◌, ◌-◌, ◌*◌, ◌≤◌}
-use mathlib.Core.Path.{◌≡◌, sym, ◌∙◌}
-use mathlib.Core.Logic.{⊎_elim}
+use mathlib.Core.Path.{sym, ◌∙◌}
 use native.Mathlib.Omega.{arith}
 use native.Mathlib.Nat.{zero-add, sub-zero}
-use lib.ListN.{length}
 use Rattle.superseding.specs.Superseding.{superseding_in}
-use Rattle.format.specs.Format.{withdrawal_lines}
-use Rattle.sheet_sections.specs.RowWithdrawals.{withdrawals_of}
 use Rattle.sheet_sections.specs.RowWithdrawalsLaws.{length-in-force, length-withdrawn, withdrawals-length-next, withdrawals-last}
-use borrow.Author.Rules.{rules}
 use Rattle.sheet_sections.proofs.withdrawal_lines.withdrawals_length.Goals as goal
+use Rattle.sheet_sections.proofs.withdrawal_lines.withdrawals_length.Goals.{then-superseding-ne0, else-superseding-ne0}
 
 pub loop-l-init : goal.loop-l-init
 loop-l-init c = (omega arith, omega arith, zero-add _ ∙ rw sub-zero)
@@ -23,10 +18,12 @@ loop-l-preserved c =
     let cells = superseding_in a.rows.now in
     let cell = c.superseding.ensures.0 in
     let next = withdrawals-length-next cells a.k l (omega arith) in
-    ⊎_elim
-    (λ w. let line = length-withdrawn cells l (λ e. w.0.taken (cell ∙ e)) in (omega arith, omega arith, omega arith))
-    (λ w. let none = length-in-force cells l (sym cell ∙ w.0.left) in (omega arith, omega arith, omega arith))
-    c.if-superseding-ne0.branch
+    elim c.if-superseding-ne0.branch [
+      | then-superseding-ne0 w ↦
+          (let line = length-withdrawn cells l (λ e. w.if-superseding-ne0.true (cell ∙ e)) in (omega arith, omega arith, omega arith))
+      | else-superseding-ne0 w ↦
+          (let none = length-in-force cells l (sym cell ∙ w.if-superseding-ne0.false) in (omega arith, omega arith, omega arith))
+    ]
 
 pub returns : goal.returns
 returns c =

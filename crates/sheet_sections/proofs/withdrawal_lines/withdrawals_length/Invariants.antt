@@ -1,16 +1,11 @@
 -- `sheet_sections::withdrawal_lines::withdrawals_length` meets its contract. The loop's invariant: what is counted and the lines that are left make all lines.
 -- Assumes nothing.
 use Prim.Native.Nat.{◌+◌, ◌-◌, ◌*◌, ◌≤◌}
-use mathlib.Core.Path.{◌≡◌, sym, ◌∙◌}
-use mathlib.Core.Logic.{⊎_elim}
-use native.Mathlib.Omega.{arith}
-use native.Mathlib.Nat.{zero-add, sub-zero}
+use mathlib.Core.Path.{◌≡◌}
 use lib.ListN.{length}
 use Rattle.superseding.specs.Superseding.{superseding_in}
 use Rattle.format.specs.Format.{withdrawal_lines}
 use Rattle.sheet_sections.specs.RowWithdrawals.{withdrawals_of}
-use Rattle.sheet_sections.specs.RowWithdrawalsLaws.{length-in-force, length-withdrawn, withdrawals-length-next, withdrawals-last}
-use borrow.Author.Rules.{rules}
 use Rattle.sheet_sections.proofs.withdrawal_lines.withdrawals_length.Given as goal
 
 abbrev pub invariant-loop-l : goal.invariant-loop-l

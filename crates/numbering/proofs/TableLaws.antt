@@ -8,8 +8,8 @@ use Rattle.tuple_record.specs.Record.{set_cells, row_cells, record_cells, record
 use Rattle.tuple_record.specs.RecordLaws.{CellOf, cell-of}
 use Rattle.tuple.specs.Step.{Tuple}
 use Rattle.numbering.specs.Numbering.{Distinct, TupleCells, NextCells}
-use Rattle.numbering.specs.ExploreLaws.{way-once, found-once}
-use Rattle.numbering.specs.NumberingLaws.{numbers_apart}
+use Rattle.numbering.proofs.ExploreLaws.{way-once, found-once}
+use Rattle.numbering.proofs.NumberingLaws.{numbers_apart}
 
 module _ (A : Automaton) (ts : List Tuple) where
   pub tuple-cells-once : (a b : List ℕ) → TupleCells A ts a → TupleCells A ts b → (i : ℕ) → get_or a i 0 ≡ get_or b i 0

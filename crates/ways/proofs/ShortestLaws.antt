@@ -6,11 +6,11 @@ use Rattle.automaton.specs.Automaton.{Automaton}
 use Rattle.tuple_record.specs.Record.{from_in, letter_in}
 use Rattle.tuple.specs.Step.{Tuple, first, next}
 use Rattle.numbering.specs.Numbering.{after_word, Word, tuple_at, entered}
-use Rattle.numbering.specs.NumberingLaws.{after-snoc, word-unsnoc, numbers_apart}
+use Rattle.numbering.proofs.NumberingLaws.{after-snoc, word-unsnoc, numbers_apart}
 use Rattle.ways.specs.Way.{Reaches, Spells, Precedes, ShortestWord}
 use Rattle.ways.specs.PrecedesLaws.{precedes-chain, precedes-front, precedes-last}
 use Rattle.ways.specs.BackLaws.{reaches-zero, reaches_some, reaches-none, spells-once, spells-less}
-use Rattle.ways.specs.WayLaws.{FoundWays, way_down, from-ascends, step-deeper, word-deeper, spelled-leads, spells}
+use Rattle.ways.proofs.WayLaws.{FoundWays, way_down, from-ascends, step-deeper, word-deeper, spelled-leads, spells}
 
 module _ {A : Automaton} {ts : List Tuple} {tuples : List ℕ} (fw : FoundWays A ts tuples) where
   -- THE ORDER OF THE LETTERS: of two tuples as deep the one with the smaller number has the word that comes first

@@ -293,9 +293,9 @@ module _ (A : Automaton) (c : ℕ) (ts : List Tuple) (x : Explored A c ts) (h : 
 
 explored-step : (A : Automaton) (c : ℕ) (ts us : List Tuple) → Explored A c ts → Stepped A c ts us → Explored A (suc c) us
 unfolding us
-explored-step A c ts us x (Stepped.skip f e) = subst (Explored A (suc c)) (sym e) (explored-same A c ts x (λ h l. absurd (f h l)))
-explored-step A c ts us x (Stepped.old h l g e) = subst (Explored A (suc c)) (sym e) (explored-same A c ts x (λ h l. g))
-explored-step A c ts us x (Stepped.new h l f e) = subst (Explored A (suc c)) (sym e) (explored-new A c ts x h l f)
+explored-step A c ts _ x (Stepped.skip f e) = subst (Explored A (suc c)) (sym e) (explored-same A c ts x (λ h l. absurd (f h l)))
+explored-step A c ts _ x (Stepped.old h l g e) = subst (Explored A (suc c)) (sym e) (explored-same A c ts x (λ h l. g))
+explored-step A c ts _ x (Stepped.new h l f e) = subst (Explored A (suc c)) (sym e) (explored-new A c ts x h l f)
 
 -- a step that finds a new tuple is its finding step
 pub step-is-finding : (A : Automaton) (c : ℕ) (ts : List Tuple) → Explored A c ts → c / 8 < length ts → c % 8 < A.k → (Listed A ts (entered A ts c) → ⊥)

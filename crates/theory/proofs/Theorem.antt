@@ -4,10 +4,11 @@ use Rattle.std.proofs.Common.{◌∙◌, arith}
 use Rattle.std.proofs.Math.Decide.{ℕ_discrete}
 use Rattle.finite.specs.Least.{lowest, low, often}
 use Rattle.theory.specs.Run.{Run, Path, Often, Alone, Through, Least}
-use Rattle.theory.specs.Odd.{never-odd}
-use Rattle.theory.specs.Even.{marks}
-use Rattle.theory.specs.Repeating.{through-repeating}
-use Rattle.theory.specs.Endless.{LPO, through-endless}
+use Rattle.theory.proofs.Odd.{never-odd}
+use Rattle.theory.proofs.Even.{marks}
+use Rattle.theory.proofs.Repeating.{through-repeating}
+use Rattle.theory.specs.Endless.{LPO}
+use Rattle.theory.proofs.Endless.{through-endless}
 
 -- a sequence of colours that repeats: the least of one repetition is the least entered without end
 pub least-repeating : (col : ℕ → ℕ) (T d : ℕ) → ((t : ℕ) → T ≤ t → col (t + suc d) ≡ col t) → Least col (lowest col T d)

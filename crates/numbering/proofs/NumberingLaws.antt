@@ -12,7 +12,7 @@ use Rattle.automaton.specs.Automaton.{Automaton}
 use Rattle.tuple.specs.Step.{Tuple, first, next}
 use Rattle.numbering.specs.Numbering.{after_word, Word, Reachable, tuple_at, Distinct, entered, FoundBy, Numbering, MoreThan}
 use Rattle.numbering.specs.Explore.{step, found}
-use Rattle.numbering.specs.ExploreLaws.{Listed, Agree, Stepped, Explored, stepped, explored, agree-more, last-is, enters-alike}
+use Rattle.numbering.proofs.ExploreLaws.{Listed, Agree, Stepped, Explored, stepped, explored, agree-more, last-is, enters-alike}
 
 -- REACHABLE TUPLES
 

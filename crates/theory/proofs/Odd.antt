@@ -4,7 +4,7 @@ use Rattle.std.specs.Prelude.{ℕ, zero, suc, ◌+◌, ◌*◌, ◌≤◌, ◌<�
 use Rattle.std.proofs.Common.{inl, inr, arith}
 use Rattle.std.proofs.Math.Decide.{ℕ_discrete, le_ind}
 use Rattle.theory.specs.Run.{None, Run, Path, Often}
-use Rattle.theory.specs.Basic.{rank-le, rank-gap, rank-ge, holds, keeps, p-keeps, in-zero, zero-stays}
+use Rattle.theory.proofs.Basic.{rank-le, rank-gap, rank-ge, holds, keeps, p-keeps, in-zero, zero-stays}
 
 module _ {n : ℕ} {E M S U W : ℕ → ℕ → ℕ → Type 0} {K : ℕ → ℕ → Type 0} {p col : ℕ → ℕ} {rank : ℕ → ℕ → ℕ}
     (R : Run n E M S U W K p col rank) where

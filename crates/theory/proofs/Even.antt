@@ -4,7 +4,7 @@ use Rattle.std.proofs.Common.{inl, inr, arith}
 use Rattle.std.proofs.Math.Decide.{dec_lt, ℕ_discrete, le_ind}
 use Rattle.finite.specs.Paths.{trace}
 use Rattle.theory.specs.Run.{Run, Path, Often}
-use Rattle.theory.specs.Basic.{at_place, has-origin, inside, rank-le, rank-full, Fulls, rank-ge, holds, keeps, p-keeps}
+use Rattle.theory.proofs.Basic.{at_place, has-origin, inside, rank-le, rank-full, Fulls, rank-ge, holds, keeps, p-keeps}
 
 module _ {n : ℕ} {E M S U W : ℕ → ℕ → ℕ → Type 0} {K : ℕ → ℕ → Type 0} {p col : ℕ → ℕ} {rank : ℕ → ℕ → ℕ}
     (R : Run n E M S U W K p col rank) where

@@ -10,8 +10,8 @@ use Rattle.numbering.specs.Numbering.{tuple_at}
 use Rattle.filling.specs.TrackerTables.{TrackerTables, EnoughForTracker, Fitted}
 use Rattle.filling.specs.FittedLaws.{fitted-formed, fitted-room}
 use Rattle.ways.specs.Way.{Spells, ShortestWord}
-use Rattle.ways.specs.WayLaws.{FoundWays, way_down, spells, spelled-few}
-use Rattle.ways.specs.ShortestLaws.{spelled-shortest}
+use Rattle.ways.proofs.WayLaws.{FoundWays, way_down, spells, spelled-few}
+use Rattle.ways.proofs.ShortestLaws.{spelled-shortest}
 use Rattle.ways.specs.Spell.{LeadsDown}
 
 module _ (A : Automaton) (fits : Fits A) (room m : ℕ) (v w : TrackerTables) (f : Fitted A room v w m) where

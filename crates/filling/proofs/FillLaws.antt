@@ -14,7 +14,7 @@ use Rattle.tuple.specs.Step.{Tuple, unless_empty, closed, first}
 use Rattle.tuple.specs.Row.{row}
 use Rattle.numbering.specs.Numbering.{TupleCells}
 use Rattle.numbering.specs.Explore.{found}
-use Rattle.numbering.specs.NumberingLaws.{found_all, found-more}
+use Rattle.numbering.proofs.NumberingLaws.{found_all, found-more}
 use Rattle.expanding.specs.Tables.{TrackerTables, tracker_tables, EnoughForTracker}
 use Rattle.expanding.specs.TablesLaws.{room-alike}
 use Rattle.expanding.specs.Expand.{Filled}

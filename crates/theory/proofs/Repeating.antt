@@ -4,8 +4,8 @@ use Rattle.std.proofs.Common.{sym, ◌∙◌, ap, arith, mul-le-mul_right}
 use Rattle.finite.specs.Finite.{pigeon}
 use Rattle.finite.specs.Paths.{loop, shift}
 use Rattle.theory.specs.Run.{Run, Path, Through}
-use Rattle.theory.specs.Basic.{inside, lead-in}
-use Rattle.theory.specs.Even.{path_inside}
+use Rattle.theory.proofs.Basic.{inside, lead-in}
+use Rattle.theory.proofs.Even.{path_inside}
 
 module _ {n : ℕ} {E M S U W : ℕ → ℕ → ℕ → Type 0} {K : ℕ → ℕ → Type 0} {p col : ℕ → ℕ} {rank : ℕ → ℕ → ℕ}
     (R : Run n E M S U W K p col rank) where

@@ -14,7 +14,7 @@ use Rattle.automaton.specs.Automaton.{Automaton}
 use Rattle.tuple_record.specs.Record.{from_in, letter_in}
 use Rattle.tuple.specs.Step.{Tuple, first, next}
 use Rattle.numbering.specs.Numbering.{after_word, Word, tuple_at, entered, FirstFound, Numbering}
-use Rattle.numbering.specs.NumberingLaws.{after-snoc, word-snoc}
+use Rattle.numbering.proofs.NumberingLaws.{after-snoc, word-snoc}
 use Rattle.ways.specs.Way.{back, Reaches, Spells}
 use Rattle.ways.specs.BackLaws.{back_none, back_more, back_from, reaches-zero, reaches_more, reaches-less, reaches_some, reaches-none, reaches-once}
 

@@ -11,7 +11,7 @@ use Rattle.tuple.specs.Row.{row}
 use Rattle.tuple.specs.SameSteps.{SameSteps, same_back}
 use Rattle.tuple.specs.RewrittenStep.{rewritten-steps}
 use Rattle.numbering.specs.Numbering.{after_word, Word, Reachable, tuple_at, Distinct, entered, FoundBy, Numbering, MoreThan, TupleCells, NextCells}
-use Rattle.numbering.specs.ExploreLaws.{way-mapped}
+use Rattle.numbering.proofs.ExploreLaws.{way-mapped}
 
 module _ {A B : Automaton} (same : SameSteps A B) where
   letter-to : {l : ℕ} → l < A.k → l < B.k

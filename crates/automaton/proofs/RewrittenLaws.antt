@@ -9,7 +9,7 @@ use Rattle.automaton.specs.Automaton.{Automaton, graph_of, Fits}
 use Rattle.automaton.specs.Endless.{MeetingFree}
 use Rattle.automaton.specs.Graph.{successor_set}
 use Rattle.automaton.specs.Reading.{Reading, MarkedEdge, RecurrentBy, Recurrent, Recurs, Passes}
-use Rattle.automaton.specs.RecurrenceLaws.{recurs-takes}
+use Rattle.automaton.proofs.RecurrenceLaws.{recurs-takes}
 use Rattle.automaton.specs.Rewritten.{marked_into}
 use Rattle.automaton.specs.declared.Edition.{Edition}
 use Rattle.automaton.specs.declared.Edition.TheVariants.{StateBased}

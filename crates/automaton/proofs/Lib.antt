@@ -1,0 +1,2 @@
+pub mod RecurrenceLaws
+pub mod RewrittenLaws

@@ -1,0 +1,4 @@
+pub mod ExploreLaws
+pub mod NumberingLaws
+pub mod TableLaws
+pub mod SameNumbering

@@ -1,0 +1,3 @@
+pub mod WayLaws
+pub mod ShortestLaws
+pub mod FittedWayLaws
