@@ -1,5 +1,6 @@
 // The answers of the public calls in numbers: each by its cells, in a lent table.
 #![tactic(auto)]
+
 ghost use Rattle.std.specs.Prelude.{◌≡◌};
 ghost use Rattle.cells.specs.Cells.{into};
 ghost use Rattle.answers.specs.Answer.{edition_cell, edition_numbered, checked_cells, read_cells, found_cells, built_cells, way_cells, answer_cell, outcome_cells};

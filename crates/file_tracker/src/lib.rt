@@ -1,5 +1,6 @@
 // The tracker of a sheet file: its questions, its successor sets and marks, and every tuple that some word reaches, in lent tables.
 #![tactic(auto)]
+
 ghost use Rattle.automaton.specs.Automaton.{transition_sets};
 ghost use Rattle.lent.specs.Lent.{witness_tables};
 ghost use Rattle.filling.specs.TrackerTables.{tracker_tables};

@@ -1,5 +1,6 @@
 // How one gets to a tuple of the tracker of a sheet file: a shortest word to it, in lent letters.
 #![tactic(auto)]
+
 ghost use Rattle.gate.specs.Gate.{Decides};
 ghost use Rattle.automaton.specs.Automaton.{transition_sets};
 ghost use Rattle.lent.specs.Lent.{witness_tables};

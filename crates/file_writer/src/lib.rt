@@ -1,5 +1,6 @@
 // Writing a sheet file anew.
 #![tactic(auto)]
+
 ghost use Rattle.lent.specs.Lent.{witness_tables};
 ghost use Rattle.writer.specs.Write.{write_tables};
 ghost use Rattle.file_writer.specs.FileWrite.{Writes};

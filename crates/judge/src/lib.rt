@@ -1,5 +1,6 @@
 // The verdict from two files: a plan judged on the tracker of a sheet.
 #![tactic(auto)]
+
 ghost use Rattle.gate.specs.Gate.{Decides};
 ghost use Rattle.automaton.specs.Automaton.{transition_sets};
 ghost use Rattle.lent.specs.Lent.{witness_tables};

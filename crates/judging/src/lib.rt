@@ -1,5 +1,6 @@
 // A plan file judged on the tracker of a sheet file, in lent tables that are long enough.
 #![tactic(auto)]
+
 ghost use Rattle.automaton.specs.Automaton.{transition_sets};
 ghost use Rattle.lent.specs.Lent.{witness_tables};
 ghost use Rattle.filling.specs.TrackerTables.{tracker_tables};

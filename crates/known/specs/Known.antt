@@ -3,7 +3,7 @@
 use Rattle.std.specs.Prelude.{◌≡◌, refl, true}
 use Rattle.std.proofs.Common.{sym, subst}
 use Rattle.std.proofs.Math.Bool.{and-eq-true_iff}
-use mathlib.Core.List.{List, ◌∷◌, Memᴰ}
+use mathlib.Core.List.{List, [], ◌∷◌, Memᴰ}
 use Rattle.known.specs.Case.{Case, Forced}
 use Rattle.known.specs.Cases.{cases}
 use Rattle.known.specs.CaseTest.{right, all_right}
@@ -17,6 +17,7 @@ computed = refl
 
 all-forced : (cs : List Case) → all_right cs ≡ true → (c : Case) → Memᴰ c cs → Forced c
 unfolding all_right
+all-forced [] e c m = elim m [ ]
 all-forced (x ∷ cs) e c (Memᴰ.head p) = subst Forced (sym p) (right-forced x ((and-eq-true_iff (right x) (all_right cs)).0 e).0)
 all-forced (x ∷ cs) e c (Memᴰ.tail m) = all-forced cs ((and-eq-true_iff (right x) (all_right cs)).0 e).1 c m
 

@@ -1,5 +1,6 @@
 // The letter of a name in a sheet file.
 #![tactic(auto)]
+
 mod finding;
 
 ghost use Rattle.lent.specs.Lent.{witness_tables};

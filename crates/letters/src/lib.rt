@@ -1,5 +1,6 @@
 // The name of a letter in a sheet file, and the number for which it has none.
 #![tactic(auto)]
+
 mod spelling;
 
 ghost use Rattle.letters.specs.Letters.{NameIs, NumberIs};

@@ -1,5 +1,6 @@
 // The listing of a tracker from numbers.
 #![tactic(auto)]
+
 ghost use Rattle.automaton.specs.Automaton.{automaton};
 ghost use Rattle.lent.specs.Lent.{witness_tables};
 ghost use Rattle.filling.specs.TrackerTables.{tracker_tables};

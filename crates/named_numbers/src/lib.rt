@@ -1,5 +1,6 @@
 // The questions on a sheet as numbers that takes its names from a sheet file.
 #![tactic(auto)]
+
 ghost use Rattle.std.specs.Prelude.{◌≡◌, List, ◌≤◌, length};
 ghost use Rattle.gate.specs.Gate.{Decides};
 ghost use Rattle.automaton.specs.Automaton.{transition_sets, automaton};

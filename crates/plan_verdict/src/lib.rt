@@ -1,5 +1,6 @@
 // A plan file judged on a tracker's tables.
 #![tactic(auto)]
+
 ghost use Rattle.std.specs.Prelude.{◌≡◌, ◌≤◌, length};
 ghost use Rattle.name_rows.specs.Rows.{OnlyRow};
 ghost use Rattle.automaton.specs.Automaton.{transition_sets};

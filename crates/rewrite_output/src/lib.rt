@@ -1,5 +1,6 @@
 // The whole of program `rewrite`: from the bytes of standard input to those of standard output.
 #![tactic(auto)]
+
 ghost use Rattle.std.specs.Prelude.{◌+◌, ◌≡◌};
 ghost use Rattle.lent.specs.Lent.{witness_tables};
 ghost use Rattle.format.specs.Format.{most_sheet};

@@ -1,5 +1,6 @@
 // The whole of program `track`: from the bytes of standard input to those of standard output.
 #![tactic(auto)]
+
 ghost use Rattle.std.specs.Prelude.{◌≡◌, ◌+◌, ◌≤◌, length};
 ghost use Rattle.format.specs.Format.{most_sheet};
 ghost use Rattle.report.specs.Output.{Prints};

@@ -1,5 +1,6 @@
 // The whole of program `verdict`: from the bytes of standard input to those of standard output.
 #![tactic(auto)]
+
 ghost use Rattle.std.specs.Prelude.{◌≡◌, ◌+◌};
 ghost use Rattle.report.specs.Output.{Prints};
 ghost use Rattle.verdict_output.specs.Verdict.{longest_verdict, most_input, VerdictOutput};

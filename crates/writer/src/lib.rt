@@ -1,5 +1,6 @@
 // Writing a sheet file from numbers.
 #![tactic(auto)]
+
 ghost use Rattle.std.specs.Prelude.{◌≤◌, length};
 ghost use Rattle.automaton.specs.Automaton.{automaton};
 ghost use Rattle.gate.specs.Gate.{Put};

@@ -1,7 +1,6 @@
 -- Each answer is that of the questions on the way to it. Assumes nothing.
-use mathlib.Core.Path.{◌≡◌, refl, sym, subst, ◌∙◌}
+use mathlib.Core.Path.{◌≡◌, refl, sym, subst}
 use Prim.Native.Nat.{◌≤◌}
-use native.Mathlib.Omega.{arith}
 use lib.ListN.{length}
 use lib.Seq.{length-take-le}
 use Rattle.automaton.specs.Automaton.{transition_sets}
@@ -10,7 +9,6 @@ use Rattle.lent.proofs.LentLaws.{sets-cleared-alike}
 use Rattle.reading.specs.Read.{read_tables, ReadsNamed}
 use Rattle.reading.specs.ReadLaws.{read_fits}
 use Rattle.reading.specs.declared.Read.{Read}
-use Rattle.reading.specs.declared.Read.TheVariants.{Is}
 use Rattle.filling.specs.TrackerTables.{tracker_tables}
 use Rattle.building.specs.FileBuild.{Builds}
 use Rattle.building.specs.FileBuildLaws.{file-over, file-is}

@@ -3,7 +3,6 @@ use mathlib.Core.Path.{refl, sym, subst}
 use Rattle.automaton.specs.Automaton.{transition_sets}
 use Rattle.lent.specs.Lent.{cleared_sets}
 use Rattle.listing.specs.List.{Left}
-use borrow.Author.Rules.{rules}
 use Rattle.file_listing.proofs.clear_refused.Goals as goal
 
 pub returns-in-Refused : goal.returns-in-Refused
@@ -11,7 +10,7 @@ returns-in-Refused c =
     let a = c.args in
     let lent = transition_sets a.table.now a.marks.now in
     let left = c.clear_sets.new in
-    (refl, subst (Left (cleared_sets lent) lent (transition_sets left.0 left.1.0)) (sym c.in-Refused.is) c.clear_sets.ensures)
+    (refl, subst (Left (cleared_sets lent) lent (transition_sets left.table left.marks)) (sym c.in-Refused.is) c.clear_sets.ensures)
 
 pub returns-in_default : goal.returns-in_default
 returns-in_default c =

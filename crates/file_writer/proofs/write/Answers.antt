@@ -2,7 +2,6 @@
 use mathlib.Core.Path.{refl, subst}
 use native.Mathlib.Omega.{arith}
 use lib.ListN.{replicate}
-use borrow.Author.Tests.{not-true, not-false}
 use Rattle.automaton.specs.Automaton.{transition_sets}
 use Rattle.lent.specs.Lent.{WitnessTables, witness_tables, EnoughForWitness}
 use Rattle.reading.specs.declared.Read.{Read}
@@ -12,56 +11,37 @@ use Rattle.file_writer.specs.FileWrite.{Writes}
 use Rattle.file_writer.specs.FileWriteLaws.{write-asks, write-finishes}
 use borrow.Author.Rules.{rules}
 use Rattle.file_writer.proofs.write.Goals as goal
-use Rattle.file_writer.proofs.write.Goals.{After-read_long, Else-not-long_enough, In-Is-2, Start}
-
-abbrev start : Else-not-long_enough → Start
-start c = c.before.before
-
-abbrev lent : Start → WitnessTables
-lent s = witness_tables s.args.word.now s.args.one.now s.args.other.now
+use Rattle.file_writer.proofs.write.Goals.{Else-not-long_enough, In-Is}
 
 -- question 1 is passed
-enough : (c : Else-not-long_enough) → EnoughForWitness (lent (start c))
-enough c = (c.long_enough.ensures.0 (not-false _ c.if-not-long_enough.false)).long
+enough : (c : Else-not-long_enough) → EnoughForWitness (witness_tables c.args.word.now c.args.one.now c.args.other.now)
+enough c = (c.long_enough.ensures.0 c.if-not-long_enough.false).long
 
 -- the file is read
-abbrev asked : After-read_long → Else-not-long_enough
-asked c = c.before.before.before.before.before.before.before
-
-abbrev after : After-read_long → ReadTables
-after c =
-    let w = c.read_long.new.1 in
-    read_tables (transition_sets w.0 w.1.0) w.1.1.0 (witness_tables w.1.1.1.0 w.1.1.1.1.0 w.1.1.1.1.1.0)
-
-abbrev Read-as : After-read_long → Read → Type 0
-Read-as c x =
-    let s = start (asked c) in
-    ReadsNamed s.args.sheet.now (read_tables (transition_sets (replicate 128 0) (replicate 128 0)) (replicate 224 0) (lent s)) (after c) x
-
-abbrev reading : In-Is-2 → After-read_long
-reading c = c.before.before.before.before.before.before.before.before.before.before.before
-
-accepted : (c : In-Is-2) → Read-as (reading c) (R.Is c.in-Is.a)
-accepted c = subst (Read-as (reading c)) c.in-Is.is (reading c).read-long.ensures
+accepted : (c : In-Is) →
+    let a = c.args in
+    let w = c.read_long.new in
+    ReadsNamed a.sheet.now
+    (read_tables (transition_sets (replicate 128 0) (replicate 128 0)) (replicate 224 0) (witness_tables a.word.now a.one.now a.other.now))
+    (read_tables (transition_sets w.table w.marks) w.rows (witness_tables w.word w.one w.other)) (R.Is c.in-Is.a)
+accepted c = rw c.in-Is.is at c.read_long.ensures
 
 pub returns-then-not-long_enough : goal.returns-then-not-long_enough
 returns-then-not-long_enough c =
-    Writes.short (λ l. c.long_enough.ensures.1 (not-true _ c.if-not-long_enough.true) (record { tables = record { cells = omega arith; marks = omega arith }; long = l })) refl refl
+    Writes.short (λ l. c.long_enough.ensures.1 c.if-not-long_enough.true (record { tables = record { cells = omega arith; marks = omega arith }; long = l })) refl refl
 
 pub read_long-requires : goal.read_long-requires
 read_long-requires c =
     (record { tables = record { cells = omega arith; marks = omega arith }; long = enough (goal.at.read_long-requires c).Else-not-long_enough }, omega arith)
 
 pub finish-requires : goal.finish-requires
-finish-requires c =
-    let z = (reading (goal.at.finish-requires c).In-Is-2).read-long.auto.1.1.1.0 in
-    (write-asks (accepted (goal.at.finish-requires c).In-Is-2), omega arith)
+finish-requires c = (write-asks (accepted (goal.at.finish-requires c).In-Is), omega (arith, c.read_long.auto.rows))
 
 pub returns-in-Refused : goal.returns-in-Refused
 returns-in-Refused c =
-    let refused = subst (Read-as (goal.at.returns-in-Refused c).After-read_long) c.in-Refused.is c.read_long.ensures in
-    Writes.refused (enough (asked (goal.at.returns-in-Refused c).After-read_long)) c.in-Refused.r refused.0 refl c.clear_bytes.ensures
+    let refused = rw c.in-Refused.is at c.read_long.ensures in
+    Writes.refused (enough (goal.at.returns-in-Refused c).Else-not-long_enough) c.in-Refused.r refused.0 refl c.clear_bytes.ensures
 
 pub returns-in-Is : goal.returns-in-Is
 returns-in-Is c =
-    write-finishes (accepted (goal.at.returns-in-Is c).In-Is-2) (enough (asked (reading (goal.at.returns-in-Is c).In-Is-2))) c.finish.ensures
+    write-finishes (accepted (goal.at.returns-in-Is c).In-Is) (enough (goal.at.returns-in-Is c).Else-not-long_enough) c.finish.ensures

@@ -1,8 +1,7 @@
 -- Each cell passed is 0, and the others are as they were: `Clearing`. Assumes nothing.
 use Prim.Native.Nat.{◌-◌}
 use lib.ListN.{length}
-use Rattle.gate.specs.GateLaws.{Clearing, clear_none, clear-more, clear-end}
-use borrow.Author.Rules.{rules}
+use Rattle.gate.specs.GateLaws.{Clearing}
 use Rattle.gate.proofs.clear_bytes.Given as goal
 
 abbrev pub invariant-loop-i : goal.invariant-loop-i

@@ -1,6 +1,5 @@
 -- With 1 nothing is done; else the buffer is cleared. Assumes nothing.
 use mathlib.Core.Path.{refl}
-use borrow.Author.Rules.{rules}
 use Rattle.gate.proofs.refuse.Goals as goal
 
 pub returns-then-r-eq1 : goal.returns-then-r-eq1

@@ -6,12 +6,11 @@ use native.Mathlib.Omega.{arith}
 use Rattle.letters.specs.Letters.{NoName, NameIs}
 use Rattle.parser.specs.LettersOf.{LettersOf}
 use Rattle.letters.specs.LettersLaws.{name-given, no-letter}
-use borrow.Author.Rules.{rules}
 use Rattle.letters.proofs.name.Goals as goal
 use Rattle.letters.proofs.name.Goals.{In-Is}
 
 -- the letters are read
-letters : (c : In-Is) → LettersOf c.args.sheet.now c.read_rows.new.1.0 c.in-Is.a
+letters : (c : In-Is) → LettersOf c.args.sheet.now c.read_rows.new.rows c.in-Is.a
 letters c = (rw c.in-Is.is at c.read_rows.ensures).0
 
 pub spelled-requires : goal.spelled-requires
@@ -19,7 +18,7 @@ spelled-requires c = omega (arith, (letters (goal.at.spelled-requires c).In-Is).
 
 pub returns-in-Refused : goal.returns-in-Refused
 returns-in-Refused c =
-    let (e, zero) = rw c.enum-told.given.1 at c.read-rows.ensures in
+    let (e, zero) = rw c.in-Refused.is at c.read_rows.ensures in
     NameIs.nothing e.0 e.1 (NoName.faulty e.2) refl
 
 pub returns-then-letter-a : goal.returns-then-letter-a
@@ -31,4 +30,4 @@ returns-then-letter-a c =
 pub returns-else-letter-a : goal.returns-else-letter-a
 returns-else-letter-a c =
     NameIs.nothing 14 0
-    (no-letter (letters (goal.at.returns-else-letter-a c).In-Is-2) c.args.letter c.if1.false) refl
+    (no-letter (letters (goal.at.returns-else-letter-a c).In-Is) c.args.letter c.if-letter-a.false) refl

@@ -4,12 +4,11 @@ use native.Mathlib.Omega.{arith}
 use Rattle.letters.specs.Letters.{NoName, NumberIs}
 use Rattle.parser.specs.LettersOf.{LettersOf}
 use Rattle.letters.specs.LettersLaws.{letters-are, no-letter}
-use borrow.Author.Rules.{rules}
 use Rattle.letters.proofs.name_number.Goals as goal
 use Rattle.letters.proofs.name_number.Goals.{In-Is}
 
 -- the letters are read
-letters : (c : In-Is) → LettersOf c.args.sheet.now c.read_rows.new.1.0 c.in-Is.a
+letters : (c : In-Is) → LettersOf c.args.sheet.now c.read_rows.new.rows c.in-Is.a
 letters c = (rw c.in-Is.is at c.read_rows.ensures).0
 
 pub returns-in-Refused : goal.returns-in-Refused

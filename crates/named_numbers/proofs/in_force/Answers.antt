@@ -1,14 +1,12 @@
 -- `named_numbers::in_force` meets its contract. The loop's invariant: each cell passed is empty where its letter is withdrawn. Assumes nothing.
-use Prim.Native.Nat.{ℕ, ◌-◌, ◌≤◌, ◌<◌}
 use mathlib.Core.Path.{sym, ◌∙◌}
-use mathlib.Core.Logic.{⊎_elim}
 use native.Mathlib.Omega.{arith}
 use borrow.Author.Count.{below_more}
-use borrow.Author.Rules.{rules}
 use Rattle.gate.specs.GateLaws.{decides-yes, decides-no}
 use Rattle.superseding.specs.Superseding.{superseding_in}
 use Rattle.named_numbers.specs.InForce.{CellInForce}
 use Rattle.named_numbers.proofs.in_force.Goals as goal
+use Rattle.named_numbers.proofs.in_force.Goals.{then-table-i-ne0+else-superseding-ne0, else-table-i-ne0}
 
 pub returns-then-superseding-ne0 : goal.returns-then-superseding-ne0
 returns-then-superseding-ne0 c =
@@ -20,7 +18,10 @@ loop-i-preserved c =
     let a = c.args in
     let i = c.loop-i.i in
     let here : CellInForce a.table.now (superseding_in a.rows.now) i =
-    ⊎_elim (λ w d. absurd (d (sym w.1.ensures.0 ∙ w.2.left))) (λ w d. w.left) c.if-table-i-ne0.branch in
+    elim c.if-table-i-ne0.branch [
+      | then-table-i-ne0+else-superseding-ne0 w ↦ (λ d. absurd (d (sym w.superseding.ensures.0 ∙ w.if-superseding-ne0.false)))
+      | else-table-i-ne0 w ↦ (λ d. w.if-table-i-ne0.false)
+    ] in
     (omega arith, below_more _ _ c.loop-i.invariant.1 here)
 
 pub returns : goal.returns

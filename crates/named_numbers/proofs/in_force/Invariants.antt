@@ -1,11 +1,5 @@
 -- `named_numbers::in_force` meets its contract. The loop's invariant: each cell passed is empty where its letter is withdrawn. Assumes nothing.
 use Prim.Native.Nat.{ℕ, ◌-◌, ◌≤◌, ◌<◌}
-use mathlib.Core.Path.{sym, ◌∙◌}
-use mathlib.Core.Logic.{⊎_elim}
-use native.Mathlib.Omega.{arith}
-use borrow.Author.Count.{below_more}
-use borrow.Author.Rules.{rules}
-use Rattle.gate.specs.GateLaws.{decides-yes, decides-no}
 use Rattle.superseding.specs.Superseding.{superseding_in}
 use Rattle.named_numbers.specs.InForce.{CellInForce}
 use Rattle.named_numbers.proofs.in_force.Given as goal

@@ -23,8 +23,8 @@ long = record { word = omega arith; one = omega arith; other = omega arith }
 abbrev Wrote-as : After-write → Written → Type 0
 Wrote-as c x =
     let a = c.args in
-    let w = c.write.new.1 in
-    Writes a.input.now (write_tables lent a.out.now) (write_tables (witness_tables w.0 w.1.0 w.1.1.0) w.1.1.1.0) x
+    let w = c.write.new in
+    Writes a.input.now (write_tables lent a.out.now) (write_tables (witness_tables w.word w.one w.other) w.out) x
 
 pub returns-then-out-lt-OUTPUT : goal.returns-then-out-lt-OUTPUT
 returns-then-out-lt-OUTPUT c = (Prints.short (omega arith) refl refl, refl)

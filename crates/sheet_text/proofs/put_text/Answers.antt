@@ -1,6 +1,5 @@
 -- `sheet_text::put_text` meets its contract: the parts are stored one behind the other. Assumes nothing.
 use Prim.Native.Nat.{ℕ, ◌+◌, ◌≤◌}
-use mathlib.Core.Path.{◌≡◌, ◌∙◌}
 use mathlib.Core.List.{List}
 use native.Mathlib.Omega.{arith}
 use lib.ListN.{length}
@@ -10,7 +9,6 @@ use Rattle.format.specs.Format.{Withdrawal, name_lines, withdrawal_lines}
 use Rattle.sheet_sections.specs.RowNames.{row_names}
 use Rattle.sheet_sections.specs.RowWithdrawals.{withdrawals_of}
 use Rattle.sheet_text.specs.TextLaws.{states_text, transitions_text, text-length, text-stored}
-use borrow.Author.Rules.{rules}
 use Rattle.sheet_text.proofs.put_text.Goals as goal
 use Rattle.sheet_text.proofs.put_text.Goals.{Start}
 

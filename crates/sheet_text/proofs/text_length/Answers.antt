@@ -11,7 +11,6 @@ use Rattle.format.specs.Written.{most_transitions, transitions_of}
 use Rattle.sheet_sections.specs.RowNames.{row_names}
 use Rattle.sheet_sections.specs.RowWithdrawals.{withdrawals_of}
 use Rattle.sheet_text.specs.TextLaws.{states-text, transitions-text, text-length}
-use borrow.Author.Rules.{rules}
 use Rattle.sheet_text.proofs.text_length.Goals as goal
 use Rattle.sheet_text.proofs.text_length.Goals.{After-count_transitions, After-state_width}
 

@@ -1,7 +1,7 @@
 -- Each answer is that of the questions on the way to it. Assumes nothing.
 use mathlib.Core.Path.{refl, subst}
 use Rattle.automaton.specs.Automaton.{automaton}
-use Rattle.lent.specs.Lent.{WitnessTables, witness_tables}
+use Rattle.lent.specs.Lent.{witness_tables}
 use Rattle.walks.specs.Check.{ChecksLong}
 use Rattle.walks.specs.declared.Checked.{Checked}
 use Rattle.walks.specs.declared.Checked.TheVariants.{Accepted}

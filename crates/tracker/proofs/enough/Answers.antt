@@ -1,7 +1,6 @@
 -- Each test that fails denies its part; the rest is the sheet's lengths. Assumes nothing.
 use native.Mathlib.Omega.{arith}
 use Rattle.gate.specs.GateLaws.{decides-no}
-use borrow.Author.Rules.{rules}
 use Rattle.tracker.proofs.enough.Goals as goal
 
 pub returns-then-room-lt1 : goal.returns-then-room-lt1

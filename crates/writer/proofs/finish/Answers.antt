@@ -1,28 +1,21 @@
 -- `writer::finish` meets its contract: what lies behind the text is cleared. Assumes nothing.
-use Prim.Native.Nat.{ℕ}
 use mathlib.Core.Path.{◌≡◌, refl}
-use mathlib.Core.List.{List}
 use native.Mathlib.Omega.{arith}
 use lib.ListN.{length}
 use Rattle.gate.specs.GateLaws.{text-lent}
 use Rattle.automaton.specs.Automaton.{automaton}
 use Rattle.sheet_text.specs.Text.{rows_text}
-use borrow.Author.Rules.{rules}
 use Rattle.writer.proofs.finish.Goals as goal
-use Rattle.writer.proofs.finish.Goals.{After-text_length-count, Start}
+use Rattle.writer.proofs.finish.Goals.{After-text_length-count}
 
--- the text, and its length
-abbrev text : Start → List ℕ
-text s = rows_text (automaton s.args.a s.args.table.now s.args.marks.now) s.args.rows.now
-
-abbrev start : After-text_length-count → Start
-start c = c.before.before.before.before.before
-
-size : (c : After-text_length-count) → c.text_length-count.result ≡ length (text (start c))
-size c = c.text_length-count.ensures (start c).args.marks.now
+-- the length of the text
+size : (c : After-text_length-count) →
+    let a = c.args in
+    c.text_length-count.result ≡ length (rows_text (automaton a.a a.table.now a.marks.now) a.rows.now)
+size c = c.text_length-count.ensures c.args.marks.now
 
 pub shape_of-out-then-out-count : goal.shape_of-out-then-out-count
-shape_of-out-then-out-count c = c.clear_bytes.auto.0
+shape_of-out-then-out-count c = c.clear_bytes.auto.bytes
 
 pub returns-then-out-count : goal.returns-then-out-count
 returns-then-out-count c =
@@ -30,11 +23,10 @@ returns-then-out-count c =
 
 pub put_text-requires : goal.put_text-requires
 put_text-requires c =
-    let s = start (goal.at.put_text-requires c).After-text_length-count in
-    (s.pre.0, s.pre.1, omega (arith, size (goal.at.put_text-requires c).After-text_length-count))
+    (c.requires.0, c.requires.1, omega (arith, size (goal.at.put_text-requires c).After-text_length-count))
 
 pub returns : goal.returns
 returns c =
-    let s = start (goal.at.returns c).After-text_length-count in
-    let lent = text-lent (text s) s.args.out.now c.put_text.ensures (size (goal.at.returns c).After-text_length-count) (omega arith) c.clear_bytes-2.ensures in
-    (size (goal.at.returns c).After-text_length-count, omega (arith, size (goal.at.returns c).After-text_length-count), lent)
+    let a = c.args in
+    let n = size (goal.at.returns c).After-text_length-count in
+    (n, omega (arith, n), text-lent (rows_text (automaton a.a a.table.now a.marks.now) a.rows.now) a.out.now c.put_text.ensures n (omega arith) c.clear_bytes-2.ensures)

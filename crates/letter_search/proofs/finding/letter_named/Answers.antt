@@ -2,7 +2,6 @@
 use mathlib.Core.Path.{refl, ◌∙◌}
 use mathlib.Core.List.{map}
 use native.Mathlib.Omega.{arith}
-use borrow.Author.Tests.{not-true, not-false}
 use lib.ListN.{length-map}
 use Rattle.text.specs.BytesLaws.{stretch-end}
 use Rattle.names.specs.Name.{IsName, compose}
@@ -12,50 +11,49 @@ use Rattle.name_rows.specs.RowsLaws.{only-stored, only_none}
 use Rattle.format.specs.Format.{Sheet}
 use Rattle.parser.specs.LettersOf.{LettersIn}
 use Rattle.letter_search.specs.LetterOfLaws.{letter-found, letter-nowhere}
-use borrow.Author.Rules.{rules}
 use Rattle.letter_search.proofs.finding.letter_named.Goals as goal
-use Rattle.letter_search.proofs.finding.letter_named.Goals.{After-letter_of-l, Else-not-is_name, Start}
-
-abbrev start : Else-not-is_name → Start
-start c = c.before.before.before.before
+use Rattle.letter_search.proofs.finding.letter_named.Goals.{After-letter_of-l, Else-not-is_name}
 
 -- what was given is a name
-is_one : (c : Else-not-is_name) → IsName (start c).args.name.now
-is_one c = c.is_name.ensures.0 (not-false _ c.if-not-is_name.false)
+is_one : (c : Else-not-is_name) → IsName c.args.name.now
+is_one c = c.is_name.ensures.0 c.if-not-is_name.false
 
 -- the rows were searched for it
-first : (c : After-letter_of-l) (σ : Sheet) → LettersIn σ (start c.before.before).args.k (start c.before.before).args.rows.now
-    → FirstName (map compose σ.names) (compose (start c.before.before).args.name.now) c.letter_of-l.result
+first : (c : After-letter_of-l) (σ : Sheet) → LettersIn σ c.args.k c.args.rows.now
+    → FirstName (map compose σ.names) (compose c.args.name.now) c.letter_of-l.result
 first c σ h =
-    let whole = stretch-end (start c.before.before).args.name.now 0 in
-    rw whole at (c.letter_of-l.ensures.1 (map compose σ.names) (length-map σ.names compose ∙ h.all-names) h.holds (rw whole (is_one c.before.before))).0
+    let whole = stretch-end c.args.name.now 0 in
+    let is_one : IsName c.args.name.now = c.is_name.ensures.0 c.if-not-is_name.false in
+    rw whole at (c.letter_of-l.ensures.1 (map compose σ.names) (length-map σ.names compose ∙ h.all-names) h.holds (rw whole is_one)).0
 
 -- and it went into the row behind the names
-only_row : (c : After-letter_of-l) → OnlyRow (start c.before.before).args.k (start c.before.before).args.rows.now c.letter_of-l.new.0
+only_row : (c : After-letter_of-l) → OnlyRow c.args.k c.args.rows.now c.letter_of-l.new.rows
 only_row c =
-    let s = start c.before.before in
-    let whole = stretch-end s.args.name.now 0 in
-    only-stored _ _ (compose _) (let p = s.pre in omega arith) (composed-name _ (rw whole (is_one c.before.before))).most _ c.letter_of-l.ensures.0
+    let whole = stretch-end c.args.name.now 0 in
+    let is_one : IsName c.args.name.now = c.is_name.ensures.0 c.if-not-is_name.false in
+    only-stored _ _ (compose _) (let p = c.requires in omega arith) (composed-name _ (rw whole is_one)).most _ c.letter_of-l.ensures.0
 
 pub returns-then-not-is_name : goal.returns-then-not-is_name
 returns-then-not-is_name c =
-    (λ σ h. (λ l g. c.is_name.ensures.1 (not-true _ c.if-not-is_name.true) g.is_name, refl), only_none _ _)
+    (λ σ h. (λ l g. c.is_name.ensures.1 c.if-not-is_name.true g.is_name, refl), only_none _ _)
 
 pub letter_of-l-requires : goal.letter_of-l-requires
 letter_of-l-requires c =
     let m = (is_one (goal.at.letter_of-l-requires c).Else-not-is_name).most in
-    let p = (start (goal.at.letter_of-l-requires c).Else-not-is_name).requires in
+    let p = c.requires in
     (p.0, omega arith, record { order = omega arith; fits = omega arith }, omega arith)
 
 pub returns-then-l-k : goal.returns-then-l-k
-returns-then-l-k c =
-    let s = start (goal.at.returns-then-l-k c).After-is_name in (
-      λ σ h.
-          letter-found h s.args.name.now c.letter-of.result (first (goal.at.returns-then-l-k c).After-letter_of-arg-1 σ h) s.pre.0 (only_row (goal.at.returns-then-l-k c).After-letter_of-arg-1) (is_one (goal.at.returns-then-l-k c).After-is_name)
-          c.if2.true c.final_letter.ensures.0,
-      only_row (goal.at.returns-then-l-k c).After-letter_of-arg-1,
-    )
+returns-then-l-k c = (
+  λ σ h.
+      letter-found h c.args.name.now c.letter_of-l.result (first (goal.at.returns-then-l-k c).After-letter_of-l σ h) c.requires.0
+      (only_row (goal.at.returns-then-l-k c).After-letter_of-l) (is_one (goal.at.returns-then-l-k c).Else-not-is_name)
+      c.if-l-k.true c.final_letter.ensures.0,
+  only_row (goal.at.returns-then-l-k c).After-letter_of-l,
+)
 
 pub returns-else-l-k : goal.returns-else-l-k
-returns-else-l-k c =
-    (λ σ h. (letter-nowhere h (start (goal.at.returns-else-l-k c).Else-not-is_name).args.name.now c.letter_of-l.result (first (goal.at.returns-else-l-k c).After-letter_of-l σ h) c.if-l-k.false, refl), only_row (goal.at.returns-else-l-k c).After-letter_of-l)
+returns-else-l-k c = (
+  λ σ h. (letter-nowhere h c.args.name.now c.letter_of-l.result (first (goal.at.returns-else-l-k c).After-letter_of-l σ h) c.if-l-k.false, refl),
+  only_row (goal.at.returns-else-l-k c).After-letter_of-l,
+)

@@ -1,10 +1,8 @@
 -- The loop's invariant: the line that many lines below the place reached is the line sought. Assumes nothing.
-use Prim.Native.Nat.{◌+◌, ◌*◌, ◌≤◌}
-use mathlib.Core.Path.{◌≡◌, refl, sym, ◌∙◌}
+use Prim.Native.Nat.{◌+◌, ◌≤◌}
+use mathlib.Core.Path.{refl, sym, ◌∙◌}
 use native.Mathlib.Omega.{arith}
-use Rattle.letters.specs.Spelling.{line_below}
 use Rattle.letters.specs.SpellingLaws.{below_next, line-below-none, below-done}
-use borrow.Author.Rules.{rules}
 use Rattle.letters.proofs.spelling.line_of.Goals as goal
 use Rattle.letters.proofs.spelling.line_of.Goals.{In-At}
 

@@ -2,11 +2,10 @@
 use Rattle.automaton.specs.Automaton.{transition_sets}
 use Rattle.parser.specs.Parse.{empty_sets}
 use Rattle.letters.specs.AnswersLaws.{letters-read}
-use borrow.Author.Rules.{rules}
 use Rattle.letters.proofs.spelling.read_rows.Goals as goal
 
 pub returns : goal.returns
 returns c =
     let z = c.read_file in
     let a = c.args in
-    letters-read a.s.now empty_sets (transition_sets z.new.1.0 z.new.1.1.0) a.rows.now z.new.1.1.1.0 z.result z.ensures
+    letters-read a.s.now empty_sets (transition_sets z.new.table z.new.marks) a.rows.now z.new.rows z.result z.ensures

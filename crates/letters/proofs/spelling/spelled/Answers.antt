@@ -4,14 +4,13 @@ use mathlib.Core.Path.{sym}
 use native.Mathlib.Omega.{arith}
 use lib.ListN.{length}
 use Rattle.letters.specs.Spelling.{spelled_at, spelling}
-use borrow.Author.Rules.{rules}
 use Rattle.letters.proofs.spelling.spelled.Goals as goal
 use Rattle.letters.proofs.spelling.spelled.Goals.{In-At}
 
 -- the name stands within the file
 inside :
     (c : In-At) →
-    let start = c.Line-of.result + 5 in
+    let start = c.line_of-at.result + 5 in
     let end = c.in-At.end in
     (start < end) × (end ≤ start + 24) × (end < length c.args.s.now)
 inside c = rw c.in-At.is at c.name_end.ensures.1
@@ -23,9 +22,9 @@ pub returns-in_default : goal.returns-in_default
 unfolding spelling spelled_at
 returns-in_default c =
     simp (
-      sym c.Line-of.ensures.0,
-      sym c.name-end.ensures.0,
-      c.enum-told.given.1,
+      sym c.line_of-at.ensures.0,
+      sym c.name_end.ensures.0,
+      c.in_default.is,
     )
 
 pub slice_bounds-result-count : goal.slice_bounds-result-count
@@ -41,7 +40,7 @@ pub returns : goal.returns
 unfolding spelling spelled_at
 returns c =
     simp (
-      sym c.Line-of.ensures.0,
+      sym c.line_of-at.ensures.0,
       sym c.name_end.ensures.0,
       c.in-At.is,
     )
