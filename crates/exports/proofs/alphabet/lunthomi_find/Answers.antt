@@ -1,24 +1,5 @@
 -- The call's answer in the lent table. Assumes nothing.
-
 use Rattle.exports.proofs.alphabet.lunthomi_find.Goals as goal
-use Rattle.exports.proofs.alphabet.lunthomi_find.Goals.{After-find-r, After-slice_known-8-1}
-
--- the call, from the end
-abbrev called_at : After-slice_known-8-1 → After-find-r
-called_at c = c.before.before.before.before.before.before.before.before.before.before
-
-pub shape_of-word : goal.shape_of-word
-shape_of-word c = (called_at (goal.at.shape_of-word c).After-slice_known-8-1).find.auto.1.1.0
-
-pub shape_of-one : goal.shape_of-one
-shape_of-one c = (called_at (goal.at.shape_of-one c).After-slice_known-8-1).find.auto.1.1.1.0
-
-pub shape_of-other : goal.shape_of-other
-shape_of-other c = (called_at (goal.at.shape_of-other c).After-slice_known-8-1).find.auto.1.1.1.1.0
-
-pub shape_of-answer : goal.shape_of-answer
-shape_of-answer c = c.put_found.auto.1.0
 
 pub returns : goal.returns
-returns c =
-    record { answer = (called_at (goal.at.returns c).After-slice_known-8-1).find.result; call = (called_at (goal.at.returns c).After-slice_known-8-1).find.ensures; table = c.put_found.ensures }
+returns c = record { answer = c.find-r.result; call = c.find-r.ensures; table = c.put_found.ensures }

@@ -1,52 +1,20 @@
 -- The call's answer in the lent table. Assumes nothing.
 use mathlib.Core.Path.{subst}
-use borrow.Author.Rules.{rules}
 use Rattle.automaton.specs.declared.Edition.{Edition}
 use Rattle.answers.specs.Answer.{as_numbers}
 use Rattle.lent.specs.Lent.{witness_tables}
 use Rattle.filling.specs.TrackerTables.{tracker_tables}
 use Rattle.tracker.specs.Build.{build_numbers_tables, BuildsNumbers}
-use native.Mathlib.Omega.{arith}
 use Rattle.tracker_exports.proofs.trackers.lunthomi_build_numbers.Goals as goal
-use Rattle.tracker_exports.proofs.trackers.lunthomi_build_numbers.Goals.{After-build_numbers-r, After-slice_known-12-1}
-
--- the call, from the end
-abbrev called_at : After-slice_known-12-1 → After-build_numbers-r
-called_at c = c.before.before.before.before.before.before.before.before.before.before.before.before.before.before
-
--- by all that is kept, so that a program that swaps two tables is refused at what it answers, and not here
-pub shape_of-tuples : goal.shape_of-tuples
-shape_of-tuples c =
-    omega (arith, (called_at (goal.at.shape_of-tuples c).After-slice_known-12-1).build-numbers.auto.1.1.1.1.0, (called_at (goal.at.shape_of-tuples c).After-slice_known-12-1).build-numbers.auto.1.1.1.1.1.0)
-
-pub shape_of-nexts : goal.shape_of-nexts
-shape_of-nexts c =
-    omega (arith, (called_at (goal.at.shape_of-nexts c).After-slice_known-12-1).build-numbers.auto.1.1.1.1.0, (called_at (goal.at.shape_of-nexts c).After-slice_known-12-1).build-numbers.auto.1.1.1.1.1.0)
-
-pub shape_of-word : goal.shape_of-word
-shape_of-word c =
-    (called_at (goal.at.shape_of-word c).After-slice_known-12-1).build-numbers.auto.1.1.1.1.1.1.0
-
-pub shape_of-one : goal.shape_of-one
-shape_of-one c =
-    (called_at (goal.at.shape_of-one c).After-slice_known-12-1).build-numbers.auto.1.1.1.1.1.1.1.0
-
-pub shape_of-other : goal.shape_of-other
-shape_of-other c =
-    (called_at (goal.at.shape_of-other c).After-slice_known-12-1).build-numbers.auto.1.1.1.1.1.1.1.1.0
-
-pub shape_of-answer : goal.shape_of-answer
-shape_of-answer c = c.put_built.auto.1.0
 
 pub returns : goal.returns
 returns c =
     let a = c.args in
-    let w = (called_at (goal.at.returns c).After-slice_known-12-1).build-numbers.new.1.1.1.1 in
-    let answer = (called_at (goal.at.returns c).After-slice_known-12-1).build-numbers.result in
+    let r = c.build_numbers-r in
     record {
-      answer = answer;
+      answer = r.result;
       call = subst (λ (e : Edition). BuildsNumbers (as_numbers e a.n a.k a.initial a.recurring a.table.now a.marks.now) a.room (build_numbers_tables (witness_tables a.word.now a.one.now a.other.now) (tracker_tables a.tuples.now a.nexts.now))
-          (build_numbers_tables (witness_tables w.1.1.0 w.1.1.1.0 w.1.1.1.1.0) (tracker_tables w.0 w.1.0)) answer)
-          c.edition_of.ensures (called_at (goal.at.returns c).After-slice_known-12-1).build-numbers.ensures;
+          (build_numbers_tables (witness_tables r.new.word r.new.one r.new.other) (tracker_tables r.new.tuples r.new.nexts)) r.result)
+          c.edition_of.ensures r.ensures;
       table = c.put_built.ensures;
     }

@@ -1,36 +1,5 @@
 -- The call's answer in the lent table. Assumes nothing.
-use borrow.Author.Rules.{rules}
 use Rattle.tracker_exports.proofs.trackers.lunthomi_list.Goals as goal
-use Rattle.tracker_exports.proofs.trackers.lunthomi_list.Goals.{After-list-r, After-slice_known-18-1}
-
--- the call, from the end
-abbrev called_at : After-slice_known-18-1 → After-list-r
-called_at c = c.before.before.before.before.before.before.before.before.before.before.before.before.before.before.before.before.before.before.before.before
-
-pub shape_of-table : goal.shape_of-table
-shape_of-table c = (called_at (goal.at.shape_of-table c).After-slice_known-18-1).list.auto.1.1.0
-
-pub shape_of-tuples : goal.shape_of-tuples
-shape_of-tuples c = (called_at (goal.at.shape_of-tuples c).After-slice_known-18-1).list.auto.1.1.1.1.0
-
-pub shape_of-nexts : goal.shape_of-nexts
-shape_of-nexts c = (called_at (goal.at.shape_of-nexts c).After-slice_known-18-1).list.auto.1.1.1.1.1.0
-
-pub shape_of-word : goal.shape_of-word
-shape_of-word c = (called_at (goal.at.shape_of-word c).After-slice_known-18-1).list.auto.1.1.1.1.1.1.0
-
-pub shape_of-one : goal.shape_of-one
-shape_of-one c = (called_at (goal.at.shape_of-one c).After-slice_known-18-1).list.auto.1.1.1.1.1.1.1.0
-
-pub shape_of-other : goal.shape_of-other
-shape_of-other c = (called_at (goal.at.shape_of-other c).After-slice_known-18-1).list.auto.1.1.1.1.1.1.1.1.0
-
-pub shape_of-out : goal.shape_of-out
-shape_of-out c = (called_at (goal.at.shape_of-out c).After-slice_known-18-1).list.auto.1.1.1.1.1.1.1.1.1.0
-
-pub shape_of-answer : goal.shape_of-answer
-shape_of-answer c = c.Put-written.auto.1.0
 
 pub returns : goal.returns
-returns c =
-    record { answer = (called_at (goal.at.returns c).After-slice_known-18-1).list.result; call = (called_at (goal.at.returns c).After-slice_known-18-1).list.ensures; table = c.Put-written.ensures }
+returns c = record { answer = c.list-r.result; call = c.list-r.ensures; table = c.put_written.ensures }

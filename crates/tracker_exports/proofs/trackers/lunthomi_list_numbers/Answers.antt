@@ -1,6 +1,5 @@
 -- The call's answer in the lent table. Assumes nothing.
 use mathlib.Core.Path.{subst}
-use borrow.Author.Rules.{rules}
 use Rattle.automaton.specs.declared.Edition.{Edition}
 use Rattle.answers.specs.Answer.{as_numbers}
 use Rattle.lent.specs.Lent.{witness_tables}
@@ -8,47 +7,15 @@ use Rattle.filling.specs.TrackerTables.{tracker_tables}
 use Rattle.tracker.specs.Build.{build_numbers_tables}
 use Rattle.listing.specs.List.{list_numbers_tables, ListsNumbers}
 use Rattle.tracker_exports.proofs.trackers.lunthomi_list_numbers.Goals as goal
-use Rattle.tracker_exports.proofs.trackers.lunthomi_list_numbers.Goals.{After-list_numbers-r, After-slice_known-14-1}
-
--- the call, from the end
-abbrev called_at : After-slice_known-14-1 → After-list_numbers-r
-called_at c = c.before.before.before.before.before.before.before.before.before.before.before.before.before.before.before.before
-
-pub shape_of-tuples : goal.shape_of-tuples
-shape_of-tuples c = (called_at (goal.at.shape_of-tuples c).After-slice_known-14-1).list-numbers.auto.1.1.1.1.0
-
-pub shape_of-nexts : goal.shape_of-nexts
-shape_of-nexts c =
-    (called_at (goal.at.shape_of-nexts c).After-slice_known-14-1).list-numbers.auto.1.1.1.1.1.0
-
-pub shape_of-word : goal.shape_of-word
-shape_of-word c =
-    (called_at (goal.at.shape_of-word c).After-slice_known-14-1).list-numbers.auto.1.1.1.1.1.1.0
-
-pub shape_of-one : goal.shape_of-one
-shape_of-one c =
-    (called_at (goal.at.shape_of-one c).After-slice_known-14-1).list-numbers.auto.1.1.1.1.1.1.1.0
-
-pub shape_of-other : goal.shape_of-other
-shape_of-other c =
-    (called_at (goal.at.shape_of-other c).After-slice_known-14-1).list-numbers.auto.1.1.1.1.1.1.1.1.0
-
-pub shape_of-out : goal.shape_of-out
-shape_of-out c =
-    (called_at (goal.at.shape_of-out c).After-slice_known-14-1).list-numbers.auto.1.1.1.1.1.1.1.1.1.0
-
-pub shape_of-answer : goal.shape_of-answer
-shape_of-answer c = c.Put-written.auto.1.0
 
 pub returns : goal.returns
 returns c =
     let a = c.args in
-    let w = (called_at (goal.at.returns c).After-slice_known-14-1).list-numbers.new.1.1.1.1 in
-    let answer = (called_at (goal.at.returns c).After-slice_known-14-1).list-numbers.result in
+    let r = c.list_numbers-r in
     record {
-      answer = answer;
+      answer = r.result;
       call = subst (λ (e : Edition). ListsNumbers (as_numbers e a.n a.k a.initial a.recurring a.table.now a.marks.now) a.room (list_numbers_tables (build_numbers_tables (witness_tables a.word.now a.one.now a.other.now) (tracker_tables a.tuples.now a.nexts.now)) a.out.now)
-          (list_numbers_tables (build_numbers_tables (witness_tables w.1.1.0 w.1.1.1.0 w.1.1.1.1.0) (tracker_tables w.0 w.1.0)) w.1.1.1.1.1.0) answer)
-          c.edition_of.ensures (called_at (goal.at.returns c).After-slice_known-14-1).list-numbers.ensures;
-      table = c.Put-written.ensures;
+          (list_numbers_tables (build_numbers_tables (witness_tables r.new.word r.new.one r.new.other) (tracker_tables r.new.tuples r.new.nexts)) r.new.out) r.result)
+          c.edition_of.ensures r.ensures;
+      table = c.put_written.ensures;
     }

@@ -1,9 +1,0 @@
--- 2 names SHT-2, and every other number SHEET. Assumes nothing.
-use borrow.Author.Tests.{eq-eqb, ne_eqb}
-use Rattle.answers.proofs.edition_of.Goals as goal
-
-pub returns-then-number-eq2 : goal.returns-then-number-eq2
-returns-then-number-eq2 c = simp (eq-eqb _ _ c.if-number-eq2.true)
-
-pub returns : goal.returns
-returns c = simp (ne_eqb _ _ c.if-number-eq2.false)
