@@ -227,15 +227,13 @@ fn run(rt: &HostRuntime, number: usize) -> io::Result<bool> {
         b'0' + (number / 10 % 10) as u8,
         b'0' + (number % 10) as u8,
     ];
-    let Ok(path) = str::from_utf8(&name) else {
-        return Ok(false);
-    };
+    let path = str::from_utf8(&name).map_err(|_| io::ErrorKind::InvalidInput)?;
     let Ok(mut file) = fs::open(rt, path) else {
         return Ok(false);
     };
     let mut buf = [0u8; 65536];
     let Input::Bytes(n) = stdin::read(&mut file, &mut buf) else {
-        return Ok(false);
+        return Err(io::ErrorKind::Other.into());
     };
     say_case(rt.stdout(), &name, &buf[..n], number)?;
     Ok(true)

@@ -1,5 +1,5 @@
 -- Document 02, R-13, "Not only cycles": what is said of a tracker's lent tables and an endless sequence of letters, repeating or not.
-use Rattle.std.specs.Prelude.{ℕ, ◌%◌, ◌≤◌, ◌<◌, ◌≡◌, Bool, true, ◌⊎◌, ◌↔◌}
+use Rattle.std.specs.Prelude.{ℕ, ◌%◌, ◌≤◌, ◌<◌, ◌≡◌, ◌↔◌}
 use Rattle.automaton.specs.Automaton.{Automaton}
 use Rattle.automaton.specs.Reading.{Passes}
 use Rattle.theory.specs.Run.{EnteredWithoutEnd}

@@ -1,4 +1,4 @@
--- THE ONE PLACE where the premise is used (no other law unfolds it): a row of decidable statements holds without end, or no more from some time on.
+-- WHERE THE PREMISE IS USED (beside theory's `lpo`, no other law unfolds it but the converse): a row of decidable statements holds without end, or no more from some time on.
 use Rattle.std.specs.Prelude.{ℕ, ◌+◌, ◌-◌, ◌≤◌, ◌≡◌, ◌⊎◌}
 use Rattle.std.proofs.Math.Bool.{true, decide, decide_iff}
 use Rattle.std.proofs.Math.Logic.{inl, inr}

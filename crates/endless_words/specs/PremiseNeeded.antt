@@ -1,11 +1,10 @@
 -- WHY THE PREMISE IS THERE: from the theorem's statement for the tracker of one small accepted sheet the premise follows. So nothing weaker would do.
 use Prim.Native.Nat.{ℕ, zero, suc, ◌≤◌, ◌<◌}
 use Rattle.std.specs.Prelude.{◌≡◌, refl, Bool, true, false, ◌||◌, ◌⊎◌, [], ◌∷◌}
-use Rattle.std.proofs.Common.{sym, ◌∙◌, inl, inr, arith}
+use Rattle.std.proofs.Common.{◌∙◌, inl, inr, arith}
 use Rattle.std.proofs.Math.Path.{ap}
 use Rattle.std.proofs.Math.Bool.{or-true}
 use Rattle.std.proofs.Math.Decide.{ℕ_discrete}
-use Rattle.sets.specs.Sets.{Member}
 use Rattle.sets.specs.SetLaws.{member-lt, no_member}
 use Rattle.automaton.specs.Automaton.{Automaton, graph_of, Fits, MarksFit}
 use Rattle.automaton.specs.EdgeLaws.{walk-in}
@@ -13,12 +12,12 @@ use Rattle.automaton.specs.QuestionLaws.{fits-graph}
 use Rattle.automaton.specs.Graph.{CellFits}
 use Rattle.automaton.specs.Endless.{MeetingFree}
 use Rattle.automaton.specs.declared.Edition.TheVariants.{TransitionBased}
-use Rattle.tuple.specs.Step.{Tuple, next, run, colour_entered}
+use Rattle.tuple.specs.Step.{next, run, colour_entered}
 use Rattle.tuple.specs.Unfold.{tuple_unfold}
 use Rattle.filling.specs.TrackerTables.{TrackerTables, Fitted}
 use Rattle.passes.specs.FollowLaws.{entered-colour}
 use Rattle.theory.specs.Endless.{LPO}
-use Rattle.endless_words.specs.EndlessWord.{colours_on, TracksWord, TracksWords}
+use Rattle.endless_words.specs.EndlessWord.{colours_on, TracksWords}
 
 -- THE SHEET, an SHT-2: one state, which goes on on both letters; the transition on letter 0 is marked
 abbrev pub one_mark : Automaton

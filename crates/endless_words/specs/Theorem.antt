@@ -1,20 +1,15 @@
 -- R-13: the tracker in the lent tables is right on every endless sequence of letters. Its premises are the arguments of `endless-word`, and no others.
-use Rattle.std.specs.Prelude.{ℕ, ◌+◌, ◌*◌, ◌%◌, ◌<◌, ◌≡◌, ◌↔◌}
+use Rattle.std.specs.Prelude.{ℕ, ◌≡◌}
 use Rattle.std.proofs.Common.{sym, subst}
-use Rattle.sets.specs.SetLaws.{member-dec}
 use Rattle.automaton.specs.Automaton.{Automaton, graph_of, Fits}
-use Rattle.automaton.specs.Meeting.{Free}
 use Rattle.automaton.specs.Endless.{EndlessFrom, MeetingFree}
 use Rattle.automaton.specs.EndlessLaws.{reading-endless}
-use Rattle.automaton.specs.EdgeLaws.{edge-dec}
-use Rattle.automaton.specs.Reading.{Reading, Passes}
 use Rattle.endless_words.specs.WithoutEndLaws.{eventually-least}
-use Rattle.tuple.specs.Step.{place_set, run, colour_entered}
-use Rattle.tuple.specs.RunLaws.{is-run}
+use Rattle.tuple.specs.Step.{colour_entered}
 use Rattle.tuple.specs.Demand.{least-colour, demand-endless}
 use Rattle.filling.specs.TrackerTables.{TrackerTables, Fitted}
 use Rattle.passes.specs.FollowLaws.{entered-colour}
-use Rattle.endless_words.specs.EndlessWord.{colours_on, LeastWithoutEnd, TracksWord, TracksWords}
+use Rattle.endless_words.specs.EndlessWord.{colours_on, LeastWithoutEnd, TracksWords}
 use Rattle.theory.specs.Endless.{LPO}
 
 -- THE THEOREM. The sheet's numbers fit and no walks meet at a state that begins an endless path, which is what acceptance gives, and the tables hold its tracker, all

@@ -1,10 +1,10 @@
 -- The verdict's contract from what its parts ensure. Assumes nothing.
-use Rattle.std.specs.Prelude.{ℕ, ◌+◌, ◌<◌, refl, ◌≡◌, List, length}
-use Rattle.std.proofs.Common.{sym, subst, ◌∙◌, arith}
+use Rattle.std.specs.Prelude.{ℕ, refl, ◌≡◌, List, length}
+use Rattle.std.proofs.Common.{sym, subst, ◌∙◌}
 use Rattle.gate.specs.declared.Refusal.{Refusal}
 use Rattle.automaton.specs.Automaton.{TransitionSets, Fits}
 use Rattle.lent.specs.Lent.{cleared_witness, cleared_sets, lent_sets}
-use Rattle.format.specs.Format.{Sheet, Right}
+use Rattle.format.specs.Format.{Sheet}
 use Rattle.format.specs.Numbers.{numbers}
 use Rattle.format.specs.NumbersLaws.{sheet-fits}
 use Rattle.parser.specs.LettersOf.{LettersOf}

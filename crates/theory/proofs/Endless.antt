@@ -1,4 +1,4 @@
--- docs/THEORY.md, section 3 (ii): for any endless word, with the premise LPO, there is a path through place i, and a least colour entered without end.
+-- docs/THEORY.md, section 9: for any endless word, with the premise LPO, there is a path through place i, and a least colour entered without end.
 use Prim.Native.Nat.{ℕ, zero, suc, ◌+◌, ◌*◌, ◌-◌, ◌≤◌, ◌<◌}
 use Rattle.std.specs.Prelude.{◌≡◌, refl, ◌⊎◌, Bool, true}
 use Rattle.std.proofs.Common.{sym, subst, inl, inr}

@@ -17,7 +17,7 @@ least-repeating col T d again = record { often = often col T d again; from = T; 
 module _ {n : ℕ} {E M S U W : ℕ → ℕ → ℕ → Type 0} {K : ℕ → ℕ → Type 0} {p col : ℕ → ℕ} {rank : ℕ → ℕ → ℕ}
     (R : Run n E M S U W K p col rank) where
   -- a path that takes recurrent transitions without end: the least colour entered without end is even
-  pub path-even : (c : ℕ) → Least col c → (ξ : ℕ → ℕ) → Path E S ξ → Often M ξ → c % 2 ≡ 0
+  path-even : (c : ℕ) → Least col c → (ξ : ℕ → ℕ) → Path E S ξ → Often M ξ → c % 2 ≡ 0
   path-even c least ξ h o = by (ℕ_discrete (c % 2) 0)
     where
       by : Dec (c % 2 ≡ 0) → c % 2 ≡ 0
@@ -27,7 +27,7 @@ module _ {n : ℕ} {E M S U W : ℕ → ℕ → ℕ → Type 0} {K : ℕ → ℕ
           (λ t. let (u, l, x) = least.often t in (u, l, omega arith)) ξ h o)
 
   -- and if it is even there is such a path, where some path stays in the place that is marked again and again
-  pub even-path : Through E S K col → Alone E S → (c : ℕ) → Least col c → c % 2 ≡ 0 → (ξ : ℕ → ℕ) × Path E S ξ × Often M ξ
+  even-path : Through E S K col → Alone E S → (c : ℕ) → Least col c → c % 2 ≡ 0 → (ξ : ℕ → ℕ) × Path E S ξ × Often M ξ
   even-path through alone c least ev =
       let (u₀, l₀, e₀) = least.often 0 in
       let pc = R.col-pos u₀ in

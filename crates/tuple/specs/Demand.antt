@@ -1,5 +1,4 @@
--- The verdict is right: on a word that repeats the least colour entered without end is even exactly if the sheet passes the word. Assumes nothing. (Words that
--- do not repeat: endless_words.)
+-- The verdict is right: the least colour entered without end is even exactly if the sheet passes the word. Assumes nothing.
 use Rattle.std.specs.Prelude.{ℕ, suc, ◌+◌, ◌%◌, ◌≤◌, ◌<◌, ◌≡◌, ◌↔◌}
 use Rattle.std.proofs.Common.{sym, subst, ap, ◌∙◌, arith}
 use Rattle.std.proofs.Math.Decide.{ℕ_discrete}
@@ -38,7 +37,7 @@ reading-of : (A : Automaton) (w x : ℕ → ℕ) → Paths A w x → Reading (gr
 unfolding run
 reading-of A w x h = record { starts = (first-in A 0 (x 0) h.starts).1; goes = h.goes }
 
-pub passes-both : (A : Automaton) (w : ℕ → ℕ) → ((x : ℕ → ℕ) × Paths A w x × Often (λ t. Recurrent A (w t)) x) ↔ Passes A w
+passes-both : (A : Automaton) (w : ℕ → ℕ) → ((x : ℕ → ℕ) × Paths A w x × Often (λ t. Recurrent A (w t)) x) ↔ Passes A w
 passes-both A w = (
   λ (x, h, o). let g = reading-of A w x h in (x, g, (recurs-takes A w x g).1 o),
   λ (x, h, r). (x, path-of A w x h, (recurs-takes A w x h).0 r),
@@ -48,7 +47,7 @@ passes-both A w = (
 module _ {A : Automaton} (fits : Fits A) (Counts : ℕ → Type 0) (count : (w x : ℕ → ℕ) → Reading (graph_of A) w x → (t : ℕ) → Counts (x t))
     (free : Free (graph_of A) Counts) (w : ℕ → ℕ) (letters : (t : ℕ) → w t < A.k) where
   -- Any other state of set 0 that steps to the reading's next state would give a second walk to it.
-  pub alone : Alone (λ t. Edge (graph_of A) (w t)) (λ t. In (run A w t).sets)
+  alone : Alone (λ t. Edge (graph_of A) (w t)) (λ t. In (run A w t).sets)
   alone ξ path t q s e = by (ℕ_discrete q (ξ t))
     where
       meet : (q ≡ ξ t → ⊥) → (x : ℕ → ℕ) → Walk (graph_of A) w t x → x t ≡ q → Meet (graph_of A) Counts w (suc t) ξ (glue x (λ s. ξ (suc t)) (suc t))

@@ -1,15 +1,13 @@
 -- `file_writer::write` meets its contract: question 1 is asked first; what reading answers is handed on, and then the last question's answer. Assumes nothing.
-use mathlib.Core.Path.{refl, subst}
+use mathlib.Core.Path.{refl}
 use native.Mathlib.Omega.{arith}
 use lib.ListN.{replicate}
 use Rattle.automaton.specs.Automaton.{transition_sets}
-use Rattle.lent.specs.Lent.{WitnessTables, witness_tables, EnoughForWitness}
-use Rattle.reading.specs.declared.Read.{Read}
+use Rattle.lent.specs.Lent.{witness_tables, EnoughForWitness}
 use Rattle.reading.specs.declared.Read.TheVariants as R
-use Rattle.reading.specs.Read.{ReadTables, read_tables, ReadsNamed}
+use Rattle.reading.specs.Read.{read_tables, ReadsNamed}
 use Rattle.file_writer.specs.FileWrite.{Writes}
 use Rattle.file_writer.specs.FileWriteLaws.{write-asks, write-finishes}
-use borrow.Author.Rules.{rules}
 use Rattle.file_writer.proofs.write.Goals as goal
 use Rattle.file_writer.proofs.write.Goals.{Else-not-long_enough, In-Is}
 

@@ -3,7 +3,6 @@ use native.Mathlib.Omega.{arith}
 use Rattle.lent.specs.Lent.{witness_tables}
 use Rattle.witness_text.specs.PutLaws.{witness-most}
 use Rattle.rewrite_output.specs.PutLaws.{written-other, written-ten}
-use borrow.Author.Rules.{rules}
 use Rattle.rewrite_output.proofs.put_refusal_text.Goals as goal
 
 pub put-requires : goal.put-requires

@@ -26,20 +26,20 @@ Wrote-as c x =
     let w = c.write.new in
     Writes a.input.now (write_tables lent a.out.now) (write_tables (witness_tables w.word w.one w.other) w.out) x
 
-pub returns-then-out-lt-OUTPUT : goal.returns-then-out-lt-OUTPUT
-returns-then-out-lt-OUTPUT c = (Prints.short (omega arith) refl refl, refl)
+pub returns-then-out-lt-OUTPUT-clause-prints : goal.returns-then-out-lt-OUTPUT-clause-prints
+returns-then-out-lt-OUTPUT-clause-prints c = Prints.short (omega arith) refl refl
 
 pub put_refusal_text-requires : goal.put_refusal_text-requires
 put_refusal_text-requires c =
     let room = c.if-out-lt-OUTPUT.false in
     record { letters = refused-short (subst (Wrote-as (goal.at.put_refusal_text-requires c).After-write) c.in-Refused.is c.write.ensures) long room; long = search rules; room = search rules }
 
-pub returns-in-Bytes : goal.returns-in-Bytes
-returns-in-Bytes c =
+pub returns-in-Bytes-clause-prints : goal.returns-in-Bytes-clause-prints
+returns-in-Bytes-clause-prints c =
     let room = c.if-out-lt-OUTPUT.false in
-    (bytes-printed (subst (Wrote-as (goal.at.returns-in-Bytes c).After-write) c.in-Bytes.is c.write.ensures) room, refl)
+    bytes-printed (subst (Wrote-as (goal.at.returns-in-Bytes-clause-prints c).After-write) c.in-Bytes.is c.write.ensures) room
 
-pub returns-in-Refused : goal.returns-in-Refused
-returns-in-Refused c =
+pub returns-in-Refused-clause-prints : goal.returns-in-Refused-clause-prints
+returns-in-Refused-clause-prints c =
     let room = c.if-out-lt-OUTPUT.false in
-    (refused-printed (subst (Wrote-as (goal.at.returns-in-Refused c).After-write) c.in-Refused.is c.write.ensures) long room c.put_refusal_text.ensures, refl)
+    refused-printed (subst (Wrote-as (goal.at.returns-in-Refused-clause-prints c).After-write) c.in-Refused.is c.write.ensures) long room c.put_refusal_text.ensures
