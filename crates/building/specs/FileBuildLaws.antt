@@ -12,7 +12,7 @@ use Rattle.format.specs.Format.{Sheet}
 use Rattle.format.specs.Numbers.{numbers}
 use Rattle.parser.specs.LettersOf.{LettersOf, LettersAlone}
 use Rattle.reading.specs.Read.{Accepted, ReadTables, read_tables, SheetRead}
-use Rattle.reading.specs.ReadLaws.{read-automaton}
+use Rattle.reading.proofs.ReadLaws.{read-automaton}
 use Rattle.filling.specs.TrackerTables.{TrackerTables, Fitted}
 use Rattle.tracker.specs.declared.Tracker.{Tracker}
 use Rattle.tracker.specs.declared.Built.{Built}

@@ -1,6 +1,2 @@
 pub mod Rewritten
-pub mod NumbersLaws
-pub mod FileLaws
-pub mod SameListing
-pub mod SamePlans
 pub mod Unfold

@@ -1,9 +1,2 @@
 pub mod EndlessWord
-pub mod WithoutEndLaws
 pub mod PremiseLaws
-pub mod LeastLaws
-pub mod Theorem
-pub mod PremiseNeeded
-pub mod BuiltLaws
-pub mod PlanLaws
-pub mod DisplayLaws

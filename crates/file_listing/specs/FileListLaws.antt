@@ -7,13 +7,13 @@ use Rattle.gate.specs.declared.Refusal.{Refusal}
 use Rattle.automaton.specs.Automaton.{TransitionSets}
 use Rattle.lent.specs.Lent.{cleared_witness, cleared_sets}
 use Rattle.format.specs.Numbers.{numbers}
-use Rattle.format.specs.NumbersLaws.{sheet-fits}
-use Rattle.reading.specs.ReadLaws.{refuses-number}
+use Rattle.format.proofs.NumbersLaws.{sheet-fits}
+use Rattle.reading.proofs.ReadLaws.{refuses-number}
 use Rattle.filling.specs.TrackerTables.{TrackerTables, cleared_tracker}
 use Rattle.tracker.specs.Build.{BuildTables, build_tables, cleared_build}
 use Rattle.building.specs.FileBuild.{Builds}
 use Rattle.building.specs.FileBuildLaws.{file-built}
-use Rattle.filling.specs.FittedLaws.{fitted-cleared}
+use Rattle.filling.proofs.FittedLaws.{fitted-cleared}
 use Rattle.tracker.specs.declared.Tracker.{Tracker}
 use Rattle.tracker.specs.declared.Built.TheVariants.{Refused as BuildRefused, Is}
 use Rattle.gate.specs.declared.Written.{Written}

@@ -7,7 +7,7 @@ use Rattle.automaton.specs.declared.Numbers.{Numbers}
 use Rattle.automaton.specs.Automaton.{Automaton, TransitionSets, automaton}
 use Rattle.lent.specs.Lent.{WitnessTables, EnoughForWitness}
 use Rattle.format.specs.Numbers.{numbers}
-use Rattle.format.specs.NumbersLaws.{sheet-fits, automaton-is}
+use Rattle.format.proofs.NumbersLaws.{sheet-fits, automaton-is}
 use Rattle.parser.specs.Parse.{empty_sets}
 use Rattle.parser.specs.LettersOf.{LettersIn}
 use Rattle.reading.specs.Read.{ReadTables, read_tables, SheetRead}

@@ -1,4 +1,3 @@
 pub mod FileWrite
 pub mod Same
-pub mod FileRoundTrip
 pub mod FileWriteLaws

@@ -1,1 +1,4 @@
 pub mod FillLaws
+pub mod FittedLaws
+pub mod FixedLaws
+pub mod SameTracker

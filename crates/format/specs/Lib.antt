@@ -3,10 +3,5 @@ pub mod Numbers
 pub mod Withdrawals
 pub mod Written
 pub mod StandsFor
-pub mod FormatLaws
 pub mod DistinctLaws
-pub mod NumbersLaws
-pub mod WithdrawalLaws
-pub mod FinallyLaws
-pub mod StandsForLaws
 pub mod Unfold

@@ -6,9 +6,9 @@ use Rattle.automaton.specs.Automaton.{TransitionSets, Fits}
 use Rattle.lent.specs.Lent.{cleared_witness, cleared_sets, lent_sets}
 use Rattle.format.specs.Format.{Sheet}
 use Rattle.format.specs.Numbers.{numbers}
-use Rattle.format.specs.NumbersLaws.{sheet-fits}
+use Rattle.format.proofs.NumbersLaws.{sheet-fits}
 use Rattle.parser.specs.LettersOf.{LettersOf}
-use Rattle.parser.specs.UniqueLaws.{file-unique}
+use Rattle.parser.proofs.UniqueLaws.{file-unique}
 use Rattle.reading.specs.Read.{Accepted}
 use Rattle.passes.specs.Letter.{letter_at}
 use Rattle.plan.specs.Plan.{PlanIs}
@@ -16,7 +16,7 @@ use Rattle.filling.specs.TrackerTables.{TrackerTables, cleared_tracker, Fitted}
 use Rattle.tracker.specs.Build.{BuildTables, build_tables, EnoughToBuild}
 use Rattle.building.specs.FileBuild.{Builds}
 use Rattle.building.specs.FileBuildLaws.{file-built}
-use Rattle.filling.specs.FittedLaws.{fitted-cleared}
+use Rattle.filling.proofs.FittedLaws.{fitted-cleared}
 use Rattle.tracker.specs.declared.Tracker.{Tracker}
 use Rattle.tracker.specs.declared.Built.TheVariants as B
 use Rattle.plan_verdict.specs.declared.Outcome.{Outcome}
@@ -26,8 +26,8 @@ use Rattle.plan_verdict.specs.Verdict.{SizesFit, Verdicts, Refusing, Judgement}
 use Rattle.passes.specs.TableRun.{TablesFit, TableJudges}
 use Rattle.plan_verdict.specs.Parts.{PlanJudged, PlanLeft}
 use Rattle.plan_verdict.specs.PlanLaws.{letters-below}
-use Rattle.passes.specs.FollowLaws.{tables-fit, judges}
-use Rattle.passes.specs.SoundLaws.{sound}
+use Rattle.passes.proofs.FollowLaws.{tables-fit, judges}
+use Rattle.passes.proofs.SoundLaws.{sound}
 
 -- THE VERDICT on an accepted sheet's tracker
 verdicts : (s : List ℕ) (σ : Sheet) → Accepted s σ → (room : ℕ) (before after : TrackerTables) (count : ℕ) → Fitted (numbers σ) room before after count

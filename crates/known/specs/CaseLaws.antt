@@ -13,7 +13,7 @@ use Rattle.format.specs.Numbers.{numbers}
 use Rattle.parser.specs.Parse.{Contents}
 use Rattle.frame.specs.Phase.{Phase, refused, passed}
 use Rattle.lists.specs.SearchLaws.{same-is}
-use Rattle.parser.specs.ParseLaws.{AreContents}
+use Rattle.parser.proofs.ParseLaws.{AreContents}
 use Rattle.tuple.specs.Step.{Tuple}
 use Rattle.tracker.specs.declared.Built.{Built}
 use Rattle.tracker.specs.declared.Built.TheVariants as B
@@ -32,7 +32,7 @@ use Rattle.plan_verdict.specs.declared.Outcome.TheVariants as O
 use Rattle.passes.specs.declared.Verdict.{Verdict}
 use Rattle.passes.specs.Passes.{Judges}
 use Rattle.plan_verdict.specs.Verdict.{SizesFit}
-use Rattle.passes.specs.UniqueLaws.{one-verdict}
+use Rattle.passes.proofs.UniqueLaws.{one-verdict}
 use Rattle.known.specs.Case.{Expected, judged, meeting, Case, Tracked, VerdictIs, OfPlan, BuiltIs, Forced}
 use Rattle.known.specs.Case as E
 use Rattle.known.specs.VerdictTest.{is_verdict}

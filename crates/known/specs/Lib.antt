@@ -11,5 +11,4 @@ pub mod CaseTest
 pub mod CauseLaws
 pub mod SheetLaws
 pub mod CaseLaws
-pub mod Known
 pub mod Unfold

@@ -13,13 +13,13 @@ use Rattle.automaton.specs.MeetingLaws.{one-length}
 use Rattle.automaton.specs.QuestionLaws.{fits-graph}
 use Rattle.format.specs.Format.{Sheet, FileIs, Faulty}
 use Rattle.format.specs.Numbers.{numbers}
-use Rattle.format.specs.NumbersLaws.{sheet-fits}
+use Rattle.format.proofs.NumbersLaws.{sheet-fits}
 use Rattle.reading.specs.Read.{Accepted}
 use Rattle.parser.specs.Parse.{parse, Contents}
 use Rattle.frame.specs.Phase.{Phase, refused, passed}
-use Rattle.parser.specs.ParseLaws.{AreContents}
-use Rattle.parser.specs.CompleteLaws.{faulty-parse}
-use Rattle.parser.specs.UniqueLaws.{accepts-parse}
+use Rattle.parser.proofs.ParseLaws.{AreContents}
+use Rattle.parser.proofs.CompleteLaws.{faulty-parse}
+use Rattle.parser.proofs.UniqueLaws.{accepts-parse}
 use Rattle.tuple.specs.Step.{Tuple}
 use Rattle.numbering.specs.Numbering.{Numbering, MoreThan}
 use Rattle.numbering.proofs.NumberingLaws.{found_all, found-more, more-excludes, numbering-unique}

@@ -9,7 +9,7 @@ use Rattle.format.specs.Format.{Sheet}
 use Rattle.parser.specs.LettersOf.{LettersIn}
 use Rattle.format.specs.StandsFor.{StandsFor}
 use Rattle.format.specs.Withdrawals.{superseding_of}
-use Rattle.format.specs.StandsForLaws.{stands-for, stands-none}
+use Rattle.format.proofs.StandsForLaws.{stands-for, stands-none}
 
 module _ {σ : Sheet} {k : ℕ} {rows : List ℕ} (h : LettersIn σ k rows) (name : List ℕ) (r : ℕ) (f : FirstName (map compose σ.names) (compose name) r) where
   -- in the rows with the name in row k, which leaves the superseding letters

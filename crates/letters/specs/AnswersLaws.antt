@@ -5,7 +5,7 @@ use Rattle.parser.specs.Parse.{parse}
 use Rattle.parser.specs.PhaseAnswers.{FileRead}
 use Rattle.parser.specs.declared.File.{File}
 use Rattle.parser.specs.declared.File.TheVariants as F
-use Rattle.parser.specs.LettersOfLaws.{file-refused, read-accepted}
+use Rattle.parser.proofs.LettersOfLaws.{file-refused, read-accepted}
 use Rattle.letters.specs.Answers.{RowsRead}
 
 pub letters-read : (s : List ℕ) (t u : TransitionSets) (old rows : List ℕ) (r : File) → FileRead (parse s) t u old rows r → RowsRead s old rows r

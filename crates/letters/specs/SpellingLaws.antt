@@ -10,7 +10,7 @@ use Rattle.names.specs.Scan.{name_end_at}
 use Rattle.names.specs.ScanLaws.{name-ends}
 use Rattle.names.specs.declared.Ending.TheVariants as E
 use Rattle.format.specs.Format.{Sheet, FileIs, NamesRight, head_line, name_line, name_lines, withdrawal_lines, state_lines, transition_lines, end_line}
-use Rattle.format.specs.FormatLaws.{head-length, lines-parted, name-behind, name-rest}
+use Rattle.format.proofs.FormatLaws.{head-length, lines-parted, name-behind, name-rest}
 use Rattle.letters.specs.Spelling.{line_below, spelled_at, spelling}
 
 names-spelled :

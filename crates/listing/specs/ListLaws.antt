@@ -10,7 +10,7 @@ use Rattle.lent.proofs.LentLaws.{numbers-number}
 use Rattle.filling.specs.TrackerTables.{TrackerTables, cleared_tracker, EnoughForTracker, Fitted}
 use Rattle.tracker.specs.Build.{BuildNumbersTables, build_numbers_tables, cleared_build_numbers, BuildsNumbers}
 use Rattle.tracker.specs.BuildLaws.{numbers-built}
-use Rattle.filling.specs.FittedLaws.{fitted-room, fitted-cleared}
+use Rattle.filling.proofs.FittedLaws.{fitted-room, fitted-cleared}
 use Rattle.tracker.specs.declared.Tracker.{Tracker}
 use Rattle.tracker.specs.declared.Built.{Built}
 use Rattle.tracker.specs.declared.Built.TheVariants.{Refused as BuildRefused, Is}

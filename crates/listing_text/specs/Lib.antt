@@ -1,4 +1,4 @@
 pub mod Listing
 pub mod PutLaws
-pub mod ListingLaws
 pub mod SameListing
+pub mod ListingLaws

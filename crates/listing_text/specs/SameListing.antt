@@ -8,8 +8,8 @@ use Rattle.tuple_record.specs.Record.{set_cells, record_start}
 use Rattle.tuple.specs.SameSteps.{SameSteps}
 use Rattle.tuple.specs.RewrittenStep.{rewritten-steps}
 use Rattle.filling.specs.TrackerTables.{TrackerTables, Fitted}
-use Rattle.filling.specs.FixedLaws.{SameNumbers, fitted-cells}
-use Rattle.filling.specs.SameTracker.{same-cells}
+use Rattle.filling.proofs.FixedLaws.{SameNumbers, fitted-cells}
+use Rattle.filling.proofs.SameTracker.{same-cells}
 use Rattle.text.specs.Bytes.{lf, end_line}
 use Rattle.text.specs.Pieces.{pieces}
 use Rattle.columns.specs.Column.{column}

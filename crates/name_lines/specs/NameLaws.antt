@@ -20,7 +20,7 @@ use Rattle.names.specs.ScanLaws.{name-is, name-ends}
 use Rattle.names.specs.declared.Ending.{Ending}
 use Rattle.names.specs.declared.Ending.TheVariants as E
 use Rattle.format.specs.Format.{name_line, name_lines, DistinctFrom, NamesRight, NameFault, wrong_name, name-twice}
-use Rattle.format.specs.FormatLaws.{name-parted, name-behind, name-rest}
+use Rattle.format.proofs.FormatLaws.{name-parted, name-behind, name-rest}
 use Rattle.name_lines.specs.NameLines.{Named, name_line_at, names_at}
 use Rattle.frame.specs.Phase.{Phase, refused, passed}
 use Rattle.name_rows.specs.Rows.{letter_of}

@@ -6,7 +6,7 @@ use Rattle.lists.specs.AppendLaws.{append-same}
 use Rattle.names.specs.Name.{IsName}
 use Rattle.names.specs.declared.Ending.TheVariants as E
 use Rattle.format.specs.Format.{name_line, name_lines, NamesRight}
-use Rattle.format.specs.FormatLaws.{name-length}
+use Rattle.format.proofs.FormatLaws.{name-length}
 use Rattle.name_lines.specs.NameLaws.{name-line-of}
 
 -- ONE LINE at the top of a text is one line

@@ -13,7 +13,7 @@ use Rattle.walks.specs.CheckLaws.{ready}
 use Rattle.superseding.specs.Superseding.{superseding_in}
 use Rattle.format.specs.Format.{Withdrawal}
 use Rattle.format.specs.Withdrawals.{TellWithdrawn}
-use Rattle.format.specs.WithdrawalLaws.{superseding-tell}
+use Rattle.format.proofs.WithdrawalLaws.{superseding-tell}
 use Rattle.parser.specs.LettersOf.{LettersIn}
 use Rattle.reading.specs.Read.{ReadTables, SheetRead}
 use Rattle.named_numbers.specs.Ask.{NamedNumbersRefuse, ChecksNamed, NamedRefuse, Asks}

@@ -6,7 +6,7 @@ use Rattle.automaton.specs.Graph.{InRange}
 use Rattle.automaton.specs.declared.Edition.{Edition}
 use Rattle.automaton.specs.declared.Edition.TheVariants.{StateBased, TransitionBased}
 use Rattle.format.specs.Format.{sheet_word, head_line, most_sheet, Faulty, head, range}
-use Rattle.format.specs.FormatLaws.{word-length}
+use Rattle.format.proofs.FormatLaws.{word-length}
 use Rattle.parser.specs.declared.Sizes.{Sizes}
 use Rattle.parser.specs.Parse.{edition_of, sizes, sheet_bounds, head_of}
 use Rattle.frame.specs.Phase.{Phase, refused, passed}

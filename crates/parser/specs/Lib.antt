@@ -1,11 +1,7 @@
 pub mod Parse
 pub mod PhaseAnswers
 pub mod HeadLaws
-pub mod ParseLaws
-pub mod CompleteLaws
-pub mod UniqueLaws
 pub mod LettersRowsLaws
 pub mod FileLaws
 pub mod LettersOf
-pub mod LettersOfLaws
 pub mod Unfold

@@ -3,12 +3,8 @@ pub mod Passes
 pub mod TableRun
 pub mod LetterLaws
 pub mod LeastLaws
-pub mod UniqueLaws
 pub mod TableRunLaws
 pub mod EndLaws
 pub mod PassLaws
-pub mod FollowLaws
 pub mod StretchLaws
-pub mod SoundLaws
-pub mod SameVerdict
 pub mod Unfold

@@ -4,7 +4,7 @@ use native.Mathlib.Omega.{arith}
 use Rattle.std.proofs.Math.ListN.{length-append}
 use Rattle.text.specs.Bytes.{lf}
 use Rattle.format.specs.Format.{Sheet, FileIs, end_line}
-use Rattle.format.specs.StandsForLaws.{stands-new}
+use Rattle.format.proofs.StandsForLaws.{stands-new}
 use Rattle.plan_lines.specs.PlanLines.{plan_lines, Known, none, more}
 use Rattle.plan_lines.specs.KnownLaws.{known-length}
 use Rattle.plan.specs.Plan.{plan_head, PlanIs}

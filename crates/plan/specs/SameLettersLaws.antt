@@ -2,7 +2,7 @@
 use Rattle.std.specs.Prelude.{ℕ, List}
 use Rattle.format.specs.Format.{Sheet}
 use Rattle.format.specs.StandsFor.{SameLetters}
-use Rattle.format.specs.StandsForLaws.{same-letters-back, stands_alike}
+use Rattle.format.proofs.StandsForLaws.{same-letters-back, stands_alike}
 use Rattle.plan_lines.specs.PlanLines.{Known, none, more, PlanNameFault}
 use Rattle.plan.specs.Plan.{PlanIs, PlanAbove, PlanFaulty}
 

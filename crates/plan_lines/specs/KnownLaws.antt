@@ -9,8 +9,8 @@ use Rattle.superseding.specs.Superseding.{final_letter}
 use Rattle.format.specs.Format.{Sheet, NamesRight, WithdrawalsRight}
 use Rattle.format.specs.StandsFor.{StandsFor}
 use Rattle.format.specs.Withdrawals.{superseding_of}
-use Rattle.format.specs.FinallyLaws.{final-is}
-use Rattle.format.specs.StandsForLaws.{stands-for, stands-none, stands-letter}
+use Rattle.format.proofs.FinallyLaws.{final-is}
+use Rattle.format.proofs.StandsForLaws.{stands-for, stands-none, stands-letter}
 use Rattle.name_rows.specs.Rows.{letter_of}
 use Rattle.name_rows.specs.LetterLaws.{letter-first, letter-is, composed-at}
 use Rattle.format.specs.DistinctLaws.{distinct-at}

@@ -11,13 +11,13 @@ use Rattle.automaton.specs.EdgeLaws.{edge-letter, walk-in}
 use Rattle.automaton.specs.Meeting.{cells}
 use Rattle.lent.specs.Lent.{WitnessTables, EnoughForWitness, Meets}
 use Rattle.format.specs.Format.{Sheet, FileIs, Faulty, most_sheet}
-use Rattle.format.specs.FormatLaws.{fault-number, longest-most}
+use Rattle.format.proofs.FormatLaws.{fault-number, longest-most}
 use Rattle.format.specs.Numbers.{numbers}
-use Rattle.format.specs.NumbersLaws.{sheet-fits}
-use Rattle.parser.specs.UniqueLaws.{fault-unique, file-or-fault}
+use Rattle.format.proofs.NumbersLaws.{sheet-fits}
+use Rattle.parser.proofs.UniqueLaws.{fault-unique, file-or-fault}
 use Rattle.reading.specs.Read.{Refuses}
 use Rattle.writer.specs.Writing.{writing}
-use Rattle.file_writer.specs.FileRoundTrip.{writing-most}
+use Rattle.file_writer.proofs.FileRoundTrip.{writing-most}
 use Rattle.writer.specs.Write.{WriteTables}
 use Rattle.file_writer.specs.FileWrite.{Writes}
 use Rattle.report.specs.Report.{refusal_line}

@@ -3,7 +3,7 @@ use Rattle.std.specs.Prelude.{ℕ, zero, suc, ◌*◌, ◌≤◌, ◌≡◌, ref
 use Rattle.std.proofs.Common.{sym, ap, arith, mul-zero, mul-suc}
 use Rattle.automaton.specs.declared.Edition.{Edition}
 use Rattle.format.specs.Format.{State, Transition, Withdrawal, state_width, transition_width, withdrawal_lines, state_lines, transition_lines}
-use Rattle.format.specs.FormatLaws.{withdrawal-behind, state-behind, transition-behind}
+use Rattle.format.proofs.FormatLaws.{withdrawal-behind, state-behind, transition-behind}
 use Rattle.format.specs.Numbers.{where_member}
 use Rattle.format.specs.Written.{states_of, bit_at, placed, transitions_of}
 

@@ -11,7 +11,7 @@ use Rattle.automaton.specs.declared.Edition.{Edition}
 use Rattle.format.specs.Format.{Transition, transition_line, transition_width, transition_lines}
 use Rattle.format.specs.Numbers.{where_member}
 use Rattle.format.specs.Written.{most_transitions, bit_at, placed, transitions_of}
-use Rattle.format.specs.FormatLaws.{transition-length, transition-behind}
+use Rattle.format.proofs.FormatLaws.{transition-length, transition-behind}
 use Rattle.sheet_sections.specs.Places.{transitions_from, At, Stop, NextPlace}
 
 module _ (T marks : List ℕ) where

@@ -8,7 +8,7 @@ use Rattle.lists.specs.Search.{leading}
 use Rattle.name_rows.specs.RowLaws.{leading-name}
 use Rattle.name_rows.specs.Rows.{HoldNames}
 use Rattle.format.specs.Format.{name_line, name_lines}
-use Rattle.format.specs.FormatLaws.{name-length}
+use Rattle.format.proofs.FormatLaws.{name-length}
 use Rattle.sheet_lines.specs.RowName.{row_name}
 use Rattle.sheet_sections.specs.RowNames.{row_names}
 

@@ -12,9 +12,9 @@ use Rattle.text.specs.Pieces.{pieces}
 use Rattle.lists.specs.LeftLaws.{left-more}
 use Rattle.superseding.specs.Superseding.{superseding_in}
 use Rattle.format.specs.Format.{Withdrawal, withdrawal_line, withdrawal_lines, WithdrawalsRight, Supersedes, InForce}
-use Rattle.format.specs.FormatLaws.{withdrawal-length}
+use Rattle.format.proofs.FormatLaws.{withdrawal-length}
 use Rattle.format.specs.Withdrawals.{withdrawn_by, superseding_of}
-use Rattle.format.specs.WithdrawalLaws.{supersedes-right, superseded-cell, force-cell}
+use Rattle.format.proofs.WithdrawalLaws.{supersedes-right, superseded-cell, force-cell}
 use Rattle.sheet_sections.specs.RowWithdrawals.{where_withdrawn, withdrawals_of, line_where, withdrawal_text}
 
 -- The lines of the withdrawals

@@ -7,7 +7,7 @@ use Rattle.automaton.specs.declared.Edition.{Edition}
 use Rattle.automaton.specs.declared.Edition.TheVariants.{StateBased, TransitionBased}
 use Rattle.format.specs.Format.{Transition, Withdrawal, Sheet, state_width, transition_width, name_lines, lines, end_line, NamesRight, WithdrawalsRight, Withdrawn, transition_index, TransitionsRight, AllInForce, Right, most_sheet}
 use Rattle.format.specs.Written.{most_transitions, longest_text}
-use Rattle.format.specs.FormatLaws.{head-length, name-length, longest-most, lines-parted}
+use Rattle.format.proofs.FormatLaws.{head-length, name-length, longest-most, lines-parted}
 use Rattle.sheet_sections.specs.LengthLaws.{withdrawals-length, states-length, transitions-length}
 
 -- the line of a name has at most 30 bytes

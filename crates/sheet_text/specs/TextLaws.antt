@@ -7,7 +7,7 @@ use Rattle.names.specs.Name.{compose}
 use Rattle.automaton.specs.Automaton.{Automaton}
 use Rattle.format.specs.Format.{Withdrawal, head_line, state_width, transition_width, name_lines, withdrawal_lines, state_lines, transition_lines, end_line}
 use Rattle.format.specs.Written.{states_of, most_transitions, transitions_of, sheet_of, written_sheet, written}
-use Rattle.format.specs.FormatLaws.{head-length, lines-parted}
+use Rattle.format.proofs.FormatLaws.{head-length, lines-parted}
 use Rattle.sheet_sections.specs.LengthLaws.{states_of-length, states-length, transitions-length}
 use Rattle.sheet_text.specs.Text.{text_of}
 

@@ -11,7 +11,7 @@ use Rattle.automaton.specs.declared.Edition.{Edition}
 use Rattle.automaton.specs.declared.Edition.TheVariants.{StateBased, TransitionBased}
 use Rattle.format.specs.Format.{State, state_line, state_lines, state_width, FlagsRight, StatesRight}
 use Rattle.format.specs.Numbers.{flag_set}
-use Rattle.format.specs.FormatLaws.{state-length, state-behind}
+use Rattle.format.proofs.FormatLaws.{state-length, state-behind}
 use Rattle.state_lines.specs.declared.Sets.{Sets}
 use Rattle.state_lines.specs.declared.StateLine.{StateLine}
 use Rattle.state_lines.specs.declared.StateLine.TheVariants as S

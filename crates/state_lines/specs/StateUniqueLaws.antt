@@ -4,7 +4,7 @@ use Rattle.std.proofs.Common.{sym, ap₂, ◌∙◌, append_assoc, arith}
 use Rattle.lists.specs.AppendLaws.{append-same}
 use Rattle.automaton.specs.declared.Edition.{Edition}
 use Rattle.format.specs.Format.{State, state_line, state_lines, FlagsRight, StatesRight}
-use Rattle.format.specs.FormatLaws.{state-length}
+use Rattle.format.proofs.FormatLaws.{state-length}
 use Rattle.state_lines.specs.declared.StateLine.TheVariants as S
 use Rattle.state_lines.specs.StateLines.{state_line_at}
 use Rattle.state_lines.specs.StateLaws.{state-line-of}

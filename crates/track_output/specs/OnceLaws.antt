@@ -4,9 +4,9 @@ use Rattle.std.proofs.Common.{sym, ap₂, ◌∙◌}
 use Rattle.std.proofs.Math.Path.{subst}
 use Rattle.format.specs.Format.{Sheet}
 use Rattle.format.specs.Numbers.{numbers}
-use Rattle.parser.specs.UniqueLaws.{file-unique}
+use Rattle.parser.proofs.UniqueLaws.{file-unique}
 use Rattle.reading.specs.Read.{Accepted}
-use Rattle.reading.specs.ReadLaws.{refuses-once, accepted-unrefused}
+use Rattle.reading.proofs.ReadLaws.{refuses-once, accepted-unrefused}
 use Rattle.numbering.specs.Numbering.{MoreThan}
 use Rattle.numbering.proofs.NumberingLaws.{more-excludes}
 use Rattle.filling.specs.TrackerTables.{TrackerTables, Fitted}

@@ -9,8 +9,8 @@ use Rattle.automaton.specs.Automaton.{AreNumbers}
 use Rattle.lent.specs.Lent.{witness_tables}
 use Rattle.format.specs.Format.{Sheet, Faulty, most_sheet}
 use Rattle.format.specs.Numbers.{numbers}
-use Rattle.format.specs.NumbersLaws.{sheet-fits}
-use Rattle.parser.specs.UniqueLaws.{fault-unique, file-or-fault}
+use Rattle.format.proofs.NumbersLaws.{sheet-fits}
+use Rattle.parser.proofs.UniqueLaws.{fault-unique, file-or-fault}
 use Rattle.reading.specs.Read.{Refuses}
 use Rattle.filling.specs.TrackerTables.{TrackerTables}
 use Rattle.tracker.specs.Build.{BuildTables, EnoughToBuild}
@@ -22,7 +22,7 @@ use Rattle.listing_text.specs.Listing.{listing}
 use Rattle.file_listing.specs.FileList.{ListTables, list_tables, Lists}
 use Rattle.listing.specs.List.{listing_of}
 use Rattle.listing_text.specs.PutLaws.{listing-length, listing-small}
-use Rattle.listing_text.specs.ListingLaws.{fitted-shown}
+use Rattle.listing_text.proofs.ListingLaws.{fitted-shown}
 use Rattle.report.specs.Report.{refusal_line, line_of}
 use Rattle.report.specs.ReportLaws.{refusal-length}
 use Rattle.report.specs.Output.{program_room, Prints, TooLong}

@@ -11,7 +11,7 @@ use Rattle.lent.specs.Lent.{WitnessTables, NumbersRefuse}
 use Rattle.gate.specs.declared.Refusal.{Refusal}
 use Rattle.numbering.proofs.SameNumbering.{rewritten-more}
 use Rattle.filling.specs.TrackerTables.{TrackerTables}
-use Rattle.filling.specs.SameTracker.{rewritten-fitted}
+use Rattle.filling.proofs.SameTracker.{rewritten-fitted}
 use Rattle.tracker.specs.declared.Built.{Built}
 use Rattle.tracker.specs.declared.Built.TheVariants.{Refused, Is}
 use Rattle.tracker.specs.Build.{BuildNumbersTables, EnoughToBuildNumbers, Tracks, BuildsNumbers}

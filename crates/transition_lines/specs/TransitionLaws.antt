@@ -19,8 +19,8 @@ use Rattle.automaton.specs.declared.Edition.TheVariants.{StateBased, TransitionB
 use Rattle.format.specs.Format.{Transition, Withdrawal, transition_line, transition_lines, transition_width, end_line, transition_index, most_mark, TransitionRight, TransitionsRight, least_after, Withdrawn, InForce, AllInForce, EndFault, wrong-transition, withdrawn-letter, no_end, not_last}
 use Rattle.format.specs.Numbers.{inserted, table_of, marked_of}
 use Rattle.format.specs.Withdrawals.{TellWithdrawn}
-use Rattle.format.specs.FormatLaws.{transition-length, transition-width, transition-behind}
-use Rattle.format.specs.NumbersLaws.{transition, table-where}
+use Rattle.format.proofs.FormatLaws.{transition-length, transition-width, transition-behind}
+use Rattle.format.proofs.NumbersLaws.{transition, table-where}
 use Rattle.transition_lines.specs.declared.TransitionLine.{TransitionLine}
 use Rattle.transition_lines.specs.declared.TransitionLine.TheVariants as T
 use Rattle.transition_lines.specs.TransitionLines.{with_transition, transition_of, marked_one, line_from, transition_line_at, if_in_force, with_marked, end_sets, transitions_at}

@@ -4,8 +4,8 @@ use Rattle.std.proofs.Common.{sym, ap, ap₂, ◌∙◌, append_assoc, arith}
 use Rattle.lists.specs.AppendLaws.{append-same}
 use Rattle.automaton.specs.declared.Edition.{Edition}
 use Rattle.format.specs.Format.{Transition, transition_line, transition_lines, end_line, transition_index, TransitionRight, TransitionsRight}
-use Rattle.format.specs.NumbersLaws.{loosened}
-use Rattle.format.specs.FormatLaws.{transition-length}
+use Rattle.format.proofs.NumbersLaws.{loosened}
+use Rattle.format.proofs.FormatLaws.{transition-length}
 use Rattle.transition_lines.specs.declared.TransitionLine.TheVariants as T
 use Rattle.transition_lines.specs.TransitionLines.{transition_line_at}
 use Rattle.transition_lines.specs.TransitionLaws.{transition-line-of}

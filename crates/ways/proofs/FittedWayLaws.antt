@@ -8,7 +8,7 @@ use Rattle.tuple.specs.Row.{tuple_of}
 use Rattle.tuple.specs.RowLaws.{formed-row}
 use Rattle.numbering.specs.Numbering.{tuple_at}
 use Rattle.filling.specs.TrackerTables.{TrackerTables, EnoughForTracker, Fitted}
-use Rattle.filling.specs.FittedLaws.{fitted-formed, fitted-room}
+use Rattle.filling.proofs.FittedLaws.{fitted-formed, fitted-room}
 use Rattle.ways.specs.Way.{Spells, ShortestWord}
 use Rattle.ways.proofs.WayLaws.{FoundWays, way_down, spells, spelled-few}
 use Rattle.ways.proofs.ShortestLaws.{spelled-shortest}

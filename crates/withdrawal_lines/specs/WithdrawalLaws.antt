@@ -17,7 +17,7 @@ use Rattle.columns.specs.Pair.{pair_at}
 use Rattle.columns.specs.PairLaws.{some_pair, two-of, two_is}
 use Rattle.format.specs.Format.{Withdrawal, withdrawal_line, withdrawal_lines, WithdrawalRight, WithdrawalsRight, letter_after}
 use Rattle.format.specs.Withdrawals.{withdrawn_by, withdrawn_in}
-use Rattle.format.specs.FormatLaws.{withdrawal-length, withdrawal-behind}
+use Rattle.format.proofs.FormatLaws.{withdrawal-length, withdrawal-behind}
 use Rattle.frame.specs.Phase.{Phase, refused, passed}
 use Rattle.withdrawal_lines.specs.declared.WithdrawalLine.{WithdrawalLine}
 use Rattle.withdrawal_lines.specs.declared.WithdrawalLine.TheVariants as W

@@ -3,7 +3,7 @@ use Rattle.std.specs.Prelude.{ℕ, ◌+◌, ◌≤◌, ◌≡◌, refl, List, []
 use Rattle.std.proofs.Common.{sym, ap, ap₂, ◌∙◌, append_assoc, arith}
 use Rattle.lists.specs.AppendLaws.{append-same}
 use Rattle.format.specs.Format.{Withdrawal, withdrawal_line, withdrawal_lines, WithdrawalRight, WithdrawalsRight}
-use Rattle.format.specs.FormatLaws.{withdrawal-length}
+use Rattle.format.proofs.FormatLaws.{withdrawal-length}
 use Rattle.withdrawal_lines.specs.declared.WithdrawalLine.TheVariants as W
 use Rattle.withdrawal_lines.specs.WithdrawalLines.{withdrawal_line_at}
 use Rattle.withdrawal_lines.specs.WithdrawalLaws.{withdrawal-line-of}

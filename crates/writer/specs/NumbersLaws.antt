@@ -14,7 +14,7 @@ use Rattle.lent.specs.Lent.{EnoughForSets}
 use Rattle.format.specs.Format.{State, Transition, Withdrawal, cell}
 use Rattle.format.specs.Numbers.{flag_set, inserted, table_of, inserted_where, where_member, marked_of, sets_from, numbers}
 use Rattle.format.specs.Written.{state_of, states_of, most_transitions, bit_at, placed, transitions_of, sheet_of, written_sheet}
-use Rattle.format.specs.NumbersLaws.{unflagged, flags-set, inserted_new, table-length, where-length, where-other, table-where}
+use Rattle.format.proofs.NumbersLaws.{unflagged, flags-set, inserted_new, table-length, where-length, where-other, table-where}
 use Rattle.sheet_sections.specs.LengthLaws.{states_of-length}
 use Rattle.writer.specs.Writing.{trimmed}
 

@@ -12,7 +12,7 @@ use Rattle.format.specs.Numbers.{numbers}
 use Rattle.format.specs.Written.{sheet_of, written_sheet, written}
 use Rattle.reading.specs.Read.{Accepted}
 use Rattle.named_numbers.specs.Ask.{NamedAccepted}
-use Rattle.parser.specs.UniqueLaws.{file-unique}
+use Rattle.parser.proofs.UniqueLaws.{file-unique}
 use Rattle.writer.specs.Writing.{trimmed, writing, LettersRight}
 use Rattle.writer.specs.NumbersLaws.{numbers-written}
 use Rattle.writer.specs.TrimmedLaws.{free-trimmed, written-trimmed}

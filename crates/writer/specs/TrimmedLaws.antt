@@ -11,7 +11,7 @@ use Rattle.lent.specs.Lent.{EnoughForSets}
 use Rattle.format.specs.Format.{Withdrawal, Sheet, lines, end_line}
 use Rattle.format.specs.Numbers.{numbers}
 use Rattle.format.specs.Written.{most_transitions, transitions_of, sheet_of, written_sheet, written}
-use Rattle.format.specs.NumbersLaws.{numbers-length, marks-length}
+use Rattle.format.proofs.NumbersLaws.{numbers-length, marks-length}
 use Rattle.writer.specs.Writing.{trimmed}
 
 transitions-trimmed : (T marks : List ℕ) (left i : ℕ) → i + left ≤ most_transitions → transitions_of (take 128 T) (take 128 marks) i left ≡ transitions_of T marks i left

@@ -7,7 +7,7 @@ use Rattle.automaton.specs.Automaton.{transition_sets}
 use Rattle.lent.specs.Lent.{witness_tables}
 use Rattle.lent.proofs.LentLaws.{sets-cleared-alike}
 use Rattle.reading.specs.Read.{read_tables, ReadsNamed}
-use Rattle.reading.specs.ReadLaws.{read_fits}
+use Rattle.reading.proofs.ReadLaws.{read_fits}
 use Rattle.reading.specs.declared.Read.{Read}
 use Rattle.filling.specs.TrackerTables.{tracker_tables}
 use Rattle.building.specs.FileBuild.{Builds}

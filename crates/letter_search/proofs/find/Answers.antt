@@ -9,7 +9,7 @@ use Rattle.lent.specs.Lent.{witness_tables, EnoughForWitness}
 use Rattle.reading.specs.declared.Read.TheVariants as R
 use Rattle.reading.specs.Read.{ReadTables, read_tables, ReadsNamed}
 use Rattle.letter_search.specs.Find.{Finds}
-use Rattle.reading.specs.ReadLaws.{few-letters}
+use Rattle.reading.proofs.ReadLaws.{few-letters}
 use Rattle.letter_search.specs.FindLaws.{find-asks}
 use Rattle.letter_search.proofs.find.Goals as goal
 use Rattle.letter_search.proofs.find.Goals.{Else-not-long_enough, In-Is}

@@ -12,8 +12,8 @@ use Rattle.parser.specs.PhaseAnswers.{FileRead}
 use Rattle.parser.specs.declared.File.{File}
 use Rattle.parser.specs.declared.File.TheVariants.{Is}
 use Rattle.automaton.specs.declared.Numbers.{Numbers}
-use Rattle.parser.specs.LettersOfLaws.{FileAccepted, read-accepted}
-use Rattle.reading.specs.ReadLaws.{asked, free-accepts, meeting-refuses, fault-refuses}
+use Rattle.parser.proofs.LettersOfLaws.{FileAccepted, read-accepted}
+use Rattle.reading.proofs.ReadLaws.{asked, free-accepts, meeting-refuses, fault-refuses}
 use Rattle.reading.proofs.read_cleared.Goals as goal
 use Rattle.reading.proofs.read_cleared.Goals.{After-ask-length, After-read_file}
 

@@ -3,7 +3,7 @@ use mathlib.Core.Path.{◌≡◌}
 use Rattle.automaton.specs.Automaton.{transition_sets}
 use Rattle.lent.specs.Lent.{witness_tables}
 use Rattle.reading.specs.Read.{ReadTables, read_tables, lent_cleared}
-use Rattle.reading.specs.ReadLaws.{ready-to-read, reads-cleared}
+use Rattle.reading.proofs.ReadLaws.{ready-to-read, reads-cleared}
 use Rattle.reading.proofs.read_long.Goals as goal
 use Rattle.reading.proofs.read_long.Goals.{After-clear_witness, Start}
 

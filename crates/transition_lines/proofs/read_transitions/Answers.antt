@@ -11,11 +11,11 @@ use borrow.Author.Tests.{eq-eqb, ne_eqb}
 use Rattle.automaton.specs.declared.Edition.{Edition}
 use Rattle.automaton.specs.Automaton.{TransitionSets, transition_sets}
 use Rattle.lent.proofs.LentLaws.{sets-cleared-alike}
-use Rattle.format.specs.FormatLaws.{transition-width}
+use Rattle.format.proofs.FormatLaws.{transition-width}
 use Rattle.lists.specs.Choice.{choose}
 use Rattle.superseding.specs.Superseding.{superseding_in}
 use Rattle.format.specs.Format.{Transition, transition_index, transition_width}
-use Rattle.format.specs.NumbersLaws.{transition, where-length}
+use Rattle.format.proofs.NumbersLaws.{transition, where-length}
 use Rattle.format.specs.Numbers.{inserted}
 use Rattle.transition_lines.specs.declared.TransitionLine.{TransitionLine}
 use Rattle.transition_lines.specs.TransitionLines.{transition_line_at, with_transition, if_in_force, with_marked, transitions_at, FillsTable}

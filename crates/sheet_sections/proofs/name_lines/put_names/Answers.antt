@@ -1,6 +1,6 @@
 -- `sheet_sections::name_lines::put_names` meets its contract: what is left to write gives the whole. Assumes nothing.
 use native.Mathlib.Omega.{arith}
-use Rattle.format.specs.FormatLaws.{name-length}
+use Rattle.format.proofs.FormatLaws.{name-length}
 use Rattle.text.specs.PiecesLaws.{put-none, put-room, put-more, put_all, put-end}
 use Rattle.sheet_lines.specs.RowName.{row_name}
 use Rattle.sheet_sections.specs.RowNamesLaws.{names-pieces}

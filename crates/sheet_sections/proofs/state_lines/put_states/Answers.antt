@@ -1,7 +1,7 @@
 -- `sheet_sections::state_lines::put_states` meets its contract: what is left to write gives the whole. Assumes nothing.
 use native.Mathlib.Omega.{arith}
 use Rattle.text.specs.PiecesLaws.{put-none, put-room, put-more, put_all, put-end}
-use Rattle.format.specs.FormatLaws.{state-length}
+use Rattle.format.proofs.FormatLaws.{state-length}
 use Rattle.format.specs.Written.{state_of}
 use Rattle.sheet_sections.specs.StatesLaws.{states-pieces}
 use Rattle.sheet_sections.proofs.state_lines.put_states.Goals as goal

@@ -11,7 +11,7 @@ use Rattle.format.specs.Format.{Sheet, FileIs, Faulty}
 use Rattle.format.specs.Numbers.{numbers}
 use Rattle.parser.specs.Parse.{Contents, parse}
 use Rattle.frame.specs.Phase.{Phase, refused, passed}
-use Rattle.parser.specs.ParseLaws.{Means, AreContents, parse-means}
+use Rattle.parser.proofs.ParseLaws.{Means, AreContents, parse-means}
 use Rattle.parser.specs.PhaseAnswers.{numbers_of, FileRead}
 use Rattle.parser.specs.declared.File.TheVariants as F
 use Rattle.superseding.specs.Superseding.{superseding_in, with_superseding}

@@ -5,18 +5,18 @@ use Rattle.std.proofs.Math.Path.{ap}
 use Rattle.theory.specs.Run.{Least}
 use Rattle.tuple_record.specs.Record.{colour_in}
 use Rattle.automaton.specs.Automaton.{Automaton}
-use Rattle.endless_words.specs.WithoutEndLaws.{eventually-least}
+use Rattle.endless_words.proofs.WithoutEndLaws.{eventually-least}
 use Rattle.tuple.specs.Step.{next, run, colour_entered}
 use Rattle.filling.specs.TrackerTables.{TrackerTables}
 use Rattle.format.specs.Format.{Sheet}
 use Rattle.format.specs.Numbers.{numbers}
-use Rattle.format.specs.NumbersLaws.{sheet-fits}
+use Rattle.format.proofs.NumbersLaws.{sheet-fits}
 use Rattle.reading.specs.Read.{Accepted}
 use Rattle.passes.specs.Letter.{letter_at}
 use Rattle.passes.specs.Passes.{Judges}
 use Rattle.passes.specs.TableRun.{reached, TableJudges}
 use Rattle.passes.specs.TableRunLaws.{reached-more}
-use Rattle.passes.specs.FollowLaws.{entered-colour}
+use Rattle.passes.proofs.FollowLaws.{entered-colour}
 use Rattle.passes.specs.StretchLaws.{stretch-least}
 use Rattle.passes.specs.declared.Verdict.{Verdict}
 use Rattle.plan.specs.Plan.{PlanIs}

@@ -8,7 +8,7 @@ use Rattle.tuple.specs.Step.{Tuple, run, colour_entered}
 use Rattle.numbering.specs.Numbering.{tuple_at, Numbering}
 use Rattle.numbering.proofs.NumberingLaws.{numbers_apart}
 use Rattle.filling.specs.TrackerTables.{TrackerTables, EnoughForTracker, Fitted}
-use Rattle.filling.specs.FittedLaws.{fitted-colour, fitted-next, fitted-room}
+use Rattle.filling.proofs.FittedLaws.{fitted-colour, fitted-next, fitted-room}
 use Rattle.passes.specs.declared.Verdict.{Verdict}
 use Rattle.passes.specs.Passes.{LeastOf, Judges}
 use Rattle.passes.specs.TableRun.{TablesFit, reached, entered_in, TableJudges}

@@ -10,7 +10,7 @@ use Rattle.superseding.specs.Superseding.{final_letter}
 use Rattle.format.specs.Format.{Sheet, Withdrawal, NamesRight, WithdrawalsRight}
 use Rattle.format.specs.StandsFor.{Finally, StandsFor, SameLetters, itself}
 use Rattle.format.specs.Withdrawals.{superseding_of}
-use Rattle.format.specs.FinallyLaws.{finally-in-force, finally-letter, finally-final}
+use Rattle.format.proofs.FinallyLaws.{finally-in-force, finally-letter, finally-final}
 
 module _ (σ : Sheet) (all : length σ.names ≡ σ.k) (x : List ℕ) (r : ℕ) (f : FirstName (map compose σ.names) (compose x) r) where
   pub stands-for : σ.k ≤ 8 → WithdrawalsRight σ.k 0 σ.withdrawals → IsName x → r < σ.k → StandsFor σ x (final_letter (superseding_of σ.withdrawals) r)

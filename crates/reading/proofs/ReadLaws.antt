@@ -14,16 +14,16 @@ use Rattle.meeting.specs.Answer.{Asked}
 use Rattle.walks.specs.Check.{AnsweredTen}
 use Rattle.walks.specs.CheckLaws.{meets-answered}
 use Rattle.format.specs.Format.{Sheet}
-use Rattle.format.specs.FormatLaws.{fault-number}
+use Rattle.format.proofs.FormatLaws.{fault-number}
 use Rattle.format.specs.Numbers.{numbers}
-use Rattle.format.specs.NumbersLaws.{sheet-fits, numbers-length, read_is}
+use Rattle.format.proofs.NumbersLaws.{sheet-fits, numbers-length, read_is}
 use Rattle.parser.specs.PhaseAnswers.{FileRead}
-use Rattle.parser.specs.UniqueLaws.{file-unique, fault-unique, file-or-fault}
+use Rattle.parser.proofs.UniqueLaws.{file-unique, fault-unique, file-or-fault}
 use Rattle.parser.specs.Parse.{parse}
 use Rattle.parser.specs.declared.File.TheVariants as F
 use Rattle.reading.specs.declared.Read.{Read}
 use Rattle.reading.specs.declared.Read.TheVariants as R
-use Rattle.parser.specs.LettersOfLaws.{FileAccepted, file-refused}
+use Rattle.parser.proofs.LettersOfLaws.{FileAccepted, file-refused}
 use Rattle.reading.specs.Read.{Accepted, Refuses, ReadTables, read_tables, lent_cleared, SheetRead, ReadsNamed}
 
 -- only question 1 has number 1

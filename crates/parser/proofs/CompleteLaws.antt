@@ -12,8 +12,8 @@ use Rattle.automaton.specs.declared.Edition.{Edition}
 use Rattle.format.specs.Format.{State, Withdrawal, Sheet, head_line, name_lines, withdrawal_line, withdrawal_lines, WithdrawalRight, letter_after, state_lines, transition_lines, end_line, FlagsRight, state_line, least_after, most_sheet, FileIs, Above, NameDue, WithdrawalDue, StateDue, line_due, NameFault, EndFault, Faulty}
 use Rattle.format.specs.Numbers.{flag_set}
 use Rattle.format.specs.Withdrawals.{withdrawn_in, superseding_of, TellWithdrawn}
-use Rattle.format.specs.WithdrawalLaws.{superseding-tell}
-use Rattle.format.specs.FormatLaws.{head-length, transitions-few, lines-parted}
+use Rattle.format.proofs.WithdrawalLaws.{superseding-tell}
+use Rattle.format.proofs.FormatLaws.{head-length, transitions-few, lines-parted}
 use Rattle.parser.specs.declared.Sizes.{Sizes}
 use Rattle.state_lines.specs.declared.Sets.{Sets}
 use Rattle.state_lines.specs.declared.StateLine.TheVariants as S

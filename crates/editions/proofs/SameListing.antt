@@ -9,19 +9,19 @@ use Rattle.automaton.specs.declared.Edition.TheVariants.{StateBased}
 use Rattle.numbering.specs.Numbering.{MoreThan}
 use Rattle.numbering.proofs.SameNumbering.{rewritten-more}
 use Rattle.filling.specs.TrackerTables.{TrackerTables, Fitted}
-use Rattle.filling.specs.SameTracker.{rewritten-fitted}
+use Rattle.filling.proofs.SameTracker.{rewritten-fitted}
 use Rattle.format.specs.Format.{Sheet}
 use Rattle.format.specs.Numbers.{numbers}
-use Rattle.parser.specs.UniqueLaws.{file-unique}
+use Rattle.parser.proofs.UniqueLaws.{file-unique}
 use Rattle.reading.specs.Read.{Accepted}
-use Rattle.reading.specs.ReadLaws.{accepted-unrefused}
+use Rattle.reading.proofs.ReadLaws.{accepted-unrefused}
 use Rattle.listing_text.specs.Listing.{listing}
 use Rattle.report.specs.Output.{program_room}
 use Rattle.track_output.specs.Track.{TrackOutput}
 use Rattle.track_output.specs.OnceLaws.{track-once}
 use Rattle.editions.specs.Rewritten.{rewritten, rewritten_file}
-use Rattle.editions.specs.NumbersLaws.{numbers-rewritten}
-use Rattle.editions.specs.FileLaws.{accepted-rewritten}
+use Rattle.editions.proofs.NumbersLaws.{numbers-rewritten}
+use Rattle.editions.proofs.FileLaws.{accepted-rewritten}
 
 module _ (σ : Sheet) (edition : σ.edition ≡ StateBased) where
   pub numbers-edition : (numbers σ).edition ≡ StateBased

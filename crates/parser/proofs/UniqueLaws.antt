@@ -5,7 +5,7 @@ use Rattle.lists.specs.AppendLaws.{append-same}
 use Rattle.automaton.specs.Graph.{InRange}
 use Rattle.automaton.specs.declared.Edition.{Edition}
 use Rattle.format.specs.Format.{Sheet, head_line, name_lines, withdrawal_lines, state_lines, transition_lines, end_line, WithdrawalsRight, StatesRight, TransitionsRight, FileIs, Faulty}
-use Rattle.format.specs.FormatLaws.{head-length, lines-parted}
+use Rattle.format.proofs.FormatLaws.{head-length, lines-parted}
 use Rattle.parser.specs.declared.Sizes.{Sizes}
 use Rattle.parser.specs.Parse.{sizes, head_of, Contents, parse}
 use Rattle.frame.specs.Phase.{Phase, refused, passed}
@@ -14,8 +14,8 @@ use Rattle.name_lines.specs.NameUniqueLaws.{names_same}
 use Rattle.withdrawal_lines.specs.WithdrawalUniqueLaws.{withdrawals-same}
 use Rattle.state_lines.specs.StateUniqueLaws.{states-same}
 use Rattle.transition_lines.specs.TransitionUniqueLaws.{transitions-same}
-use Rattle.parser.specs.ParseLaws.{AreContents, Means, parse-means, parse-accepts}
-use Rattle.parser.specs.CompleteLaws.{state-opens, faulty-parse, file-read}
+use Rattle.parser.proofs.ParseLaws.{AreContents, Means, parse-means, parse-accepts}
+use Rattle.parser.proofs.CompleteLaws.{state-opens, faulty-parse, file-read}
 
 -- ONE LINE at the top of a text is one line
 

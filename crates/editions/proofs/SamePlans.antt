@@ -14,11 +14,11 @@ use Rattle.tracker.specs.Build.{BuildTables, build_tables}
 use Rattle.format.specs.Format.{Sheet}
 use Rattle.format.specs.StandsFor.{SameLetters}
 use Rattle.format.specs.Numbers.{numbers}
-use Rattle.parser.specs.UniqueLaws.{file-unique}
+use Rattle.parser.proofs.UniqueLaws.{file-unique}
 use Rattle.passes.specs.Letter.{letter_at}
 use Rattle.passes.specs.Passes.{Judges, Sound}
-use Rattle.passes.specs.SameVerdict.{rewritten-judges, rewritten-sound}
-use Rattle.passes.specs.UniqueLaws.{one-verdict}
+use Rattle.passes.proofs.SameVerdict.{rewritten-judges, rewritten-sound}
+use Rattle.passes.proofs.UniqueLaws.{one-verdict}
 use Rattle.passes.specs.declared.Verdict.{Verdict}
 use Rattle.plan.specs.Plan.{PlanFaulty}
 use Rattle.plan.specs.CompleteLaws.{plan-unique}
@@ -26,11 +26,11 @@ use Rattle.plan.specs.SameLettersLaws.{plan-alike, plan-fault-alike}
 use Rattle.plan_verdict.specs.declared.Outcome.{Outcome}
 use Rattle.plan_verdict.specs.Verdict.{SizesFit, Verdicts, Refusing, Judgement}
 use Rattle.reading.specs.Read.{Accepted}
-use Rattle.reading.specs.ReadLaws.{accepted-unrefused}
+use Rattle.reading.proofs.ReadLaws.{accepted-unrefused}
 use Rattle.editions.specs.Rewritten.{rewritten, rewritten_file}
-use Rattle.editions.specs.NumbersLaws.{numbers-rewritten}
-use Rattle.editions.specs.FileLaws.{accepted-rewritten}
-use Rattle.editions.specs.SameListing.{numbers-edition, carried, over-rewritten, fitted-rewritten}
+use Rattle.editions.proofs.NumbersLaws.{numbers-rewritten}
+use Rattle.editions.proofs.FileLaws.{accepted-rewritten}
+use Rattle.editions.proofs.SameListing.{numbers-edition, carried, over-rewritten, fitted-rewritten}
 
 -- names and withdrawals are as they were
 letters-rewritten : (σ : Sheet) → SameLetters σ (rewritten σ)

@@ -4,11 +4,11 @@ use Rattle.std.proofs.Common.{sym, subst}
 use Rattle.automaton.specs.Automaton.{Automaton, graph_of, Fits}
 use Rattle.automaton.specs.Endless.{EndlessFrom, MeetingFree}
 use Rattle.automaton.specs.EndlessLaws.{reading-endless}
-use Rattle.endless_words.specs.WithoutEndLaws.{eventually-least}
+use Rattle.endless_words.proofs.WithoutEndLaws.{eventually-least}
 use Rattle.tuple.specs.Step.{colour_entered}
 use Rattle.tuple.specs.Demand.{least-colour, demand-endless}
 use Rattle.filling.specs.TrackerTables.{TrackerTables, Fitted}
-use Rattle.passes.specs.FollowLaws.{entered-colour}
+use Rattle.passes.proofs.FollowLaws.{entered-colour}
 use Rattle.endless_words.specs.EndlessWord.{colours_on, LeastWithoutEnd, TracksWords}
 use Rattle.theory.specs.Endless.{LPO}
 

@@ -7,7 +7,7 @@ use Rattle.lent.specs.Lent.{EnoughForSets}
 use Rattle.format.specs.Format.{Withdrawal, Sheet, FileIs}
 use Rattle.format.specs.Numbers.{numbers}
 use Rattle.format.specs.Written.{longest_text, written_sheet, written}
-use Rattle.format.specs.NumbersLaws.{sheet-fits, sheet-in-force}
+use Rattle.format.proofs.NumbersLaws.{sheet-fits, sheet-in-force}
 use Rattle.reading.specs.Read.{Accepted}
 use Rattle.writer.specs.Writing.{writing, LettersRight}
 use Rattle.writer.specs.TrimmedLaws.{sheet-long, trimmed-numbers}

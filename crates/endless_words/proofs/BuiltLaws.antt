@@ -3,7 +3,7 @@ use Rattle.std.specs.Prelude.{ℕ, List}
 use Rattle.automaton.specs.Automaton.{Automaton, AreNumbers}
 use Rattle.format.specs.Format.{Sheet}
 use Rattle.format.specs.Numbers.{numbers}
-use Rattle.format.specs.NumbersLaws.{sheet-fits}
+use Rattle.format.proofs.NumbersLaws.{sheet-fits}
 use Rattle.reading.specs.Read.{Accepted}
 use Rattle.tracker.specs.declared.Tracker.{Tracker}
 use Rattle.tracker.specs.declared.Built.TheVariants.{Is}
@@ -13,7 +13,7 @@ use Rattle.building.specs.FileBuild.{Builds}
 use Rattle.building.specs.FileBuildLaws.{file-built}
 use Rattle.theory.specs.Endless.{LPO}
 use Rattle.endless_words.specs.EndlessWord.{TracksWords}
-use Rattle.endless_words.specs.Theorem.{endless-word}
+use Rattle.endless_words.proofs.Theorem.{endless-word}
 
 -- FROM NUMBERS: the sheet as numbers is A
 pub numbers-words : LPO → {A : Automaton} {room : ℕ} {before after : BuildNumbersTables} {x : Tracker} → BuildsNumbers A room before after (Is x)

@@ -7,7 +7,7 @@ use Rattle.tuple.specs.SameSteps.{SameSteps, same_back}
 use Rattle.tuple.specs.RewrittenStep.{rewritten-steps}
 use Rattle.numbering.proofs.SameNumbering.{same-numbering, same-tuple-cells, same-next-cells}
 use Rattle.filling.specs.TrackerTables.{TrackerTables, Fitted}
-use Rattle.filling.specs.FixedLaws.{SameNumbers, fitted-cells, fitted-once}
+use Rattle.filling.proofs.FixedLaws.{SameNumbers, fitted-cells, fitted-once}
 
 module _ {A B : Automaton} (same : SameSteps A B) where
   pub same-fitted : {room m : ℕ} {before after : TrackerTables} → Fitted A room before after m → Fitted B room before after m

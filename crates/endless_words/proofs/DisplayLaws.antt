@@ -6,17 +6,17 @@ use Rattle.automaton.specs.Automaton.{Automaton, graph_of, Fits}
 use Rattle.automaton.specs.Meeting.{Walk}
 use Rattle.automaton.specs.EndlessLaws.{reading-walk}
 use Rattle.automaton.specs.Reading.{Passes}
-use Rattle.endless_words.specs.WithoutEndLaws.{least-later}
+use Rattle.endless_words.proofs.WithoutEndLaws.{least-later}
 use Rattle.tuple.specs.RunLaws.{is-run}
 use Rattle.tuple.specs.DeadLaws.{NoWalk, dead-walkless, alive-walk, dead-after, dead-tuple, idle-dead}
 use Rattle.filling.specs.TrackerTables.{TrackerTables, Fitted}
 use Rattle.format.specs.Format.{Sheet, Withdrawn}
 use Rattle.format.specs.Numbers.{numbers}
-use Rattle.format.specs.NumbersLaws.{sheet-fits, sheet-in-force}
+use Rattle.format.proofs.NumbersLaws.{sheet-fits, sheet-in-force}
 use Rattle.reading.specs.Read.{Accepted}
 use Rattle.passes.specs.TableRun.{reached, entered_in}
 use Rattle.passes.specs.TableRunLaws.{reached-add}
-use Rattle.passes.specs.FollowLaws.{follows, same_number, entered-colour}
+use Rattle.passes.proofs.FollowLaws.{follows, same_number, entered-colour}
 use Rattle.endless_words.specs.EndlessWord.{colours_on, LeastWithoutEnd}
 
 -- NO OTHER MEMORY: of the first t letters nothing counts but the number that they lead to. From it the colours of the letters that follow are entered, and so is the

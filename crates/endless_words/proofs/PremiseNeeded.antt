@@ -15,7 +15,7 @@ use Rattle.automaton.specs.declared.Edition.TheVariants.{TransitionBased}
 use Rattle.tuple.specs.Step.{next, run, colour_entered}
 use Rattle.tuple.specs.Unfold.{tuple_unfold}
 use Rattle.filling.specs.TrackerTables.{TrackerTables, Fitted}
-use Rattle.passes.specs.FollowLaws.{entered-colour}
+use Rattle.passes.proofs.FollowLaws.{entered-colour}
 use Rattle.theory.specs.Endless.{LPO}
 use Rattle.endless_words.specs.EndlessWord.{colours_on, TracksWords}
 

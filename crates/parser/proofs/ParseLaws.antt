@@ -12,8 +12,8 @@ use Rattle.automaton.specs.declared.Edition.{Edition}
 use Rattle.format.specs.Format.{State, Transition, Withdrawal, Sheet, head_line, state_line, FlagsRight, name_lines, withdrawal_lines, state_lines, transition_lines, end_line, lines, least_after, most_sheet, FileIs, Above, NameDue, WithdrawalDue, StateDue, EndDue, line_due, EndFault, Faulty}
 use Rattle.format.specs.Numbers.{numbers}
 use Rattle.format.specs.Withdrawals.{superseding_of, TellWithdrawn}
-use Rattle.format.specs.WithdrawalLaws.{superseding-tell}
-use Rattle.format.specs.FormatLaws.{lines-parted}
+use Rattle.format.proofs.WithdrawalLaws.{superseding-tell}
+use Rattle.format.proofs.FormatLaws.{lines-parted}
 use Rattle.parser.specs.declared.Sizes.{Sizes}
 use Rattle.state_lines.specs.declared.Sets.{Sets}
 use Rattle.parser.specs.Parse.{head_of, empty_sets, Contents, contents, after_head, after_names, after_withdrawals, after_states, parse}

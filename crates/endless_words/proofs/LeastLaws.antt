@@ -4,7 +4,7 @@ use Rattle.std.specs.Prelude.{ℕ, zero, suc, ◌+◌, ◌≤◌, ◌≡◌, ◌
 use Rattle.std.proofs.Common.{subst, inl, inr, arith}
 use Rattle.std.proofs.Math.Decide.{ℕ_discrete}
 use Rattle.theory.specs.Run.{EnteredWithoutEnd, Least}
-use Rattle.endless_words.specs.WithoutEndLaws.{eventually-least, one-least}
+use Rattle.endless_words.proofs.WithoutEndLaws.{eventually-least, one-least}
 use Rattle.theory.specs.Endless.{LPO}
 use Rattle.endless_words.specs.EndlessWord.{LeastWithoutEnd}
 use Rattle.endless_words.specs.PremiseLaws.{recurs-or-stops}

@@ -7,7 +7,7 @@ use Rattle.superseding.specs.Superseding.{chain_end, final_letter}
 use Rattle.format.specs.Format.{Withdrawal, WithdrawalsRight, Withdrawn, InForce}
 use Rattle.format.specs.StandsFor.{Finally, itself, through}
 use Rattle.format.specs.Withdrawals.{superseding_of}
-use Rattle.format.specs.WithdrawalLaws.{supersedes-right, withdrawn-or-not, superseded-cell, force-cell, one-superseding}
+use Rattle.format.proofs.WithdrawalLaws.{supersedes-right, withdrawn-or-not, superseded-cell, force-cell, one-superseding}
 
 -- the letter that finally stands is in force
 pub finally-in-force : {ws : List Withdrawal} {e l : ℕ} → Finally ws e l → InForce ws e

@@ -12,7 +12,7 @@ use Rattle.format.specs.Numbers.{numbers}
 use Rattle.sheet_sections.specs.SizeLaws.{right-size}
 use Rattle.reading.specs.Read.{Accepted}
 use Rattle.editions.specs.Rewritten.{marking, unflagging, rewritten, rewritten_file}
-use Rattle.editions.specs.NumbersLaws.{numbers-rewritten}
+use Rattle.editions.proofs.NumbersLaws.{numbers-rewritten}
 
 -- EACH LINE answers yes
 

@@ -1,0 +1,4 @@
+pub mod NumbersLaws
+pub mod FileLaws
+pub mod SameListing
+pub mod SamePlans

@@ -1,0 +1,4 @@
+pub mod ParseLaws
+pub mod CompleteLaws
+pub mod UniqueLaws
+pub mod LettersOfLaws

@@ -1,0 +1,4 @@
+pub mod UniqueLaws
+pub mod FollowLaws
+pub mod SoundLaws
+pub mod SameVerdict
