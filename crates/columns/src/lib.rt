@@ -22,6 +22,7 @@ pub enum Pair {
 }
 
 // The digit that a byte is, and 0 for any other byte.
+#[tactic(auto, using(std::proofs::lemmas::Bool::Decides::nat_tests), unfolding(crate::specs::Number::digit_of))]
 fn digit(b: u8) -> usize
     ensures { (result ≡ digit_of b) × (result < 10) }
 {

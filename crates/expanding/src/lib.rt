@@ -21,6 +21,7 @@ fn enter(a: Numbers, table: &[u16], marks: &[u16], tuples: &[u16], c: usize, w: 
 }
 
 // Step c: the number of the tuple that it enters is noted, and the tuple added, with the step as its way back, where it is new and there is room.
+#[tactic(auto, using(crate::specs::ExpandLaws::goes_over))]
 pub fn expand(
     a: Numbers,
     table: &[u16],

@@ -34,6 +34,9 @@ pub spaced-two : {v : ℕ} → 10 ≤ v → spaced v ≡ space ∷ column 2 v
 unfolding spaced
 spaced-two {v} h = simp (le-ltb v 10 h)
 
+-- in one column, or in two
+pub ruleset spaced_in = (spaced-one, spaced-two)
+
 pub spaced-length : (v w : ℕ) → spaced v ≡ space ∷ column w v → length (spaced v) ≡ 1 + w
 spaced-length v w e = ap length e ∙ omega (arith, column-length w v)
 

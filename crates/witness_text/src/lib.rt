@@ -9,6 +9,7 @@ ghost use Rattle.witness_text.specs.WitnessText.{spaced, cells_line, witness_tex
 ghost use Rattle.witness_text.specs.Put.{spaced_cells, WrittenAt, CellsThere};
 
 // In how many columns a letter or a state stands: one or two.
+#[tactic(auto, using(crate::specs::PutLaws::spaced_in))]
 fn digits(v: usize) -> usize
     ensures { (spaced v ≡ space ∷ column result v) × (result ≤ 2) }
 {

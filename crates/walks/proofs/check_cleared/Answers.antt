@@ -1,5 +1,6 @@
 -- The questions in their order; each answer is what its call ensures. Assumes nothing.
 use mathlib.Core.Path.{◌≡◌, refl, sym, subst}
+use native.Mathlib.Omega.{arith}
 use Rattle.automaton.specs.Automaton.{automaton, graph_of, Fits}
 use Rattle.automaton.specs.Graph.{Graph, graph}
 use Rattle.automaton.specs.QuestionLaws.{same_graph, fits-graph}
@@ -56,4 +57,4 @@ returns-then-length-eq0 c =
 pub returns : goal.returns
 returns c =
     let at = goal.at.returns c in
-    NumbersRefuse.meeting (fits at.Else-number-ne0) (meets-answered (answer at.After-ask-length) c.if-length-eq0.false)
+    NumbersRefuse.meeting (fits at.Else-number-ne0) (meets-answered (answer at.After-ask-length) (omega arith))
