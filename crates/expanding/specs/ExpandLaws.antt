@@ -282,13 +282,3 @@ module _ {A : Automaton} {room c m t : ℕ} {tuples nexts head link w tuples' he
         fitting = λ l. absurd (omega arith);
         over = λ l. filled-over g.filled g.taken (none (omega arith)) (omega arith);
       }
-
--- where there is no room for the row, too many are found
-pub over_told : {A : Automaton} {room c m t : ℕ} {tuples nexts head link w tuples' head' link' : List ℕ} {way : WayBack} → Filled A room c m tuples nexts head link → c / 8 < m
-    → c % 8 < A.k → w ≡ row (next A (c % 8) (tuple_of (row_at tuples (c / 8)))) → FoundOrAdded tuples tuples' m room w way head' link' t → room ≤ t
-    → room < length (found A (c + 1))
-over_told f from letter e placed k =
-    let p = placed.found.most in
-    let q = f.room-is in
-    let s : Taken A c m = record { from = from; letter = letter } in
-    filled-over f s (λ i j x. placed.found.none (omega arith) i j (x ∙ sym (e ∙ fill-enters f s))) (omega arith)

@@ -21,7 +21,6 @@ fn enter(a: Numbers, table: &[u16], marks: &[u16], tuples: &[u16], c: usize, w: 
 }
 
 // Step c: the number of the tuple that it enters is noted, and the tuple added, with the step as its way back, where it is new and there is room.
-#[tactic(auto, using(crate::specs::ExpandLaws::goes_over))]
 pub fn expand(
     a: Numbers,
     table: &[u16],
@@ -47,7 +46,8 @@ pub fn expand(
         letter: (c % 8) as u16,
     };
     let t = rows::find_or_add(tuples, m, room, &w, way, head, link);
-    if room <= t {
+    let over = room <= t;
+    if over {
         return m + 1;
     }
     nexts[c] = t as u16;

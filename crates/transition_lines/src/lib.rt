@@ -68,6 +68,7 @@ fn unmarked_line(
 }
 
 // The line at `at` of an SHT-2 file, behind its first number: letter, to and mark.
+#[tactic(auto, using(std::proofs::lemmas::Bool::Decides::nat_tests), unfolding(crate::specs::TransitionLines::line_from, crate::specs::TransitionLines::marked_one))]
 fn marked_line(s: &[u8], at: usize, n: usize, k: usize, least: usize, from: usize) -> TransitionLine
     requires { (at < 2 ^ 30) × (n ≤ 16) × (k ≤ 8) }
     ensures { (result ≡ line_from TransitionBased s.now at n k least from) × TransitionFits result }

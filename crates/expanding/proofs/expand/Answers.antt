@@ -5,7 +5,7 @@ use native.Mathlib.Omega.{arith}
 use lib.ListN.{length}
 use Rattle.automaton.specs.Automaton.{automaton}
 use Rattle.expanding.specs.Expand.{Taken}
-use Rattle.expanding.specs.ExpandLaws.{fill-steps, Looked, over_told, goes-skip, goes-old, goes-new}
+use Rattle.expanding.specs.ExpandLaws.{fill-steps, Looked, goes-skip, goes-old, goes-new, goes_over}
 use Rattle.expanding.proofs.expand.Goals as goal
 use Rattle.expanding.proofs.expand.Goals.{After-find_or_add-t, Else-a-c}
 
@@ -53,6 +53,9 @@ overflow_cast-way-2 c = omega arith
 pub overflow_add-result : goal.overflow_add-result
 overflow_add-result c = let h = bounds (goal.at.overflow_add-result c).Else-a-c in omega arith
 
+pub returns-then-over : goal.returns-then-over
+returns-then-over c = goes_over (looked (goal.at.returns-then-over c).After-find_or_add-t) c.if-over.true
+
 pub overflow_cast-nexts : goal.overflow_cast-nexts
 overflow_cast-nexts c = let h = bounds (goal.at.overflow_cast-nexts c).Else-a-c in omega arith
 
@@ -63,10 +66,7 @@ pub bounds-nexts-c : goal.bounds-nexts-c
 bounds-nexts-c c = let h = bounds (goal.at.bounds-nexts-c c).Else-a-c in omega arith
 
 pub returns-then-t-m : goal.returns-then-t-m
-returns-then-t-m c = goes-old (looked (goal.at.returns-then-t-m c).After-find_or_add-t) (omega arith)
+returns-then-t-m c = goes-old (looked (goal.at.returns-then-t-m c).After-find_or_add-t) c.if-t-m.true
 
 pub returns : goal.returns
-returns c = goes-new (looked (goal.at.returns c).After-find_or_add-t) (omega arith) (omega arith)
-
-pub returns-then-room-t : goal.returns-then-room-t
-returns-then-room-t c = grind (arith, over_told)
+returns c = goes-new (looked (goal.at.returns c).After-find_or_add-t) c.if-t-m.false c.if-over.false

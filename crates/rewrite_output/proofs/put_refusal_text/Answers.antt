@@ -19,4 +19,4 @@ returns-then-r-eq10 c =
 pub returns : goal.returns
 returns c =
     let a = c.args in
-    written-other a.r (witness_tables a.word.now a.one.now a.other.now) c.refusal_line-line.ensures c.put_bytes.ensures c.if-r-eq10.false
+    written-other a.r (witness_tables a.word.now a.one.now a.other.now) c.refusal_line-line.ensures c.put_bytes.ensures (omega arith)

@@ -1,7 +1,8 @@
 -- Each answer is what the tests passed make of the definition. Assumes nothing.
 use Prim.Native.Nat.{◌+◌}
 use mathlib.Core.Path.{◌≡◌, sym, ◌∙◌}
-use borrow.Author.Tests.{lt-leb, le-leb}
+use native.Mathlib.Omega.{arith}
+use borrow.Author.Tests.{le-leb}
 use Rattle.columns.specs.Pair.{pair_at, with_pair}
 use Rattle.automaton.specs.declared.Edition.TheVariants.{TransitionBased}
 use Rattle.transition_lines.specs.TransitionLines.{marked_one, line_from}
@@ -32,12 +33,7 @@ pub returns-in_default-pair_at : goal.returns-in_default-pair_at
 returns-in_default-pair_at c =
     (sym (behind (goal.at.returns-in_default-pair_at c).In-Is ∙ simp (sym c.pair_at.ensures, c.in_default-pair_at.is)), tt)
 
-pub returns-then-mark-gt1 : goal.returns-then-mark-gt1
-unfolding marked_one
-returns-then-mark-gt1 c =
-    (sym (last (goal.at.returns-then-mark-gt1 c).In-Are ∙ simp (lt-leb _ _ c.if-mark-gt1.true)), tt)
-
 pub returns : goal.returns
 unfolding marked_one
 returns c =
-    (sym (last (goal.at.returns c).In-Are ∙ simp (le-leb _ _ c.if-mark-gt1.false, sym c.transition_of.ensures.0)), c.transition_of.ensures.1)
+    (sym (last (goal.at.returns c).In-Are ∙ simp (le-leb c.in-Are.mark 1 (omega arith), sym c.transition_of.ensures.0)), c.transition_of.ensures.1)
