@@ -1,26 +1,17 @@
 -- The answers of the public calls in numbers, for callers that have no enums: the cells of each answer.
-use Rattle.std.specs.Prelude.{ℕ, ◌≡◌, List, [], ◌∷◌, eqb}
+use Rattle.std.specs.Prelude.{ℕ, ◌≡◌, List, [], ◌∷◌, eqb, Err, None, Ok, Option, Result, Some}
+use Rattle.tracker.specs.declared.Tracker.{Tracker}
+use Rattle.passes.specs.declared.Verdict.{Verdict}
+use Rattle.gate.specs.declared.Refusal.{Refusal}
 use Rattle.lists.specs.Choice.{choose}
 use Rattle.cells.specs.Cells.{into, refusal_cells}
 use Rattle.automaton.specs.Automaton.{Automaton}
 use Rattle.automaton.specs.declared.Edition.{Edition}
 use Rattle.automaton.specs.declared.Edition.TheVariants.{StateBased, TransitionBased}
 use Rattle.automaton.specs.declared.Numbers.{Numbers}
-use Rattle.walks.specs.declared.Checked.{Checked}
-use Rattle.walks.specs.declared.Checked.TheVariants.{Refused as CheckRefused, Accepted}
 use Rattle.letters.specs.Letters.{NameIs}
-use Rattle.reading.specs.declared.Read.{Read}
-use Rattle.reading.specs.declared.Read.TheVariants.{Refused as ReadRefused, Is as ReadIs}
-use Rattle.letter_search.specs.declared.Found.{Found}
-use Rattle.letter_search.specs.declared.Found.TheVariants.{Refused as FindRefused, Letter}
-use Rattle.tracker.specs.declared.Built.{Built}
-use Rattle.tracker.specs.declared.Built.TheVariants.{Refused as BuildRefused, Is as BuildIs}
-use Rattle.file_way.specs.declared.Way.{Way}
-use Rattle.file_way.specs.declared.Way.TheVariants.{Refused as WayRefused, NoSuchTuple, Letters}
 use Rattle.passes.specs.declared.Answer.{Answer}
 use Rattle.passes.specs.declared.Answer.TheVariants.{Yes, No}
-use Rattle.plan_verdict.specs.declared.Outcome.{Outcome}
-use Rattle.plan_verdict.specs.declared.Outcome.TheVariants.{Refused as JudgeRefused, Judged}
 
 -- an edition in a number: 1 for SHEET, 2 for SHT-2
 abbrev pub edition_cell : Edition → ℕ
@@ -38,39 +29,39 @@ as_numbers e n k initial recurring table marks =
 
 -- THE CELLS OF EACH ANSWER. As with a written text, the first cell tells the case, and 0 is a refusal.
 
-abbrev pub checked_cells : Checked → List ℕ
-checked_cells (CheckRefused r) = refusal_cells r
-checked_cells Accepted = 1 ∷ []
+abbrev pub checked_cells : Result Unit Refusal → List ℕ
+checked_cells (Err r) = refusal_cells r
+checked_cells (Ok tt) = 1 ∷ []
 
 abbrev pub sheet_cells : Numbers → List ℕ
 sheet_cells a = edition_cell a.edition ∷ a.n ∷ a.k ∷ a.initial ∷ a.recurring ∷ []
 
-abbrev pub read_cells : Read → List ℕ
-read_cells (ReadRefused r) = refusal_cells r
-read_cells (ReadIs a) = 1 ∷ sheet_cells a
+abbrev pub read_cells : Result Numbers Refusal → List ℕ
+read_cells (Err r) = refusal_cells r
+read_cells (Ok a) = 1 ∷ sheet_cells a
 
-abbrev pub found_cells : Found → List ℕ
-found_cells (FindRefused r) = refusal_cells r
-found_cells (Letter l) = 1 ∷ l ∷ []
+abbrev pub found_cells : Result ℕ Refusal → List ℕ
+found_cells (Err r) = refusal_cells r
+found_cells (Ok l) = 1 ∷ l ∷ []
 
-abbrev pub built_cells : Built → List ℕ
-built_cells (BuildRefused r) = refusal_cells r
-built_cells (BuildIs x) = 1 ∷ edition_cell x.numbers.edition ∷ x.numbers.n ∷ x.numbers.k ∷ x.numbers.initial ∷ x.numbers.recurring ∷ x.tuples ∷ []
+abbrev pub built_cells : Result Tracker Refusal → List ℕ
+built_cells (Err r) = refusal_cells r
+built_cells (Ok x) = 1 ∷ edition_cell x.numbers.edition ∷ x.numbers.n ∷ x.numbers.k ∷ x.numbers.initial ∷ x.numbers.recurring ∷ x.tuples ∷ []
 
 -- the way to a tuple: 1 and the word's length, or 2 where there is no such tuple
-abbrev pub way_cells : Way → List ℕ
-way_cells (WayRefused r) = refusal_cells r
-way_cells NoSuchTuple = 2 ∷ []
-way_cells (Letters size) = 1 ∷ size ∷ []
+abbrev pub way_cells : Result (Option ℕ) Refusal → List ℕ
+way_cells (Err r) = refusal_cells r
+way_cells (Ok None) = 2 ∷ []
+way_cells (Ok (Some size)) = 1 ∷ size ∷ []
 
 -- a judged plan: 1 for yes, 2 for no
 abbrev pub answer_cell : Answer → ℕ
 answer_cell Yes = 1
 answer_cell No = 2
 
-abbrev pub outcome_cells : Outcome → List ℕ
-outcome_cells (JudgeRefused r) = refusal_cells r
-outcome_cells (Judged z) = answer_cell z.answer ∷ z.least ∷ z.passes ∷ []
+abbrev pub outcome_cells : Result Verdict Refusal → List ℕ
+outcome_cells (Err r) = refusal_cells r
+outcome_cells (Ok z) = answer_cell z.answer ∷ z.least ∷ z.passes ∷ []
 
 -- the name of a letter, with its bytes in a lent buffer that was b and is c
 pub record NameCopied (s : List ℕ) (letter : ℕ) (b c : List ℕ) (name : List ℕ) : Type 0 where

@@ -1,18 +1,15 @@
 // The answers of the public calls in numbers: each by its cells, in a lent table.
 #![tactic(auto)]
 
-ghost use Rattle.std.specs.Prelude.{◌≡◌};
+ghost use Rattle.std.specs.Prelude.{◌≡◌, List, ℕ};
+ghost use Rattle.automaton.specs.Automaton.{automaton};
 ghost use Rattle.cells.specs.Cells.{into};
-ghost use Rattle.answers.specs.Answer.{edition_cell, edition_numbered, checked_cells, read_cells, found_cells, built_cells, way_cells, answer_cell, outcome_cells};
+ghost use Rattle.answers.specs.Answer.{edition_cell, edition_numbered, as_numbers, checked_cells, read_cells, found_cells, built_cells, way_cells, answer_cell, outcome_cells};
 
-use automaton::Edition;
-use file_way::Way;
-use letter_search::Found;
-use passes::Answer;
-use plan_verdict::Outcome;
-use reading::Read;
-use tracker::Built;
-use walks::Checked;
+use automaton::{Edition, Numbers};
+use gate::Refusal;
+use passes::{Answer, Verdict};
+use tracker::Tracker;
 
 // 1 for SHEET, 2 for SHT-2.
 fn edition_cell(edition: Edition) -> usize
@@ -34,13 +31,27 @@ pub fn edition_of(number: usize) -> Edition
     Edition::StateBased
 }
 
+// A sheet's numbers, from a call's plain ones.
+pub fn numbers_of(edition: usize, n: usize, k: usize, initial: u16, recurring: u16) -> Numbers
+    ensures { (table marks : List ℕ) → automaton result table marks
+        ≡ as_numbers (edition_numbered edition) n k initial recurring table marks }
+{
+    Numbers {
+        edition: edition_of(edition),
+        n,
+        k,
+        initial,
+        recurring,
+    }
+}
+
 // What a check answers.
-pub fn put_checked(r: Checked, answer: &mut [usize])
+pub fn put_checked(r: Result<(), Refusal>, answer: &mut [usize])
     ensures { answer.new ≡ into answer.old (checked_cells r) }
 {
     match r {
-        Checked::Refused(x) => cells::put_refused(x, answer),
-        Checked::Accepted => {
+        Err(x) => cells::put_refused(x, answer),
+        Ok(()) => {
             let cells = [1];
             cells::copy_numbers(&cells, answer);
         }
@@ -48,12 +59,12 @@ pub fn put_checked(r: Checked, answer: &mut [usize])
 }
 
 // What reading a sheet answers.
-pub fn put_read(r: Read, answer: &mut [usize])
+pub fn put_read(r: Result<Numbers, Refusal>, answer: &mut [usize])
     ensures { answer.new ≡ into answer.old (read_cells r) }
 {
     match r {
-        Read::Refused(x) => cells::put_refused(x, answer),
-        Read::Is(a) => {
+        Err(x) => cells::put_refused(x, answer),
+        Ok(a) => {
             let edition = a.edition;
             let cells = [
                 1,
@@ -69,12 +80,12 @@ pub fn put_read(r: Read, answer: &mut [usize])
 }
 
 // What the search for a name answers.
-pub fn put_found(r: Found, answer: &mut [usize])
+pub fn put_found(r: Result<usize, Refusal>, answer: &mut [usize])
     ensures { answer.new ≡ into answer.old (found_cells r) }
 {
     match r {
-        Found::Refused(x) => cells::put_refused(x, answer),
-        Found::Letter(l) => {
+        Err(x) => cells::put_refused(x, answer),
+        Ok(l) => {
             let cells = [1, l];
             cells::copy_numbers(&cells, answer);
         }
@@ -82,12 +93,12 @@ pub fn put_found(r: Found, answer: &mut [usize])
 }
 
 // What building a tracker answers.
-pub fn put_built(r: Built, answer: &mut [usize])
+pub fn put_built(r: Result<Tracker, Refusal>, answer: &mut [usize])
     ensures { answer.new ≡ into answer.old (built_cells r) }
 {
     match r {
-        Built::Refused(x) => cells::put_refused(x, answer),
-        Built::Is(x) => {
+        Err(x) => cells::put_refused(x, answer),
+        Ok(x) => {
             let a = x.numbers;
             let edition = a.edition;
             let cells = [
@@ -105,16 +116,16 @@ pub fn put_built(r: Built, answer: &mut [usize])
 }
 
 // What the question for the way to a tuple answers.
-pub fn put_way(r: Way, answer: &mut [usize])
+pub fn put_way(r: Result<Option<usize>, Refusal>, answer: &mut [usize])
     ensures { answer.new ≡ into answer.old (way_cells r) }
 {
     match r {
-        Way::Refused(x) => cells::put_refused(x, answer),
-        Way::NoSuchTuple => {
+        Err(x) => cells::put_refused(x, answer),
+        Ok(None) => {
             let cells = [2];
             cells::copy_numbers(&cells, answer);
         }
-        Way::Letters(size) => {
+        Ok(Some(size)) => {
             let cells = [1, size];
             cells::copy_numbers(&cells, answer);
         }
@@ -132,12 +143,12 @@ fn answer_cell(answer: Answer) -> usize
 }
 
 // What the verdict on a plan answers.
-pub fn put_outcome(r: Outcome, answer: &mut [usize])
+pub fn put_outcome(r: Result<Verdict, Refusal>, answer: &mut [usize])
     ensures { answer.new ≡ into answer.old (outcome_cells r) }
 {
     match r {
-        Outcome::Refused(x) => cells::put_refused(x, answer),
-        Outcome::Judged(z) => {
+        Err(x) => cells::put_refused(x, answer),
+        Ok(z) => {
             let told = z.answer;
             let cells = [answer_cell(told), z.least as usize, z.passes];
             cells::copy_numbers(&cells, answer);

@@ -8,8 +8,9 @@ ghost use Rattle.filling.specs.TrackerTables.{tracker_tables};
 ghost use Rattle.tracker.specs.Build.{build_tables, EnoughToBuild};
 ghost use Rattle.building.specs.FileBuild.{BuildsNamed};
 
-use reading::{Read, read_long};
-use tracker::Built;
+use gate::Refusal;
+use reading::read_long;
+use tracker::Tracker;
 
 // Questions 2 to 11 on a sheet file, in tables that are long enough: its tracker, and its composed names in rows. A refusal leaves the rows all zero.
 pub fn build_long(
@@ -23,7 +24,7 @@ pub fn build_long(
     word: &mut [u16],
     one: &mut [u16],
     other: &mut [u16],
-) -> Built
+) -> Result<Tracker, Refusal>
     requires { EnoughToBuild room (build_tables (transition_sets table.old marks.old) (witness_tables word.old one.old other.old) (tracker_tables tuples.old nexts.old)) × (224 ≤ length rows.old) }
     ensures { BuildsNamed sheet.now room
         (build_tables (transition_sets table.old marks.old) (witness_tables word.old one.old other.old) (tracker_tables tuples.old nexts.old))
@@ -31,13 +32,13 @@ pub fn build_long(
         rows.old rows.new result }
 {
     match read_long(sheet, table, marks, rows, word, one, other) {
-        Read::Refused(r) => {
+        Err(r) => {
             filling::clear(tuples, nexts);
-            Built::Refused(r)
+            Err(r)
         }
-        Read::Is(a) => {
+        Ok(a) => {
             let built = tracker::track(a, &table[..128], &marks[..128], room, tuples, nexts);
-            if let Built::Refused(_) = built {
+            if let Err(_) = built {
                 lent::clear_sets(table, marks);
                 gate::clear_bytes(rows);
             }

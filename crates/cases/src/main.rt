@@ -4,13 +4,9 @@
 
 ghost use Rattle.std.specs.Prelude.{◌<◌, ◌≤◌, length};
 
-use file_way::Way;
-use gate::Written;
 use passes::Verdict;
-use plan_verdict::Outcome;
 use std::io::{Print, Stdout};
 use std::{fs, io};
-use stdin::Input;
 
 fn say(screen: Stdout, text: &[u8]) -> io::Result<()> {
     screen.write_all(text)
@@ -20,16 +16,6 @@ fn say(screen: Stdout, text: &[u8]) -> io::Result<()> {
 fn show(screen: Stdout, out: &[u8], n: usize) -> io::Result<()> {
     if n <= out.len() {
         return say(screen, &out[..n]);
-    }
-    Ok(())
-}
-
-// A number, right-justified in w columns.
-fn say_column(screen: Stdout, w: usize, v: usize) -> io::Result<()> {
-    let mut out = [0u8; 6];
-    if w <= 6 {
-        columns::put_column(&mut out, 0, w, v);
-        return show(screen, &out, w);
     }
     Ok(())
 }
@@ -50,34 +36,20 @@ fn add(sum: usize, b: u16) -> usize {
     (sum % 65521 * 31 + b as usize) % 65521
 }
 
-// A length and a sum.
-fn say_counted(screen: Stdout, name: &[u8], n: usize, sum: usize) -> io::Result<()> {
+// A name, and the count of the first n items of a text or a word, with their sum.
+fn say_counted<T: Copy + Into<u16>>(
+    screen: Stdout,
+    name: &[u8],
+    items: &[T],
+    n: usize,
+) -> io::Result<()> {
+    let mut sum = 0;
+    for item in items.iter().take(n) {
+        sum = add(sum, (*item).into());
+    }
     say(screen, name)?;
     say(screen, b" ")?;
-    say_column(screen, 6, n)?;
-    say_column(screen, 6, sum)
-}
-
-// The length of the first n bytes of a text, and their sum.
-fn say_text(screen: Stdout, name: &[u8], out: &[u8], n: usize) -> io::Result<()> {
-    let mut sum = 0;
-    for i in 0..n {
-        if i < out.len() {
-            sum = add(sum, out[i] as u16);
-        }
-    }
-    say_counted(screen, name, n, sum)
-}
-
-// The same of a word's first n letters.
-fn say_word(screen: Stdout, letters: &[u16], n: usize) -> io::Result<()> {
-    let mut sum = 0;
-    for i in 0..n {
-        if i < letters.len() {
-            sum = add(sum, letters[i]);
-        }
-    }
-    say_counted(screen, b"WAY ", n, sum)
+    print!(screen; "{n:6}{sum:6}")
 }
 
 fn say_listing(screen: Stdout, sheet: &[u8], room: usize) -> io::Result<()> {
@@ -101,8 +73,8 @@ fn say_listing(screen: Stdout, sheet: &[u8], room: usize) -> io::Result<()> {
         &mut other,
         &mut out,
     ) {
-        Written::Bytes(n) => say_text(screen, b"LIST", &out, n),
-        Written::Refused(r) => say_line(screen, report::refusal_line(r)),
+        Ok(n) => say_counted(screen, b"LIST", &out, n),
+        Err(r) => say_line(screen, report::refusal_line(r)),
     }
 }
 
@@ -112,8 +84,8 @@ fn say_copy(screen: Stdout, sheet: &[u8]) -> io::Result<()> {
     let mut other = [0u16; 137];
     let mut out = [0u8; 32768];
     match file_writer::write(sheet, &mut word, &mut one, &mut other, &mut out) {
-        Written::Bytes(n) => say_text(screen, b"COPY", &out, n),
-        Written::Refused(r) => say_line(screen, report::refusal_line(r)),
+        Ok(n) => say_counted(screen, b"COPY", &out, n),
+        Err(r) => say_line(screen, report::refusal_line(r)),
     }
 }
 
@@ -139,9 +111,9 @@ fn say_way(screen: Stdout, sheet: &[u8], room: usize, t: usize) -> io::Result<()
         &mut other,
         &mut letters,
     ) {
-        Way::Letters(n) => say_word(screen, &letters, n),
-        Way::NoSuchTuple => say(screen, b"NONE"),
-        Way::Refused(r) => say_line(screen, report::refusal_line(r)),
+        Ok(Some(n)) => say_counted(screen, b"WAY ", &letters, n),
+        Ok(None) => say(screen, b"NONE"),
+        Err(r) => say_line(screen, report::refusal_line(r)),
     }
 }
 
@@ -165,8 +137,8 @@ fn say_judgement(screen: Stdout, sheet: &[u8], plan: &[u8], room: usize) -> io::
         &mut one,
         &mut other,
     ) {
-        Outcome::Judged(v) => say_verdict(screen, v),
-        Outcome::Refused(r) => say_line(screen, report::refusal_line(r)),
+        Ok(v) => say_verdict(screen, v),
+        Err(r) => say_line(screen, report::refusal_line(r)),
     }
 }
 
@@ -232,9 +204,7 @@ fn run(rt: &HostRuntime, number: usize) -> io::Result<bool> {
         return Ok(false);
     };
     let mut buf = [0u8; 65536];
-    let Input::Bytes(n) = stdin::read(&mut file, &mut buf) else {
-        return Err(io::ErrorKind::Other.into());
-    };
+    let n = stdin::read(&mut file, &mut buf).map_err(|_| io::ErrorKind::Other)?;
     say_case(rt.stdout(), &name, &buf[..n], number)?;
     Ok(true)
 }

@@ -1,9 +1,11 @@
 -- A list in the cells of a lent table; the answer of a call in numbers, for callers that have no enums; the cells of a name, a refusal, a written text.
-use Rattle.std.specs.Prelude.{ℕ, ◌≡◌, List, [], ◌∷◌, length, take}
+use Rattle.std.specs.Prelude.{ℕ, ◌≡◌, ◌-◌, List, [], ◌∷◌, ◌++◌, length, replicate, take, Err, Ok, Result}
 use Rattle.gate.specs.Gate.{padded}
 use Rattle.gate.specs.declared.Refusal.{Refusal}
-use Rattle.gate.specs.declared.Written.{Written}
-use Rattle.gate.specs.declared.Written.TheVariants.{Refused as WriteRefused, Bytes}
+
+-- as much of a list as a table holds, with `filler` behind it
+abbrev pub filled : {T : Type 0} → T → List T → List T → List T
+filled filler table list = take (length table) (list ++ replicate (length table - length list) filler)
 
 -- as much of a list as a lent table holds, with zeros behind it
 abbrev pub into : List ℕ → List ℕ → List ℕ
@@ -24,9 +26,9 @@ number_cells r = r.number ∷ r.line ∷ r.length ∷ []
 abbrev pub refusal_cells : Refusal → List ℕ
 refusal_cells r = 0 ∷ number_cells r
 
-abbrev pub written_cells : Written → List ℕ
-written_cells (WriteRefused r) = refusal_cells r
-written_cells (Bytes count) = 1 ∷ count ∷ []
+abbrev pub written_cells : Result ℕ Refusal → List ℕ
+written_cells (Err r) = refusal_cells r
+written_cells (Ok count) = 1 ∷ count ∷ []
 
 -- a name: how many bytes it has
 abbrev pub name_cells : List ℕ → List ℕ

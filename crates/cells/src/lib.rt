@@ -1,38 +1,32 @@
 // Numbers and bytes in lent tables: a list copied into as many cells as there are, and the cells of a name, of a refusal, of a written text.
 #![tactic(auto)]
 
-ghost use Rattle.std.specs.Prelude.{◌≡◌, get_or};
-ghost use Rattle.cells.specs.Cells.{into, name_cells, number_cells, refusal_cells, written_cells};
+ghost use Rattle.std.specs.Prelude.{◌≡◌};
+ghost use Rattle.cells.specs.Cells.{filled, into, name_cells, number_cells, refusal_cells, written_cells};
 
-use gate::{Refusal, Written};
+use gate::Refusal;
 
-// A number of a list, and 0 past its end.
-fn cell_at(list: &[usize], i: usize) -> usize
-    ensures { result ≡ get_or list.now i 0 }
+// A list in the front of a table, as much of it as the table holds, and `filler` in the cells behind it.
+fn copy_filled<T: Copy>(list: &[T], table: &mut [T], filler: T)
+    ensures { table.new ≡ filled filler table.old list.now }
 {
-    if i < list.len() { list[i] } else { 0 }
+    for (i, cell) in table.iter_mut().enumerate() {
+        *cell = list.get(i).copied().unwrap_or(filler);
+    }
 }
 
 // As many numbers as the table holds, with zeros behind them.
 pub fn copy_numbers(list: &[usize], answer: &mut [usize])
     ensures { answer.new ≡ into answer.old list.now }
 {
-    let mut i = 0;
-    while i < answer.len() {
-        answer[i] = cell_at(list, i);
-        i += 1;
-    }
+    copy_filled(list, answer, 0);
 }
 
 // As many bytes as the buffer holds, with zeros behind them.
 pub fn copy_bytes(list: &[u8], out: &mut [u8])
     ensures { out.new ≡ into out.old list.now }
 {
-    let mut i = 0;
-    while i < out.len() {
-        out[i] = text::byte_at(list, i);
-        i += 1;
-    }
+    copy_filled(list, out, 0);
 }
 
 // The length of a name.
@@ -60,12 +54,12 @@ pub fn put_refused(r: Refusal, answer: &mut [usize])
 }
 
 // What writing a text answers.
-pub fn put_written(r: Written, answer: &mut [usize])
+pub fn put_written(r: Result<usize, Refusal>, answer: &mut [usize])
     ensures { answer.new ≡ into answer.old (written_cells r) }
 {
     match r {
-        Written::Refused(x) => put_refused(x, answer),
-        Written::Bytes(count) => {
+        Err(x) => put_refused(x, answer),
+        Ok(count) => {
             let cells = [1, count];
             copy_numbers(&cells, answer);
         }

@@ -1,10 +1,8 @@
 -- A number of a file, read: "decimal, right-justified with spaces in fixed columns, no leading zeros", three columns wide.
 -- Read loosely, and then the three bytes must be the writing of what they come to.
-use Rattle.std.specs.Prelude.{ℕ, ◌+◌, ◌-◌, ◌*◌, Bool, false, ◌&&◌, List, get_or, ltb, leb, eqb}
+use Rattle.std.specs.Prelude.{ℕ, ◌+◌, ◌-◌, ◌*◌, Bool, false, ◌&&◌, List, get_or, ltb, leb, eqb, None, Option, Some}
 use Rattle.lists.specs.Choice.{choose}
 use Rattle.columns.specs.Column.{digit_byte}
-use Rattle.columns.specs.declared.Number.{Number}
-use Rattle.columns.specs.declared.Number.TheVariants.{Is, Bad}
 
 -- the digit that a byte is; any other byte counts 0
 unfoldable pub digit_of : ℕ → ℕ
@@ -15,20 +13,20 @@ unfoldable pub value_of : ℕ → ℕ → ℕ → ℕ
 value_of a b c = digit_of a * 100 + digit_of b * 10 + digit_of c
 
 -- the number that three bytes are, if they are its writing
-unfoldable pub number_of : ℕ → ℕ → ℕ → Number
+unfoldable pub number_of : ℕ → ℕ → ℕ → Option ℕ
 number_of a b c =
     choose (eqb a (digit_byte 2 (value_of a b c)))
-    (choose (eqb b (digit_byte 1 (value_of a b c))) (choose (eqb c (digit_byte 0 (value_of a b c))) (Is (value_of a b c)) Bad) Bad)
-    Bad
+    (choose (eqb b (digit_byte 1 (value_of a b c))) (choose (eqb c (digit_byte 0 (value_of a b c))) (Some (value_of a b c)) None) None)
+    None
 
 -- the number in the three columns from `at`; a byte past the end is 0, which stands in no column
-unfoldable pub number_at : List ℕ → ℕ → Number
+unfoldable pub number_at : List ℕ → ℕ → Option ℕ
 number_at s at = number_of (get_or s at 0) (get_or s (at + 1) 0) (get_or s (at + 2) 0)
 
 -- what to do with a number that was read, and what where there is none
-abbrev pub with_number : {A : Type 0} → Number → (ℕ → A) → A → A
-with_number (Is v) go bad = go v
-with_number Bad go bad = bad
+abbrev pub with_number : {A : Type 0} → Option ℕ → (ℕ → A) → A → A
+with_number (Some v) go bad = go v
+with_number None go bad = bad
 
 -- does the line at `at` open with a byte, which tells its kind, and a number
 unfoldable pub is_numbered : List ℕ → ℕ → ℕ → ℕ → Bool

@@ -1,5 +1,6 @@
 -- What is written in three columns is read back, and what is read is what is written there. Assumes nothing.
-use Rattle.std.specs.Prelude.{ℕ, ◌+◌, ◌*◌, ◌/◌, ◌%◌, ◌<◌, ◌≤◌, ◌≡◌, refl, true, ◌&&◌, List, ◌∷◌, ◌++◌, length, get_or, drop, eqb, leb}
+use Rattle.std.proofs.lemmas.Option.{none-some}
+use Rattle.std.specs.Prelude.{ℕ, ◌+◌, ◌*◌, ◌/◌, ◌%◌, ◌<◌, ◌≤◌, ◌≡◌, refl, true, ◌&&◌, List, ◌∷◌, ◌++◌, length, get_or, drop, eqb, leb, None, Option, Some}
 use Rattle.std.proofs.Common.{sym, ◌∙◌, arith}
 use Rattle.std.proofs.Math.Path.{ap}
 use Rattle.std.proofs.Math.Bool.{false≢true, and-eq-true_iff}
@@ -11,8 +12,6 @@ use Rattle.columns.specs.ColumnLaws.{digit-of, digit-small, column-no-zero, colu
 use Rattle.text.specs.Word.{starts_at}
 use Rattle.text.specs.WordLaws.{starts_is, goes_on, byte-is}
 use Rattle.columns.specs.Number.{digit_of, value_of, number_of, number_at, with_number, is_numbered, is_between}
-use Rattle.columns.specs.declared.Number.{Number}
-use Rattle.columns.specs.declared.Number.TheVariants.{Is, Bad}
 
 value_written : (v : ℕ) → v < 1000 → value_of (digit_byte 2 v) (digit_byte 1 v) (digit_byte 0 v) ≡ v
 unfolding value_of
@@ -27,14 +26,14 @@ pub ones-byte : (x y z : ℕ) → z < 10 → 48 + z ≡ digit_byte 0 (x * 100 + 
 unfolding digit_byte
 ones-byte x y z h = omega arith
 
-read-written : (v : ℕ) → v < 1000 → number_of (digit_byte 2 v) (digit_byte 1 v) (digit_byte 0 v) ≡ Is v
+read-written : (v : ℕ) → v < 1000 → number_of (digit_byte 2 v) (digit_byte 1 v) (digit_byte 0 v) ≡ Some v
 unfolding number_of
 read-written v h =
     rw value_written
     (simp (eq-eqb (digit_byte 2 v) (digit_byte 2 v) refl, eq-eqb (digit_byte 1 v) (digit_byte 1 v) refl, eq-eqb (digit_byte 0 v) (digit_byte 0 v) refl))
 
 -- THE LAW, one way: a number below 1000 in the three columns from `at` is read
-number-column : (s rest : List ℕ) (at v : ℕ) → v < 1000 → drop at s ≡ column 3 v ++ rest → number_at s at ≡ Is v
+number-column : (s rest : List ℕ) (at v : ℕ) → v < 1000 → drop at s ≡ column 3 v ++ rest → number_at s at ≡ Some v
 unfolding number_at column
 number-column s rest at v h e =
     let a = goes_on s at _ _ e in
@@ -45,16 +44,13 @@ number-column s rest at v h e =
     rw (a.0, b.0, c') (read-written v h)
 
 -- "(3)": three columns, and what stands behind them
-pub column-of : (s : List ℕ) (at v : ℕ) (rest : List ℕ) → v < 1000 → drop at s ≡ column 3 v ++ rest → (number_at s at ≡ Is v) × (drop (at + 3) s ≡ rest)
+pub column-of : (s : List ℕ) (at v : ℕ) (rest : List ℕ) → v < 1000 → drop at s ≡ column 3 v ++ rest → (number_at s at ≡ Some v) × (drop (at + 3) s ≡ rest)
 column-of s at v rest h e = (number-column s rest at v h e, rw (column-length 3 v) at (stretch-rest s at (column 3 v) rest e))
 
-bad-is-not : (v : ℕ) → Bad ≡ Is v → ⊥
-bad-is-not v e = let z : ◌≡◌ {A = ℕ} 0 1 = cc in omega arith
-
 -- a number that did not lead to `bad`
-pub some_number : {A : Type 0} {bad y : A} → (bad ≡ y → ⊥) → (w : Number) (go : ℕ → A) → with_number w go bad ≡ y → (v : ℕ) × (w ≡ Is v) × (go v ≡ y)
-some_number other (Is v) go e = (v, refl, e)
-some_number other Bad go e = absurd (other e)
+pub some_number : {A : Type 0} {bad y : A} → (bad ≡ y → ⊥) → (w : Option ℕ) (go : ℕ → A) → with_number w go bad ≡ y → (v : ℕ) × (w ≡ Some v) × (go v ≡ y)
+some_number other (Some v) go e = (v, refl, e)
+some_number other None go e = absurd (other e)
 
 value-small : (a b c : ℕ) → value_of a b c < 1000
 unfolding value_of
@@ -62,16 +58,16 @@ value-small a b c = omega (arith, digit-small a, digit-small b, digit-small c)
 
 -- three bytes that are read as v are the writing of v
 read-is-written :
-    (a b c v : ℕ) → number_of a b c ≡ Is v → (v < 1000) × (a ≡ digit_byte 2 v) × (b ≡ digit_byte 1 v) × (c ≡ digit_byte 0 v)
+    (a b c v : ℕ) → number_of a b c ≡ Some v → (v < 1000) × (a ≡ digit_byte 2 v) × (b ≡ digit_byte 1 v) × (c ≡ digit_byte 0 v)
 unfolding number_of
 read-is-written a b c v p =
-    let p1 = test-true (bad-is-not v) _ _ p in
-    let p2 = test-true (bad-is-not v) _ _ p1.1 in
-    let p3 = test-true (bad-is-not v) _ _ p2.1 in
+    let p1 = test-true (none-some v) _ _ p in
+    let p2 = test-true (none-some v) _ _ p1.1 in
+    let p3 = test-true (none-some v) _ _ p2.1 in
     let e1 : a ≡ digit_byte 2 (value_of a b c) = eqb-true _ _ p1.0 in
     let e2 : b ≡ digit_byte 1 (value_of a b c) = eqb-true _ _ p2.0 in
     let e3 : c ≡ digit_byte 0 (value_of a b c) = eqb-true _ _ p3.0 in
-    let q : Is (value_of a b c) ≡ Is v = p3.1 in
+    let q : Some (value_of a b c) ≡ Some v = p3.1 in
     let u : value_of a b c ≡ v = cc in
     (omega (arith, value-small a b c), cc, cc, cc)
 
@@ -85,7 +81,7 @@ starts-column s at v a b c =
     simp (eq-eqb _ _ a, eq-eqb _ _ b, two, eq-eqb _ _ c)
 
 -- THE LAW, the other way: a number that is read is below 1000, and the file goes on with its writing
-pub number_is : (s : List ℕ) (at v : ℕ) → number_at s at ≡ Is v → (v < 1000) × (drop at s ≡ column 3 v ++ drop (at + 3) s)
+pub number_is : (s : List ℕ) (at v : ℕ) → number_at s at ≡ Some v → (v < 1000) × (drop at s ≡ column 3 v ++ drop (at + 3) s)
 unfolding number_at
 number_is s at v e =
     let w = read-is-written _ _ _ v e in
@@ -94,16 +90,16 @@ number_is s at v e =
 
 -- A LINE THAT OPENS WITH ITS KIND AND A NUMBER
 module _ (s : List ℕ) (at kind v : ℕ) where
-  pub numbered-by : get_or s at 0 ≡ kind → number_at s (at + 1) ≡ Is v → is_numbered s at kind v ≡ true
+  pub numbered-by : get_or s at 0 ≡ kind → number_at s (at + 1) ≡ Some v → is_numbered s at kind v ≡ true
   unfolding is_numbered
   numbered-by e f = simp (eq-eqb _ _ e, f, eq-eqb v v refl)
 
-  pub numbered-parts : is_numbered s at kind v ≡ true → (get_or s at 0 ≡ kind) × (number_at s (at + 1) ≡ Is v)
+  pub numbered-parts : is_numbered s at kind v ≡ true → (get_or s at 0 ≡ kind) × (number_at s (at + 1) ≡ Some v)
   unfolding is_numbered
   numbered-parts e =
       let t = (and-eq-true_iff (eqb (get_or s at 0) kind) _).0 e in
       let n = some_number (λ z. false≢true z) (number_at s (at + 1)) _ t.1 in
-      (eqb-true _ _ t.0, n.1 ∙ ap Is (eqb-true n.0 v n.2))
+      (eqb-true _ _ t.0, n.1 ∙ ap Some (eqb-true n.0 v n.2))
 
   p4 : at + 1 + 3 ≡ at + 4
   p4 = omega arith

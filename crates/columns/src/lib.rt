@@ -7,20 +7,6 @@ ghost use Rattle.columns.specs.Column.{digit_byte, column};
 ghost use Rattle.columns.specs.Number.{digit_of, number_of, number_at, is_numbered, is_between};
 ghost use Rattle.columns.specs.Pair.{pair_at, word_and_pair};
 
-// A number that was read, or none.
-#[derive(Clone, Copy)]
-pub enum Number {
-    Is(usize),
-    Bad,
-}
-
-// Two numbers that were read, or none.
-#[derive(Clone, Copy)]
-pub enum Pair {
-    Are(usize, usize),
-    Bad,
-}
-
 // The digit that a byte is, and 0 for any other byte.
 #[tactic(auto, using(std::proofs::lemmas::Bool::Decides::nat_tests), unfolding(crate::specs::Number::digit_of))]
 fn digit(b: u8) -> usize
@@ -47,26 +33,26 @@ fn digit_byte(i: usize, p: usize, v: usize) -> u8
 }
 
 // The number that three bytes are, if they are what it is written with.
-fn number_of(a: u8, b: u8, c: u8) -> Number
+fn number_of(a: u8, b: u8, c: u8) -> Option<usize>
     ensures { result ≡ number_of a b c }
 {
     let ones = digit(c);
     let v = digit(a) * 100 + digit(b) * 10 + ones;
     if a != digit_byte(2, 100, v) {
-        return Number::Bad;
+        return None;
     }
     if b != digit_byte(1, 10, v) {
-        return Number::Bad;
+        return None;
     }
     // What the last digit of v is, is known.
     if c as usize != 48 + ones {
-        return Number::Bad;
+        return None;
     }
-    Number::Is(v)
+    Some(v)
 }
 
 // The number in the three columns from `at`.
-pub fn number_at(s: &[u8], at: usize) -> Number
+pub fn number_at(s: &[u8], at: usize) -> Option<usize>
     requires { at < 2 ^ 31 }
     ensures { result ≡ number_at s.now at }
 {
@@ -86,8 +72,8 @@ pub fn is_numbered(s: &[u8], at: usize, kind: u8, v: usize) -> bool
         return false;
     }
     match number_at(s, at + 1) {
-        Number::Is(n) => n == v,
-        Number::Bad => false,
+        Some(n) => n == v,
+        None => false,
     }
 }
 
@@ -106,32 +92,28 @@ pub fn are_between(a: usize, least: usize, most: usize, b: usize, low: usize, hi
 }
 
 // The two numbers that a line ends with, in three columns each from `at`.
-pub fn pair_at(s: &[u8], at: usize) -> Pair
+pub fn pair_at(s: &[u8], at: usize) -> Option<(usize, usize)>
     requires { at + 6 < 2 ^ 31 }
     ensures { result ≡ pair_at s.now at }
 {
     // The LF first: then each byte before it is known to be there.
     if text::byte_at(s, at + 6) != 10 {
-        return Pair::Bad;
+        return None;
     }
-    let Number::Is(a) = number_at(s, at) else {
-        return Pair::Bad;
-    };
-    let Number::Is(b) = number_at(s, at + 3) else {
-        return Pair::Bad;
-    };
-    Pair::Are(a, b)
+    let a = number_at(s, at)?;
+    let b = number_at(s, at + 3)?;
+    Some((a, b))
 }
 
 // The two numbers of a first line that opens with a word.
-pub fn word_and_pair(s: &[u8], word: &[u8]) -> Pair
+pub fn word_and_pair(s: &[u8], word: &[u8]) -> Option<(usize, usize)>
     requires { length word.now < 2 ^ 30 }
     ensures { result ≡ word_and_pair s.now word.now }
 {
     if text::starts_at(s, 0, word) {
         return pair_at(s, word.len());
     }
-    Pair::Bad
+    None
 }
 
 // 10 to the power w.
@@ -139,13 +121,7 @@ fn power(w: usize) -> usize
     requires { w ≤ 6 }
     ensures { result ≡ 10 ^ w }
 {
-    let mut p = 1;
-    let mut i = 0;
-    while i < w {
-        p *= 10;
-        i += 1;
-    }
-    p
+    10usize.pow(w as u32)
 }
 
 // v in the w columns from `at` on.
@@ -153,13 +129,9 @@ pub fn put_column(out: &mut [u8], at: usize, w: usize, v: usize)
     requires { (w ≤ 6) × (at + w ≤ length out.old) }
     ensures { out.new ≡ sets out.old at (column w v) }
 {
-    let mut k = w;
-    let mut i = at;
     let mut p = power(w);
-    while k > 0 {
-        k -= 1;
+    for k in (0..w).rev() {
         p /= 10;
-        out[i] = digit_byte(k, p, v);
-        i += 1;
+        out[at + w - 1 - k] = digit_byte(k, p, v);
     }
 }

@@ -1,6 +1,6 @@
 -- A SHEET rewritten with a mark on every transition into a must-recur state (R-9) passes the same plans, and each plan has the same verdict. For every accepted
 -- SHEET. Assumes nothing.
-use Rattle.std.specs.Prelude.{ℕ, ◌≡◌, refl, ◌↔◌, List, length}
+use Rattle.std.specs.Prelude.{ℕ, ◌≡◌, refl, ◌↔◌, List, length, Result}
 use Rattle.std.proofs.Common.{sym, subst}
 use Rattle.gate.specs.declared.Refusal.{Refusal}
 use Rattle.automaton.specs.Automaton.{Automaton}
@@ -23,7 +23,6 @@ use Rattle.passes.specs.declared.Verdict.{Verdict}
 use Rattle.plan.specs.Plan.{PlanFaulty}
 use Rattle.plan.specs.CompleteLaws.{plan-unique}
 use Rattle.plan.specs.SameLettersLaws.{plan-alike, plan-fault-alike}
-use Rattle.plan_verdict.specs.declared.Outcome.{Outcome}
 use Rattle.plan_verdict.specs.Verdict.{SizesFit, Verdicts, Refusing, Judgement}
 use Rattle.reading.specs.Read.{Accepted}
 use Rattle.reading.proofs.ReadLaws.{accepted-unrefused}
@@ -69,7 +68,7 @@ module _ (σ : Sheet) (edition : σ.edition ≡ StateBased) where
 
     -- THE SAME ANSWER, in the verdict's own contract: what it allows on the file, with any plan, room and tables, it allows on the file rewritten, with the same
     -- tracker and the same witness. The sets of successors and of marks are the sheet's own.
-    pub record AnsweredAlike (p : List ℕ) (room : ℕ) (before after : BuildTables) (o : Outcome) : Type 0 where
+    pub record AnsweredAlike (p : List ℕ) (room : ℕ) (before after : BuildTables) (o : Result Verdict Refusal) : Type 0 where
       pub tables : BuildTables
       pub judgement : Judgement (rewritten_file σ) p room before tables o
       pub tracker : tables.tracker ≡ after.tracker
@@ -97,7 +96,7 @@ module _ (σ : Sheet) (edition : σ.edition ≡ StateBased) where
           Refusing.by-plan (sizes-rewritten h) (rewritten σ) (accepted-rewritten σ accepted) built count (fitted-rewritten σ edition here) number line
           (plan-fault-alike (letters-rewritten σ) fault) e w
 
-      pub judged-rewritten : {room : ℕ} {before after : BuildTables} {o : Outcome} → Judgement s p room before after o → AnsweredAlike p room before after o
+      pub judged-rewritten : {room : ℕ} {before after : BuildTables} {o : Result Verdict Refusal} → Judgement s p room before after o → AnsweredAlike p room before after o
       judged-rewritten {after = after} (Judgement.short n e same) = record { tables = after; judgement = Judgement.short n e same; tracker = refl; witness = refl }
       judged-rewritten {after = after} (Judgement.refused l r why e sets tracker) =
           record { tables = after; judgement = Judgement.refused l r (refusing-rewritten why) e sets tracker; tracker = refl; witness = refl }

@@ -13,12 +13,10 @@ fn steps_into(g: GraphNumbers, table: &[u16], set: u16, q: usize) -> bool
     requires { GraphFits (graph g table.now) × (128 ≤ length table.now) × (q < g.n) }
     ensures { Decides result (StepsInto (graph g table.now) set q) }
 {
-    let mut l = 0;
-    while l < g.k {
+    for l in 0..g.k {
         if sets::inter(table[8 * q + l], set) != 0 {
             return true;
         }
-        l += 1;
     }
     false
 }
@@ -28,10 +26,7 @@ fn stays(g: GraphNumbers, table: &[u16], set: u16, q: usize) -> bool
     requires { GraphFits (graph g table.now) × (128 ≤ length table.now) × (q < g.n) }
     ensures { Decides result (Stays (graph g table.now) set q) }
 {
-    if sets::contains(set, q) {
-        return steps_into(g, table, set, q);
-    }
-    true
+    !sets::contains(set, q) || steps_into(g, table, set, q)
 }
 
 // The states that begin an endless path. A state that does not stay is taken away, and then all are asked anew.
@@ -41,6 +36,7 @@ pub fn states(g: GraphNumbers, table: &[u16]) -> u16
 {
     let mut set = sets::below(g.n);
     let mut q = 0;
+    // A while: q starts again.
     while q < g.n {
         if stays(g, table, set, q) {
             q += 1;

@@ -1,5 +1,5 @@
 -- On a plan's endless word the least colour that the tracker enters without end is the one that the verdict tells. Assumes nothing: the premise is not used.
-use Rattle.std.specs.Prelude.{ℕ, suc, ◌+◌, ◌*◌, ◌<◌, ◌≡◌, List, length, get_or}
+use Rattle.std.specs.Prelude.{ℕ, suc, ◌+◌, ◌*◌, ◌<◌, ◌≡◌, List, length, get_or, Ok}
 use Rattle.std.proofs.Common.{sym, ◌∙◌, subst, arith}
 use Rattle.std.proofs.Math.Path.{ap}
 use Rattle.theory.specs.Run.{Least}
@@ -22,7 +22,6 @@ use Rattle.passes.specs.declared.Verdict.{Verdict}
 use Rattle.plan.specs.Plan.{PlanIs}
 use Rattle.plan_verdict.specs.PlanLaws.{letters-below}
 use Rattle.plan_verdict.specs.Verdict.{Judgement}
-use Rattle.plan_verdict.specs.declared.Outcome.TheVariants.{Judged}
 use Rattle.tracker.specs.Build.{BuildTables}
 use Rattle.endless_words.specs.EndlessWord.{colours_on, LeastWithoutEnd}
 
@@ -62,7 +61,7 @@ pub record VerdictColour (s p : List ℕ) (after : BuildTables) (z : Verdict) : 
   pub plan : PlanIs sheet p lead cycle
   pub least : LeastWithoutEnd (colours_on after.tracker (letter_at lead cycle)) z.least
 
-pub verdict-colour : {s p : List ℕ} {room : ℕ} {before after : BuildTables} {z : Verdict} → Judgement s p room before after (Judged z) → VerdictColour s p after z
+pub verdict-colour : {s p : List ℕ} {room : ℕ} {before after : BuildTables} {z : Verdict} → Judgement s p room before after (Ok z) → VerdictColour s p after z
 unfolding numbers
 verdict-colour (Judgement.short a e b) = absurd (let o : ◌≡◌ {A = ℕ} 0 1 = cc in omega arith)
 verdict-colour (Judgement.refused a r b e c d) = absurd (let o : ◌≡◌ {A = ℕ} 0 1 = cc in omega arith)

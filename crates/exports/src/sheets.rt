@@ -8,8 +8,6 @@ ghost use Rattle.file_writer.specs.FileWrite.{Writes};
 ghost use Rattle.cells.specs.Cells.{InNumbers, written_cells};
 ghost use Rattle.answers.specs.Answer.{edition_numbered, as_numbers, checked_cells, read_cells};
 
-use automaton::Numbers;
-
 // `walks::check`
 #[unsafe(no_mangle)]
 pub extern "C" fn lunthomi_check(
@@ -29,13 +27,7 @@ pub extern "C" fn lunthomi_check(
         (witness_tables word.old one.old other.old) (witness_tables word.new one.new other.new))
         checked_cells answer.old answer.new }
 {
-    let a = Numbers {
-        edition: answers::edition_of(edition),
-        n,
-        k,
-        initial,
-        recurring,
-    };
+    let a = answers::numbers_of(edition, n, k, initial, recurring);
     let r = walks::check(a, table, marks, word, one, other);
     answers::put_checked(r, answer);
 }
@@ -101,13 +93,7 @@ pub extern "C" fn lunthomi_write_numbers(
         (write_tables (witness_tables word.new one.new other.new) out.new))
         written_cells answer.old answer.new }
 {
-    let a = Numbers {
-        edition: answers::edition_of(edition),
-        n,
-        k,
-        initial,
-        recurring,
-    };
+    let a = answers::numbers_of(edition, n, k, initial, recurring);
     let r = writer::write_numbers(a, table, marks, names, word, one, other, out);
     cells::put_written(r, answer);
 }

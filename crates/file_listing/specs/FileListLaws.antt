@@ -1,5 +1,5 @@
 -- The answers of listing from a sheet file, one by one. Assumes nothing.
-use Rattle.std.specs.Prelude.{ℕ, ◌≡◌, List}
+use Rattle.std.specs.Prelude.{ℕ, ◌≡◌, List, Err, Ok, Result}
 use Rattle.std.proofs.Common.{sym, subst, ◌∙◌}
 use Rattle.gate.specs.Gate.{refusal, RefusedWith}
 use Rattle.gate.specs.GateLaws.{refused-first}
@@ -15,9 +15,6 @@ use Rattle.building.specs.FileBuild.{Builds}
 use Rattle.building.specs.FileBuildLaws.{file-built}
 use Rattle.filling.proofs.FittedLaws.{fitted-cleared}
 use Rattle.tracker.specs.declared.Tracker.{Tracker}
-use Rattle.tracker.specs.declared.Built.TheVariants.{Refused as BuildRefused, Is}
-use Rattle.gate.specs.declared.Written.{Written}
-use Rattle.gate.specs.declared.Written.TheVariants.{Refused, Bytes}
 use Rattle.listing.specs.List.{listing_of, Left}
 use Rattle.listing.specs.ListLaws.{sized, room-number}
 use Rattle.file_listing.specs.FileList.{list_tables, Lists}
@@ -26,16 +23,16 @@ use Rattle.listing.specs.Finish.{Finishes}
 
 -- WHAT IS LEFT of the tables that building gave, from what the last question leaves of the tracker's. The buffer was old and is new.
 
-left-file : (before built : BuildTables) (sets : TransitionSets) (tracker : TrackerTables) (l : Written) → built.witness ≡ cleared_witness before.witness
+left-file : (before built : BuildTables) (sets : TransitionSets) (tracker : TrackerTables) (l : Result ℕ Refusal) → built.witness ≡ cleared_witness before.witness
     → cleared_tracker built.tracker ≡ cleared_tracker before.tracker → Left (cleared_sets before.sets) built.sets sets l
     → Left (cleared_tracker built.tracker) built.tracker tracker l
     → Left (cleared_build before) built (build_tables sets built.witness tracker) l
-left-file before built sets tracker (Refused r) witness zero told left = λ i. build_tables (told i) (witness i) ((left ∙ zero) i)
-left-file before built sets tracker (Bytes count) witness zero told left = λ i. build_tables (told i) built.witness (left i)
+left-file before built sets tracker (Err r) witness zero told left = λ i. build_tables (told i) (witness i) ((left ∙ zero) i)
+left-file before built sets tracker (Ok count) witness zero told left = λ i. build_tables (told i) built.witness (left i)
 
 module _ {s : List ℕ} {room : ℕ} {before built : BuildTables} where
   -- refused by building
-  pub list-file-refused : {r : Refusal} {old new : List ℕ} {l : Written} → Builds s room before built (BuildRefused r) → RefusedWith r old new l
+  pub list-file-refused : {r : Refusal} {old new : List ℕ} {l : Result ℕ Refusal} → Builds s room before built (Err r) → RefusedWith r old new l
       → Lists s room (list_tables before old) (list_tables built new) l
   list-file-refused {r} (Builds.short n e same) a =
       let i : r ≡ refusal 1 0 = cc in
@@ -47,12 +44,12 @@ module _ {s : List ℕ} {room : ℕ} {before built : BuildTables} where
       Lists.refused l r (Builds.asked l σ x z (y, e, q) o) a.is (a.zero (room-number r e))
 
   -- behind building, which answered x
-  module _ {x : Tracker} (builds : Builds s room before built (Is x)) where
+  module _ {x : Tracker} (builds : Builds s room before built (Ok x)) where
     pub file-sized : Sized x.numbers.n x.numbers.k x.tuples built.tracker.tuples built.tracker.nexts
     file-sized = let (l, (σ, y, are, o, fitted), z) = file-built builds in sized x (sheet-fits s σ y.file) l.tracker are fitted
 
     -- and the last question: its answer is r, and by it the tracker's tables, the successor sets and the marks are left
-    pub file-finished : {sets : TransitionSets} {tracker : TrackerTables} {old new : List ℕ} {l r : Written} → cleared_sets built.sets ≡ cleared_sets before.sets
+    pub file-finished : {sets : TransitionSets} {tracker : TrackerTables} {old new : List ℕ} {l r : Result ℕ Refusal} → cleared_sets built.sets ≡ cleared_sets before.sets
         → Finishes (listing_of x built.tracker) built.tracker tracker old new l → (r ≡ l) × Left (cleared_sets built.sets) built.sets sets r
         → Lists s room (list_tables before old) (list_tables (build_tables sets built.witness tracker) new) r
     file-finished {sets} {tracker} {old} {new} {l} {r} kept finished (same, told) =

@@ -9,15 +9,18 @@ ghost use Rattle.tracker.specs.Build.{build_tables};
 ghost use Rattle.listing.specs.List.{Left};
 ghost use Rattle.file_listing.specs.FileList.{list_tables, Lists};
 
-use gate::Written;
-use tracker::Built;
+use gate::Refusal;
 
 // With a refusal of the last question the successor sets and the marks are cleared too. The answer stays.
-fn clear_refused(listed: Written, table: &mut [u16], marks: &mut [u16]) -> Written
+fn clear_refused(
+    listed: Result<usize, Refusal>,
+    table: &mut [u16],
+    marks: &mut [u16],
+) -> Result<usize, Refusal>
     ensures { (result ≡ listed) × Left (cleared_sets (transition_sets table.old marks.old)) (transition_sets table.old marks.old)
         (transition_sets table.new marks.new) result }
 {
-    if let Written::Refused(_) = listed {
+    if let Err(_) = listed {
         lent::clear_sets(table, marks);
     }
     listed
@@ -35,7 +38,7 @@ pub fn list(
     one: &mut [u16],
     other: &mut [u16],
     out: &mut [u8],
-) -> Written
+) -> Result<usize, Refusal>
     ensures { Lists sheet.now room
         (list_tables (build_tables (transition_sets table.old marks.old) (witness_tables word.old one.old other.old)
         (tracker_tables tuples.old nexts.old)) out.old)
@@ -43,8 +46,8 @@ pub fn list(
         (tracker_tables tuples.new nexts.new)) out.new) result }
 {
     match file_tracker::build(sheet, room, table, marks, tuples, nexts, word, one, other) {
-        Built::Refused(r) => gate::refuse(r, out),
-        Built::Is(x) => {
+        Err(r) => gate::refuse(r, out),
+        Ok(x) => {
             let listed = listing::finish(x.numbers.n, x.numbers.k, x.tuples, tuples, nexts, out);
             clear_refused(listed, table, marks)
         }

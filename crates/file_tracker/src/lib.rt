@@ -9,7 +9,7 @@ ghost use Rattle.building.specs.FileBuild.{Builds};
 
 use building::build_long;
 use gate::Refusal;
-use tracker::Built;
+use tracker::Tracker;
 
 // A tracker from a sheet file.
 pub fn build(
@@ -22,13 +22,13 @@ pub fn build(
     word: &mut [u16],
     one: &mut [u16],
     other: &mut [u16],
-) -> Built
+) -> Result<Tracker, Refusal>
     ensures { Builds sheet.now room
         (build_tables (transition_sets table.old marks.old) (witness_tables word.old one.old other.old) (tracker_tables tuples.old nexts.old))
         (build_tables (transition_sets table.new marks.new) (witness_tables word.new one.new other.new) (tracker_tables tuples.new nexts.new)) result }
 {
     if !tracker::enough(room, table, marks, tuples, nexts, word, one, other) {
-        return Built::Refused(Refusal {
+        return Err(Refusal {
             number: 1,
             line: 0,
             length: 0,

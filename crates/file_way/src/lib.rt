@@ -10,14 +10,7 @@ ghost use Rattle.file_way.specs.FileWay.{way_tables, EnoughForWay, ShowsWay};
 ghost use Rattle.file_way.specs.Finish.{Followable, Finished};
 
 use gate::Refusal;
-use tracker::Built;
-
-#[derive(Clone, Copy)]
-pub enum Way {
-    Refused(Refusal),
-    NoSuchTuple,
-    Letters(usize),
-}
+use tracker::Tracker;
 
 // Question 1: the tables of building, and a letter for each tuple of the room.
 fn enough(
@@ -41,27 +34,33 @@ fn enough(
     tracker::enough(room, table, marks, tuples, nexts, word, one, other)
 }
 
-// Behind building: the word to tuple t, if there is a tracker and it has this tuple. Else the letters become all zero.
-fn finish(built: Built, t: usize, tuples: &[u16], letters: &mut [u16]) -> Way
+// Behind building: how long the word to tuple t is, if there is a tracker and it has this tuple. Else the letters become all zero.
+fn finish(
+    built: Result<Tracker, Refusal>,
+    t: usize,
+    tuples: &[u16],
+    letters: &mut [u16],
+) -> Result<Option<usize>, Refusal>
     requires { Followable built tuples.now letters.old }
     ensures { Finished built t tuples.now letters.old letters.new result }
 {
     match built {
-        Built::Refused(r) => {
+        Err(r) => {
             gate::clear(letters);
-            Way::Refused(r)
+            Err(r)
         }
-        Built::Is(x) => {
+        Ok(x) => {
             if x.tuples <= t {
                 gate::clear(letters);
-                return Way::NoSuchTuple;
+                return Ok(None);
             }
-            Way::Letters(ways::spell(tuples, x.tuples, t, letters))
+            Ok(Some(ways::spell(tuples, x.tuples, t, letters)))
         }
     }
 }
 
-// A shortest word to tuple t of the tracker of a sheet file. Lent are, for the room R, what building is lent, and R letters.
+// How long a shortest word to tuple t of the tracker of a sheet file is, with the word in the letters; none where the tracker has no tuple t.
+// Lent are, for the room R, what building is lent, and R letters.
 pub fn way_to(
     sheet: &[u8],
     room: usize,
@@ -74,7 +73,7 @@ pub fn way_to(
     one: &mut [u16],
     other: &mut [u16],
     letters: &mut [u16],
-) -> Way
+) -> Result<Option<usize>, Refusal>
     ensures { ShowsWay sheet.now room t
         (way_tables (build_tables (transition_sets table.old marks.old) (witness_tables word.old one.old other.old)
         (tracker_tables tuples.old nexts.old)) letters.old)
@@ -82,7 +81,7 @@ pub fn way_to(
         (tracker_tables tuples.new nexts.new)) letters.new) result }
 {
     if !enough(room, table, marks, tuples, nexts, word, one, other, letters) {
-        return Way::Refused(Refusal {
+        return Err(Refusal {
             number: 1,
             line: 0,
             length: 0,

@@ -1,8 +1,8 @@
 -- The end of writing from a file that is read, its successor sets and marks into tables of 128: the last question is asked. Assumes nothing.
-use Rattle.std.specs.Prelude.{ℕ, ◌≡◌, List}
+use Rattle.std.specs.Prelude.{ℕ, ◌≡◌, List, Result}
+use Rattle.gate.specs.declared.Refusal.{Refusal}
 use Rattle.std.proofs.Common.{sym, ap, ◌∙◌, subst, append-nil}
 use Rattle.gate.specs.Gate.{Put}
-use Rattle.gate.specs.declared.Written.{Written}
 use Rattle.automaton.specs.declared.Numbers.{Numbers}
 use Rattle.automaton.specs.Automaton.{Automaton, TransitionSets, automaton}
 use Rattle.lent.specs.Lent.{WitnessTables, EnoughForWitness}
@@ -27,7 +27,7 @@ module _ {s rows : List ℕ} {witness : WitnessTables} {after : ReadTables} {a :
   pub write-asks : Writable (automaton a after.sets.successors after.sets.marks)
   write-asks = subst Writable (sym is) (writable (sheet-fits s h.sheet h.accepted.file) (sheet-long h.sheet))
 
-  pub write-finishes : {output output' : List ℕ} {r : Written} → EnoughForWitness witness
+  pub write-finishes : {output output' : List ℕ} {r : Result ℕ Refusal} → EnoughForWitness witness
       → Put (rows_text (automaton a after.sets.successors after.sets.marks) after.rows) output output' r → Writes s (write_tables witness output) (write_tables after.witness output') r
   write-finishes {output} {output'} {r} long put =
       let names : LettersIn h.sheet (numbers h.sheet).k after.rows = subst (λ (k : ℕ). LettersIn h.sheet k after.rows) h.are.k h.names in

@@ -1,5 +1,5 @@
 -- The lent tables before the first step and behind the last. Assumes nothing.
-use Rattle.std.specs.Prelude.{ℕ, ◌+◌, ◌*◌, ◌≤◌, ◌<◌, ◌≡◌, refl, List, [], ◌∷◌, length, set, replicate}
+use Rattle.std.specs.Prelude.{ℕ, ◌+◌, ◌*◌, ◌≤◌, ◌<◌, ◌≡◌, refl, List, [], ◌∷◌, length, set, replicate, Some}
 use Rattle.std.proofs.Common.{sym, ap, subst, ◌∙◌, arith, eq-eqb, ne_eqb}
 use Rattle.std.proofs.Math.Decide.{ℕ_discrete}
 use Rattle.gate.specs.GateLaws.{zeros, length-cleared}
@@ -12,7 +12,7 @@ use Rattle.colour.specs.Colour.{neutral}
 use Rattle.sets.specs.Sets.{is_empty}
 use Rattle.tuple.specs.Step.{Tuple, unless_empty, closed, first}
 use Rattle.tuple.specs.Row.{row}
-use Rattle.numbering.specs.Numbering.{TupleCells}
+use Rattle.numbering.specs.Numbering.{MoreThan, TupleCells}
 use Rattle.numbering.specs.Explore.{found}
 use Rattle.numbering.proofs.NumberingLaws.{found_all, found-more}
 use Rattle.expanding.specs.Tables.{TrackerTables, tracker_tables, EnoughForTracker}
@@ -106,14 +106,12 @@ module _ {A : Automaton} {room c m : ℕ} {tuples nexts head link : List ℕ} (f
 
 -- WHAT FILLING ANSWERS
 
-pub fills-over : {A : Automaton} {room r : ℕ} {v w : TrackerTables} (c : ℕ) → room < r → room < length (found A c) → Fills A room v w r
-fills-over {A} {room} c h k = record { fitting = λ l. absurd (omega arith); over = λ l. found-more A c room k }
+pub fills-over : {A : Automaton} {room : ℕ} (c : ℕ) → room < length (found A c) → MoreThan A room
+fills-over {A} {room} c k = found-more A c room k
 
 pub fills-all : {A : Automaton} {room c m : ℕ} {tuples nexts head link : List ℕ} → Filled A room c m tuples nexts head link
-    → (v : TrackerTables) → length v.tuples ≡ length tuples → length v.nexts ≡ length nexts → 8 * m ≤ c → Fills A room v (tracker_tables tuples nexts) m
-fills-all f v p q h =
-    let r = f.room-is in
-    record { fitting = λ l. filled-all f v p q h; over = λ l. absurd (omega arith) }
+    → (v : TrackerTables) → length v.tuples ≡ length tuples → length v.nexts ≡ length nexts → 8 * m ≤ c → Fills A room v (tracker_tables tuples nexts) (Some m)
+fills-all f v p q h = filled-all f v p q h
 
 -- IN TABLES WITH ANY CONTENTS
 

@@ -1,5 +1,5 @@
 -- The filling of the lent tables: what it asks, what it begins with, and what it leaves.
-use Rattle.std.specs.Prelude.{ℕ, ◌≤◌, ◌<◌, ◌≡◌, List, set, replicate}
+use Rattle.std.specs.Prelude.{ℕ, ◌≡◌, List, set, replicate, Option, Some, None}
 use Rattle.gate.specs.Gate.{cleared}
 use Rattle.tuple_record.specs.declared.WayBack.{WayBack}
 use Rattle.tuple_record.specs.Record.{set_cells, row_cells}
@@ -29,7 +29,7 @@ pub record Filling (A : Automaton) (room : ℕ) (tracker : TrackerTables) : Type
   pub tuples : tracker.tuples ≡ cleared tracker.tuples
   pub nexts : tracker.nexts ≡ cleared tracker.nexts
 
--- QUESTION 11: the tables hold the tracker with its r tuples, or r is above the room, and more are reachable
-pub record Fills (A : Automaton) (room : ℕ) (before after : TrackerTables) (r : ℕ) : Type 0 where
-  pub fitting : r ≤ room → Fitted A room before after r
-  pub over : room < r → MoreThan A room
+-- QUESTION 11: the tables hold the tracker with its m tuples, or more are reachable than there is room for
+abbrev pub Fills : Automaton → ℕ → TrackerTables → TrackerTables → Option ℕ → Type 0
+Fills A room before after (Some m) = Fitted A room before after m
+Fills A room before after None = MoreThan A room

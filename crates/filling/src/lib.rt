@@ -24,7 +24,7 @@ fn begin(a: Numbers, tuples: &mut [u16], head: &mut [u16], link: &mut [u16])
     rows::find_or_add(tuples, 0, 1, &w, way, head, link);
 }
 
-// All steps from the first tuple on, in cleared tables: the count of tuples, or a number above the room where they are too many.
+// All steps from the first tuple on, in cleared tables: the count of tuples, or none where they are too many for the room.
 pub fn fill(
     a: Numbers,
     table: &[u16],
@@ -32,7 +32,7 @@ pub fn fill(
     room: usize,
     tuples: &mut [u16],
     nexts: &mut [u16],
-) -> usize
+) -> Option<usize>
     requires { Filling (automaton a table.now marks.now) room (tracker_tables tuples.old nexts.old) }
     ensures { Fills (automaton a table.now marks.now) room (tracker_tables tuples.old nexts.old) (tracker_tables tuples.new nexts.new) result }
 {
@@ -41,16 +41,17 @@ pub fn fill(
     begin(a, tuples, &mut head, &mut link);
     let mut m: usize = 1;
     let mut c: usize = 0;
+    // A while: m grows.
     while c < 8 * m {
         m = expanding::expand(
             a, table, marks, room, c, m, tuples, nexts, &mut head, &mut link,
         );
         if room < m {
-            return m;
+            return None;
         }
         c += 1;
     }
-    m
+    Some(m)
 }
 
 // Both tables become zero.

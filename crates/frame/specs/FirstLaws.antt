@@ -1,6 +1,7 @@
 -- A first line, of a sheet or of a plan: its phase passes or refuses as the line's form and the bounds of its numbers say. Assumes nothing.
-use Rattle.std.specs.Prelude.{ℕ, ◌+◌, ◌<◌, ◌≡◌, refl, Bool, true, false, List, [], ◌∷◌, ◌++◌, length, drop}
-use Rattle.std.proofs.Common.{sym, ◌∙◌, true≢false, arith}
+use Rattle.std.specs.Prelude.{ℕ, ◌+◌, ◌<◌, ◌≡◌, refl, Bool, true, false, List, [], ◌∷◌, ◌++◌, length, drop, Err, None, Ok, Option, Result, Some}
+use Rattle.std.specs.Result.{result_unwrap_or}
+use Rattle.std.proofs.Common.{sym, ap, ◌∙◌, true≢false, arith}
 use Rattle.gate.specs.Gate.{refusal}
 use Rattle.gate.specs.declared.Refusal.{Refusal}
 use Rattle.lists.specs.Choice.{choose}
@@ -9,35 +10,36 @@ use Rattle.columns.specs.Line.{numbers_line}
 use Rattle.columns.specs.Pair.{word_and_pair}
 use Rattle.columns.specs.PairLaws.{NoFirst, first-pair, first-outcome}
 use Rattle.text.specs.Word.{no_zero}
-use Rattle.columns.specs.declared.Pair.{Pair}
-use Rattle.columns.specs.declared.Pair.TheVariants as P
 use Rattle.frame.specs.declared.Bounds.{Bounds}
-use Rattle.frame.specs.declared.First.{First}
-use Rattle.frame.specs.declared.First.TheVariants as R
 use Rattle.frame.specs.Phase.{Phase, refused, passed, in_bounds, first_phase}
 use Rattle.frame.specs.Answers.{first_answer, WithinBounds}
 
+-- two numbers that are handed on, and two others
+pub ok_both : {x y a b : ℕ} → ◌≡◌ {A = Result (ℕ × ℕ) Refusal} (Ok (a, b)) (Ok (x, y)) → (x ≡ a) × (y ≡ b)
+ok_both e =
+    let pair = λ (r : Result (ℕ × ℕ) Refusal). result_unwrap_or r (0, 0) in
+    (sym (ap (λ (r : Result (ℕ × ℕ) Refusal). (pair r).0) e), sym (ap (λ (r : Result (ℕ × ℕ) Refusal). (pair r).1) e))
+
 -- THE CODE'S ANSWER tells the phase, whatever is made of the two numbers
 module _ (β : Bounds) {A : Type 0} (make : ℕ → ℕ → A) (form range : ℕ) where
-  abbrev answer : Pair → First
+  abbrev answer : Option (ℕ × ℕ) → Result (ℕ × ℕ) Refusal
   answer w = first_answer (first_phase w β (λ a b. (a, b)) form range)
 
-  pub first-passed : (w : Pair) (a b : ℕ) → R.Are a b ≡ answer w → first_phase w β make form range ≡ passed (make a b)
-  first-passed P.Bad a b e = absurd (let z : ◌≡◌ {A = ℕ} 0 1 = cc in omega arith)
-  first-passed (P.Are x y) a b e = by (in_bounds β x y) e
+  pub first-passed : (w : Option (ℕ × ℕ)) (a b : ℕ) → Ok (a, b) ≡ answer w → first_phase w β make form range ≡ passed (make a b)
+  first-passed None a b e = absurd (let z : ◌≡◌ {A = ℕ} 0 1 = cc in omega arith)
+  first-passed (Some (x, y)) a b e = by (in_bounds β x y) e
     where
-      by : (t : Bool) → R.Are a b ≡ first_answer (choose t (passed (x, y)) (refused range 1)) → choose t (passed (make x y)) (refused range 1) ≡ passed (make a b)
+      by : (t : Bool) → Ok (a, b) ≡ first_answer (choose t (passed (x, y)) (refused range 1)) → choose t (passed (make x y)) (refused range 1) ≡ passed (make a b)
       by true e =
-          let p : x ≡ a = cc in
-          let q : y ≡ b = cc in
+          let (p, q) = ok_both e in
           rw (p, q)
       by false e = absurd (let z : ◌≡◌ {A = ℕ} 0 1 = cc in omega arith)
 
-  pub first-refused : (w : Pair) (r : Refusal) → R.Refused r ≡ answer w → (number : ℕ) × (line : ℕ) × (r ≡ refusal number line) × (first_phase w β make form range ≡ refused number line)
-  first-refused P.Bad r e = (form, 1, cc, refl)
-  first-refused (P.Are x y) r e = by (in_bounds β x y) e
+  pub first-refused : (w : Option (ℕ × ℕ)) (r : Refusal) → Err r ≡ answer w → (number : ℕ) × (line : ℕ) × (r ≡ refusal number line) × (first_phase w β make form range ≡ refused number line)
+  first-refused None r e = (form, 1, cc, refl)
+  first-refused (Some (x, y)) r e = by (in_bounds β x y) e
     where
-      by : (t : Bool) → R.Refused r ≡ first_answer (choose t (passed (x, y)) (refused range 1)) →
+      by : (t : Bool) → Err r ≡ first_answer (choose t (passed (x, y)) (refused range 1)) →
           (number : ℕ) × (line : ℕ) × (r ≡ refusal number line) × (choose t (passed (make x y)) (refused range 1) ≡ refused number line)
       by true e = absurd (let z : ◌≡◌ {A = ℕ} 0 1 = cc in omega arith)
       by false e = (range, 1, cc, refl)

@@ -1,11 +1,10 @@
 -- The phases of reading that a sheet and a plan share: a first line, and the END.
-use Rattle.std.specs.Prelude.{ℕ, ◌+◌, List, Bool, ◌&&◌, length, eqb}
+use Rattle.std.specs.Prelude.{ℕ, ◌+◌, List, Bool, ◌&&◌, length, eqb, Option}
 use Rattle.lists.specs.Choice.{choose}
 use Rattle.text.specs.Bytes.{end_line}
 use Rattle.columns.specs.Number.{is_between}
 use Rattle.columns.specs.Pair.{with_pair}
 use Rattle.text.specs.Word.{starts_at}
-use Rattle.columns.specs.declared.Pair.{Pair}
 use Rattle.frame.specs.declared.Bounds.{Bounds}
 
 -- A PHASE of reading, one for each kind of line: it refuses with a number and a line, or hands on what it read
@@ -25,7 +24,7 @@ abbrev pub in_bounds : Bounds → ℕ → ℕ → Bool
 in_bounds β a b = is_between β.least β.most a && is_between β.low β.high b
 
 -- a first line, of a sheet or of a plan: `form` is the number of a refusal for its form, and `range` for numbers out of bounds
-abbrev pub first_phase : {A : Type 0} → Pair → Bounds → (ℕ → ℕ → A) → ℕ → ℕ → Phase A
+abbrev pub first_phase : {A : Type 0} → Option (ℕ × ℕ) → Bounds → (ℕ → ℕ → A) → ℕ → ℕ → Phase A
 first_phase w β make form range = with_pair w (λ a b. choose (in_bounds β a b) (passed (make a b)) (refused range 1)) (refused form 1)
 
 -- THE END

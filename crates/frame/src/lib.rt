@@ -6,7 +6,6 @@ ghost use Rattle.columns.specs.Pair.{word_and_pair};
 ghost use Rattle.frame.specs.Phase.{first_phase, end_at};
 ghost use Rattle.frame.specs.Answers.{first_answer, FirstFits, end_answer};
 
-use columns::Pair;
 use gate::Refusal;
 
 // What the two numbers of a first line may be: the first from `least` to `most`, the second from `low` to `high`.
@@ -18,13 +17,6 @@ pub struct Bounds {
     pub high: usize,
 }
 
-// The answer of a first line.
-#[derive(Clone, Copy)]
-pub enum First {
-    Refused(Refusal),
-    Are(usize, usize),
-}
-
 // The next line's position and number.
 #[derive(Clone, Copy)]
 pub struct Position {
@@ -32,30 +24,29 @@ pub struct Position {
     pub line: usize,
 }
 
-// The answer of a last line, and of the lines that END follows.
-#[derive(Clone, Copy)]
-pub enum End {
-    Refused(Refusal),
-    Reached,
-}
-
 // A word and two numbers within bounds, or else a refusal: `form` is its number for a line of another form, `range` for numbers out of bounds.
-pub fn first_line(s: &[u8], word: &[u8], bounds: Bounds, form: u8, range: u8) -> First
+pub fn first_line(
+    s: &[u8],
+    word: &[u8],
+    bounds: Bounds,
+    form: u8,
+    range: u8,
+) -> Result<(usize, usize), Refusal>
     requires { length word.now < 2 ^ 30 }
     ensures { (result ≡ first_answer (first_phase (word_and_pair s.now word.now) bounds (λ a b. (a, b)) form range))
         × FirstFits bounds result }
 {
-    let Pair::Are(a, b) = columns::word_and_pair(s, word) else {
-        return First::Refused(Refusal {
+    let Some((a, b)) = columns::word_and_pair(s, word) else {
+        return Err(Refusal {
             number: form,
             line: 1,
             length: 0,
         });
     };
     if columns::are_between(a, bounds.least, bounds.most, b, bounds.low, bounds.high) {
-        return First::Are(a, b);
+        return Ok((a, b));
     }
-    First::Refused(Refusal {
+    Err(Refusal {
         number: range,
         line: 1,
         length: 0,
@@ -63,23 +54,23 @@ pub fn first_line(s: &[u8], word: &[u8], bounds: Bounds, form: u8, range: u8) ->
 }
 
 // END, with nothing after it.
-pub fn end_line(s: &[u8], number: u8, line: usize, at: usize) -> End
+pub fn end_line(s: &[u8], number: u8, line: usize, at: usize) -> Result<(), Refusal>
     requires { (line < 2 ^ 30) × (at < 2 ^ 30) }
     ensures { result ≡ end_answer (end_at number s.now line at []) }
 {
     if !text::starts_at(s, at, b"END\n") {
-        return End::Refused(Refusal {
+        return Err(Refusal {
             number,
             line,
             length: 0,
         });
     }
     if s.len() != at + 4 {
-        return End::Refused(Refusal {
+        return Err(Refusal {
             number,
             line: line + 1,
             length: 0,
         });
     }
-    End::Reached
+    Ok(())
 }

@@ -10,7 +10,7 @@ ghost use Rattle.plan_verdict.specs.Verdict.{SizesFit, Judgement};
 
 use gate::Refusal;
 use judging::judge_long;
-use plan_verdict::Outcome;
+use passes::Verdict;
 
 // Question 2, of both files.
 fn sizes_fit(sheet: &[u8], plan: &[u8]) -> bool
@@ -38,13 +38,13 @@ pub fn verdict(
     word: &mut [u16],
     one: &mut [u16],
     other: &mut [u16],
-) -> Outcome
+) -> Result<Verdict, Refusal>
     ensures { Judgement sheet.now plan.now room
         (build_tables (transition_sets table.old marks.old) (witness_tables word.old one.old other.old) (tracker_tables tuples.old nexts.old))
         (build_tables (transition_sets table.new marks.new) (witness_tables word.new one.new other.new) (tracker_tables tuples.new nexts.new)) result }
 {
     if !tracker::enough(room, table, marks, tuples, nexts, word, one, other) {
-        return Outcome::Refused(Refusal {
+        return Err(Refusal {
             number: 1,
             line: 0,
             length: 0,
@@ -54,7 +54,7 @@ pub fn verdict(
         lent::clear_sets(table, marks);
         filling::clear(tuples, nexts);
         lent::clear_witness(word, one, other);
-        return Outcome::Refused(Refusal {
+        return Err(Refusal {
             number: 2,
             line: 0,
             length: 0,

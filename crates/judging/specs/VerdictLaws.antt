@@ -1,5 +1,5 @@
 -- The verdict's contract from what its parts ensure. Assumes nothing.
-use Rattle.std.specs.Prelude.{ℕ, refl, ◌≡◌, List, length}
+use Rattle.std.specs.Prelude.{ℕ, refl, ◌≡◌, List, length, Err, Ok, Result}
 use Rattle.std.proofs.Common.{sym, subst, ◌∙◌}
 use Rattle.gate.specs.declared.Refusal.{Refusal}
 use Rattle.automaton.specs.Automaton.{TransitionSets, Fits}
@@ -18,9 +18,6 @@ use Rattle.building.specs.FileBuild.{Builds}
 use Rattle.building.specs.FileBuildLaws.{file-built}
 use Rattle.filling.proofs.FittedLaws.{fitted-cleared}
 use Rattle.tracker.specs.declared.Tracker.{Tracker}
-use Rattle.tracker.specs.declared.Built.TheVariants as B
-use Rattle.plan_verdict.specs.declared.Outcome.{Outcome}
-use Rattle.plan_verdict.specs.declared.Outcome.TheVariants.{Refused, Judged}
 use Rattle.passes.specs.declared.Verdict.{Verdict}
 use Rattle.plan_verdict.specs.Verdict.{SizesFit, Verdicts, Refusing, Judgement}
 use Rattle.passes.specs.TableRun.{TablesFit, TableJudges}
@@ -48,13 +45,13 @@ verdicts s σ accepted room before after count fitted p lead cycle z plan table 
 -- behind questions 1 and 2
 module _ {s p : List ℕ} {room : ℕ} {before after : BuildTables} (lent : EnoughToBuild room before) (sizes : SizesFit s p) where
   -- 3 to 11
-  pub sheet-refused : {r : Refusal} → Builds s room before after (B.Refused r) → Judgement s p room before after (Refused r)
+  pub sheet-refused : {r : Refusal} → Builds s room before after (Err r) → Judgement s p room before after (Err r)
   sheet-refused (Builds.short n e same) = absurd (n lent)
-  sheet-refused {r} (Builds.refused l x h e o c) = let f : Refused r ≡ Refused x = cc in Judgement.refused lent x (Refusing.by-sheet sizes h) f o c
+  sheet-refused {r} (Builds.refused l x h e o c) = let f : Err r ≡ Err x = cc in Judgement.refused lent x (Refusing.by-sheet sizes h) f o c
   sheet-refused {r} (Builds.asked l σ accepted w (more, is, c) o) = Judgement.refused lent r (Refusing.by-room sizes σ accepted more is w) refl o c
 
   -- behind building, with the tracker y and names in rows
-  module _ {rows : List ℕ} {y : Tracker} (built : Builds s room before after (B.Is y)) (letters : LettersOf s rows y.numbers) where
+  module _ {rows : List ℕ} {y : Tracker} (built : Builds s room before after (Ok y)) (letters : LettersOf s rows y.numbers) where
     -- the sheet of both: a file is of one sheet
     abbrev σ : Sheet
     σ = letters.sheet
@@ -76,24 +73,24 @@ module _ {s p : List ℕ} {room : ℕ} {before after : BuildTables} (lent : Enou
 
     -- 12 to 14
     plan-refused : {sets : TransitionSets} {tracker : TrackerTables} {r : Refusal} → cleared_sets after.sets ≡ cleared_sets before.sets
-        → PlanJudged σ p after.tracker.tuples after.tracker.nexts y.tuples (Refused r) → sets ≡ cleared_sets after.sets
-        → tracker ≡ cleared_tracker after.tracker → Judgement s p room before (build_tables sets after.witness tracker) (Refused r)
+        → PlanJudged σ p after.tracker.tuples after.tracker.nexts y.tuples (Err r) → sets ≡ cleared_sets after.sets
+        → tracker ≡ cleared_tracker after.tracker → Judgement s p room before (build_tables sets after.witness tracker) (Err r)
     plan-refused {r = r} same (number, line, faulty, is) e zero =
         Judgement.refused lent r (Refusing.by-plan sizes σ accepted.0 after.tracker y.tuples accepted.2 number line faulty is witness) refl
         (e ∙ same)
         (zero ∙ fitted-cleared (numbers σ) fits room y.tuples before.tracker after.tracker accepted.2)
 
     -- the answer
-    plan-judged : {z : Verdict} → PlanJudged σ p after.tracker.tuples after.tracker.nexts y.tuples (Judged z) → Judgement s p room before after (Judged z)
+    plan-judged : {z : Verdict} → PlanJudged σ p after.tracker.tuples after.tracker.nexts y.tuples (Ok z) → Judgement s p room before after (Ok z)
     plan-judged {z} (lead, cycle, plan, table) =
         let (a, o, fitted) = accepted in
         Judgement.judged lent sizes σ a y.tuples fitted lead cycle z
         (verdicts s σ a room before.tracker after.tracker y.tuples fitted p lead cycle z plan table) refl o witness
 
     -- either, with what is left of the tables
-    pub plan-answered : {sets : TransitionSets} {tracker : TrackerTables} (o : Outcome) → cleared_sets after.sets ≡ cleared_sets before.sets
+    pub plan-answered : {sets : TransitionSets} {tracker : TrackerTables} (o : Result Verdict Refusal) → cleared_sets after.sets ≡ cleared_sets before.sets
         → PlanJudged σ p after.tracker.tuples after.tracker.nexts y.tuples o → PlanLeft after.sets sets after.tracker tracker o
         → Judgement s p room before (build_tables sets after.witness tracker) o
-    plan-answered (Refused r) same plan (empty, zero) = plan-refused same plan empty zero
-    plan-answered (Judged z) same plan (sets-kept, tracker-kept) =
-        subst (λ (t : BuildTables). Judgement s p room before t (Judged z)) (λ i. build_tables (sym sets-kept i) after.witness (sym tracker-kept i)) (plan-judged plan)
+    plan-answered (Err r) same plan (empty, zero) = plan-refused same plan empty zero
+    plan-answered (Ok z) same plan (sets-kept, tracker-kept) =
+        subst (λ (t : BuildTables). Judgement s p room before t (Ok z)) (λ i. build_tables (sym sets-kept i) after.witness (sym tracker-kept i)) (plan-judged plan)

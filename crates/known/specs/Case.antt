@@ -1,5 +1,5 @@
 -- Document 01, "Known cases": what a case is, and what it says of every outcome that the contracts of the verdict and of building allow.
-use Rattle.std.specs.Prelude.{ℕ, ◌≤◌, ◌≡◌, List, map, length}
+use Rattle.std.specs.Prelude.{ℕ, ◌≤◌, ◌≡◌, List, map, length, Err, Ok, Result}
 use Rattle.gate.specs.Gate.{refusal}
 use Rattle.gate.specs.declared.Refusal.{Refusal}
 use Rattle.automaton.specs.Automaton.{graph_of}
@@ -8,13 +8,9 @@ use Rattle.format.specs.Format.{Sheet, FileIs}
 use Rattle.format.specs.Numbers.{numbers}
 use Rattle.tuple.specs.Step.{Tuple}
 use Rattle.tracker.specs.declared.Tracker.{Tracker}
-use Rattle.tracker.specs.declared.Built.{Built}
-use Rattle.tracker.specs.declared.Built.TheVariants as B
 use Rattle.filling.specs.TrackerTables.{TrackerTables, Holds}
 use Rattle.tracker.specs.Build.{BuildTables, EnoughToBuild}
 use Rattle.building.specs.FileBuild.{Builds}
-use Rattle.plan_verdict.specs.declared.Outcome.{Outcome}
-use Rattle.plan_verdict.specs.declared.Outcome.TheVariants as O
 use Rattle.passes.specs.declared.Verdict.{Verdict}
 use Rattle.plan_verdict.specs.Verdict.{Judgement}
 
@@ -53,24 +49,24 @@ abbrev pub met : ℕ → Refusal
 met t = record { number = 10; line = 0; length = t }
 
 -- the outcome of a verdict is the expected one
-abbrev pub VerdictIs : List ℕ → TrackerTables → TrackerTables → Outcome → Expected → Type 0
-VerdictIs s before after o (judged z colours) = (o ≡ O.Judged z) × Tracked s before after colours
-VerdictIs s before after o (refused number line) = o ≡ O.Refused (refusal number line)
-VerdictIs s before after o (meeting word one other) = (o ≡ O.Refused (met (length word))) × Shortest s word one other
+abbrev pub VerdictIs : List ℕ → TrackerTables → TrackerTables → Result Verdict Refusal → Expected → Type 0
+VerdictIs s before after o (judged z colours) = (o ≡ Ok z) × Tracked s before after colours
+VerdictIs s before after o (refused number line) = o ≡ Err (refusal number line)
+VerdictIs s before after o (meeting word one other) = (o ≡ Err (met (length word))) × Shortest s word one other
 
 -- the questions on a plan
 abbrev pub OfPlan : ℕ → Type 0
 OfPlan number = (12 ≤ number) × (number ≤ 14)
 
 -- and so is that of building, which asks none of these
-abbrev pub BuiltIs : List ℕ → TrackerTables → TrackerTables → Built → Expected → Type 0
-BuiltIs s before after o (judged z colours) = ((x : Tracker) × (o ≡ B.Is x) × (x.tuples ≡ length colours)) × Tracked s before after colours
-BuiltIs s before after o (refused number line) = (OfPlan number → ⊥) → o ≡ B.Refused (refusal number line)
-BuiltIs s before after o (meeting word one other) = (o ≡ B.Refused (met (length word))) × Shortest s word one other
+abbrev pub BuiltIs : List ℕ → TrackerTables → TrackerTables → Result Tracker Refusal → Expected → Type 0
+BuiltIs s before after o (judged z colours) = ((x : Tracker) × (o ≡ Ok x) × (x.tuples ≡ length colours)) × Tracked s before after colours
+BuiltIs s before after o (refused number line) = (OfPlan number → ⊥) → o ≡ Err (refusal number line)
+BuiltIs s before after o (meeting word one other) = (o ≡ Err (met (length word))) × Shortest s word one other
 
 -- THE DEFINITIONS ALONE give what is expected: it is every outcome that they allow, in tables that are long enough
 pub record Forced (c : Case) : Type 0 where
-  pub verdict : (before after : BuildTables) (o : Outcome) → EnoughToBuild c.room before
+  pub verdict : (before after : BuildTables) (o : Result Verdict Refusal) → EnoughToBuild c.room before
       → Judgement c.sheet c.plan c.room before after o → VerdictIs c.sheet before.tracker after.tracker o c.expected
-  pub building : (before after : BuildTables) (o : Built) → EnoughToBuild c.room before
+  pub building : (before after : BuildTables) (o : Result Tracker Refusal) → EnoughToBuild c.room before
       → Builds c.sheet c.room before after o → BuiltIs c.sheet before.tracker after.tracker o c.expected

@@ -1,5 +1,7 @@
 -- A case that is computed right is forced: a verdict is the one expected, and so is a tracker. Assumes nothing.
-use Rattle.std.specs.Prelude.{ℕ, ◌≤◌, ◌≡◌, not, List, ◌++◌, map, eqb, ltb, length, take, drop}
+use Rattle.std.specs.Prelude.{ℕ, ◌≤◌, ◌≡◌, not, List, ◌++◌, map, eqb, ltb, length, take, drop, Err, Ok, Result}
+use Rattle.tracker.specs.declared.Tracker.{Tracker}
+use Rattle.gate.specs.declared.Refusal.{Refusal}
 use Rattle.std.proofs.Common.{sym, ◌∙◌, arith, ltb-false, eqb-true}
 use Rattle.std.proofs.Math.Path.{ap, subst}
 use Rattle.std.proofs.Math.Bool.{true, and-eq-true_iff, false≢true}
@@ -15,8 +17,6 @@ use Rattle.frame.specs.Phase.{Phase, refused, passed}
 use Rattle.lists.specs.SearchLaws.{same-is}
 use Rattle.parser.proofs.ParseLaws.{AreContents}
 use Rattle.tuple.specs.Step.{Tuple}
-use Rattle.tracker.specs.declared.Built.{Built}
-use Rattle.tracker.specs.declared.Built.TheVariants as B
 use Rattle.filling.specs.TrackerTables.{TrackerTables, Holds}
 use Rattle.passes.specs.Letter.{letter_at}
 use Rattle.plan_lines.specs.PlanLines.{most_plan}
@@ -27,8 +27,6 @@ use Rattle.plan.specs.Parse as P
 use Rattle.plan.specs.ParseLaws.{plan-means}
 use Rattle.plan.specs.ParseLaws as L
 use Rattle.plan.specs.CompleteLaws.{fault-read, plan-read}
-use Rattle.plan_verdict.specs.declared.Outcome.{Outcome}
-use Rattle.plan_verdict.specs.declared.Outcome.TheVariants as O
 use Rattle.passes.specs.declared.Verdict.{Verdict}
 use Rattle.passes.specs.Passes.{Judges}
 use Rattle.plan_verdict.specs.Verdict.{SizesFit}
@@ -70,7 +68,7 @@ module _ (s p : List ℕ) (before after : TrackerTables) (σ : Sheet) (file : Fi
   A = x.numbers
 
   -- QUESTIONS 12 TO 14 answered no
-  fault-asked : (o : Outcome) (number line : ℕ) → Plan.PlanFaulty σ p number line → o ≡ O.Refused (refusal number line)
+  fault-asked : (o : Result Verdict Refusal) (number line : ℕ) → Plan.PlanFaulty σ p number line → o ≡ Err (refusal number line)
       → (e : Expected) → right_plan A (plan_of x.names x.superseding p) e ≡ true → VerdictIs s before after o e
   unfolding right_plan
   fault-asked o number line h is e t =
@@ -89,14 +87,14 @@ module _ (s p : List ℕ) (before after : TrackerTables) (σ : Sheet) (file : Fi
         (subst (λ (B : Automaton). Judges B (letter_at lead cycle) (length lead) (length cycle) z) (sym are.numbers) j)
         (verdict-is A (letter_at lead cycle) (length lead) (length cycle) y (rw (take-append_seam lead cycle, drop-append_seam lead cycle) at t))
 
-    verdict-asked : (o : Outcome) → Holds (numbers σ) ts before after → o ≡ O.Judged z
+    verdict-asked : (o : Result Verdict Refusal) → Holds (numbers σ) ts before after → o ≡ Ok z
         → (e : Expected) → right_colours ts e ≡ true → right_plan A (plan_of x.names x.superseding p) e ≡ true → VerdictIs s before after o e
     unfolding right_plan
-    verdict-asked o h is (judged y colours) c t = (is ∙ ap O.Judged (same-verdict y (rw plan-passed at t)), tracked s before after σ file ts h y colours c)
+    verdict-asked o h is (judged y colours) c t = (is ∙ ap Ok (same-verdict y (rw plan-passed at t)), tracked s before after σ file ts h y colours c)
     verdict-asked o h is (E.refused number line) c t = absurd (false≢true (rw plan-passed at t))
     verdict-asked o h is (meeting word one other) c t = absurd (no-witness ts word one other c)
 
-  plan-asked : (o : Outcome) → PlanCause p before after o σ ts → (e : Expected) → right_colours ts e ≡ true → right_plan A (plan_of x.names x.superseding p) e ≡ true → VerdictIs s before after o e
+  plan-asked : (o : Result Verdict Refusal) → PlanCause p before after o σ ts → (e : Expected) → right_colours ts e ≡ true → right_plan A (plan_of x.names x.superseding p) e ≡ true → VerdictIs s before after o e
   plan-asked o (PlanCause.plan-fault number line h is) e c t = fault-asked o number line h is e t
   plan-asked o (PlanCause.verdict h lead cycle plan z j is) e c t = verdict-asked lead cycle plan z j o h is e c t
 
@@ -120,7 +118,7 @@ module _ (s p : List ℕ) (before after : TrackerTables) (σ : Sheet) (file : Fi
           other (subst OfPlan (eqb-true n number a) (plan-number n l h))
       by (passed y) h t = false≢true t
 
-  tracker-asked : length p ≤ most_plan → (o : Built) → IsBuilt before after o σ ts → (e : Expected) → right_colours ts e ≡ true → right_plan A (plan_of x.names x.superseding p) e ≡ true
+  tracker-asked : length p ≤ most_plan → (o : Result Tracker Refusal) → IsBuilt before after o σ ts → (e : Expected) → right_colours ts e ≡ true → right_plan A (plan_of x.names x.superseding p) e ≡ true
       → BuiltIs s before after o e
   tracker-asked size o h (judged z colours) c t =
       let k = h.counted ∙ (sym (length-map ts (λ u. u.colour)) ∙ ap length (colours-are ts z colours c)) in
@@ -142,7 +140,7 @@ right-forced c e =
       verdict = λ before after o lent h.
           (let old = before.tracker in
           let new = after.tracker in
-          sheet-asked c.sheet c.plan c.room Outcome O.Refused (PlanCause c.plan old new o) o (VerdictIs c.sheet old new o)
+          sheet-asked c.sheet c.plan c.room (Result Verdict Refusal) Err (PlanCause c.plan old new o) o (VerdictIs c.sheet old new o)
           (λ number line e t is. subst (VerdictIs c.sheet old new o) (refused-is number line e t) is)
           (λ word one other is k. (is, k))
           (λ σ file x are ts. plan-asked c.sheet c.plan old new σ file x are ts o)
@@ -150,7 +148,7 @@ right-forced c e =
       building = λ before after o lent h.
           (let old = before.tracker in
           let new = after.tracker in
-          sheet-asked c.sheet c.plan c.room Built B.Refused (IsBuilt old new o) o (BuiltIs c.sheet old new o)
+          sheet-asked c.sheet c.plan c.room (Result Tracker Refusal) Err (IsBuilt old new o) o (BuiltIs c.sheet old new o)
           (λ number line e t is. subst (BuiltIs c.sheet old new o) (refused-is number line e t) (λ other. is))
           (λ word one other is k. (is, k))
           (λ σ file x are ts. tracker-asked c.sheet c.plan old new σ file x are ts size.plan o)

@@ -1,6 +1,6 @@
 -- The contracts of the verdict and of building, where the lent tables are long enough and the files are not too long: what leads to an outcome.
 -- Assumes nothing.
-use Rattle.std.specs.Prelude.{ℕ, ◌≤◌, ◌≡◌, refl, List, length}
+use Rattle.std.specs.Prelude.{ℕ, ◌≤◌, ◌≡◌, refl, List, length, Err, Ok, Result}
 use Rattle.std.proofs.Common.{ap, ◌∙◌, arith}
 use Rattle.gate.specs.Gate.{refusal}
 use Rattle.gate.specs.declared.Refusal.{Refusal}
@@ -11,8 +11,6 @@ use Rattle.format.specs.Numbers.{numbers}
 use Rattle.reading.specs.Read.{Accepted, Refuses}
 use Rattle.tuple.specs.Step.{Tuple}
 use Rattle.tracker.specs.declared.Tracker.{Tracker}
-use Rattle.tracker.specs.declared.Built.{Built}
-use Rattle.tracker.specs.declared.Built.TheVariants as B
 use Rattle.numbering.specs.Numbering.{Numbering, MoreThan}
 use Rattle.filling.specs.TrackerTables.{TrackerTables, Holds, Fitted}
 use Rattle.tracker.specs.Build.{BuildTables, EnoughToBuild}
@@ -20,8 +18,6 @@ use Rattle.building.specs.FileBuild.{Builds}
 use Rattle.passes.specs.Letter.{letter_at}
 use Rattle.plan.specs.Plan.{PlanIs}
 use Rattle.plan.specs.Plan as Plan
-use Rattle.plan_verdict.specs.declared.Outcome.{Outcome}
-use Rattle.plan_verdict.specs.declared.Outcome.TheVariants as O
 use Rattle.passes.specs.declared.Verdict.{Verdict}
 use Rattle.passes.specs.Passes.{Judges}
 use Rattle.plan_verdict.specs.Verdict.{SizesFit, Refusing, Judgement}
@@ -40,18 +36,18 @@ pub data Cause (s : List ℕ) (room : ℕ) (Outcomes : Type 0) (refuse : Refusal
   numbered : (σ : Sheet) → Accepted s σ → (ts : List Tuple) → Numbering (numbers σ) ts → length ts ≤ room → Then σ ts → Cause s room Outcomes refuse Then o
 
 -- then the plan file p leads to the outcome of a verdict
-pub data PlanCause (p : List ℕ) (before after : TrackerTables) (o : Outcome) (σ : Sheet) (ts : List Tuple) : Type 0 where
+pub data PlanCause (p : List ℕ) (before after : TrackerTables) (o : Result Verdict Refusal) (σ : Sheet) (ts : List Tuple) : Type 0 where
   -- 12 to 14
-  plan-fault : (number line : ℕ) → Plan.PlanFaulty σ p number line → o ≡ O.Refused (refusal number line) → PlanCause p before after o σ ts
+  plan-fault : (number line : ℕ) → Plan.PlanFaulty σ p number line → o ≡ Err (refusal number line) → PlanCause p before after o σ ts
   -- yes or no
   verdict : Holds (numbers σ) ts before after → (lead cycle : List ℕ) → PlanIs σ p lead cycle
-      → (z : Verdict) → Judges (numbers σ) (letter_at lead cycle) (length lead) (length cycle) z → o ≡ O.Judged z → PlanCause p before after o σ ts
+      → (z : Verdict) → Judges (numbers σ) (letter_at lead cycle) (length lead) (length cycle) z → o ≡ Ok z → PlanCause p before after o σ ts
 
 -- or a tracker is built
-pub record IsBuilt (before after : TrackerTables) (o : Built) (σ : Sheet) (ts : List Tuple) : Type 0 where
+pub record IsBuilt (before after : TrackerTables) (o : Result Tracker Refusal) (σ : Sheet) (ts : List Tuple) : Type 0 where
   pub holds : Holds (numbers σ) ts before after
   pub tracker : Tracker
-  pub is : o ≡ B.Is tracker
+  pub is : o ≡ Ok tracker
   pub counted : tracker.tuples ≡ length ts
 
 module _ (s : List ℕ) (room : ℕ) (before after : BuildTables) (lent : EnoughToBuild room before) where
@@ -67,27 +63,27 @@ module _ (s : List ℕ) (room : ℕ) (before after : BuildTables) (lent : Enough
   room-is σ built count fitted = omega (arith, fitted.count-is, fitted.room-is)
 
   module _ (p : List ℕ) (size : SizesFit s p) where
-    abbrev PlannedThen : Outcome → Sheet → List Tuple → Type 0
+    abbrev PlannedThen : Result Verdict Refusal → Sheet → List Tuple → Type 0
     PlannedThen = PlanCause p before.tracker after.tracker
 
-    refusing-cause : (o : Outcome) (r : Refusal) → Refusing s p room before after r → o ≡ O.Refused r → Cause s room Outcome O.Refused (PlannedThen o) o
+    refusing-cause : (o : Result Verdict Refusal) (r : Refusal) → Refusing s p room before after r → o ≡ Err r → Cause s room (Result Verdict Refusal) Err (PlannedThen o) o
     refusing-cause o r (Refusing.by_size long e c) is = absurd (long size)
-    refusing-cause o r (Refusing.by-sheet fit h) is = sheet-cause Outcome O.Refused (PlannedThen o) o r h is
-    refusing-cause o r (Refusing.by-room fit σ accepted h e c) is = Cause.no_room σ accepted h (is ∙ ap O.Refused e)
+    refusing-cause o r (Refusing.by-sheet fit h) is = sheet-cause (Result Verdict Refusal) Err (PlannedThen o) o r h is
+    refusing-cause o r (Refusing.by-room fit σ accepted h e c) is = Cause.no_room σ accepted h (is ∙ ap Err e)
     refusing-cause o r (Refusing.by-plan fit σ accepted built count fitted number line fault e c) is =
-        Cause.numbered σ accepted fitted.list fitted.holds.numbering (room-is σ built count fitted) (PlanCause.plan-fault number line fault (is ∙ ap O.Refused e))
+        Cause.numbered σ accepted fitted.list fitted.holds.numbering (room-is σ built count fitted) (PlanCause.plan-fault number line fault (is ∙ ap Err e))
 
-    pub verdict-cause : (o : Outcome) → Judgement s p room before after o → Cause s room Outcome O.Refused (PlannedThen o) o
+    pub verdict-cause : (o : Result Verdict Refusal) → Judgement s p room before after o → Cause s room (Result Verdict Refusal) Err (PlannedThen o) o
     verdict-cause o (Judgement.short short e same) = absurd (short lent)
     verdict-cause o (Judgement.refused l r h e x y) = refusing-cause o r h e
     verdict-cause o (Judgement.judged l d σ accepted count fitted lead cycle z h is e x) =
         Cause.numbered σ accepted fitted.list fitted.holds.numbering (room-is σ after.tracker count fitted)
         (PlanCause.verdict fitted.holds lead cycle h.plan z h.judged is)
 
-  pub build-cause : (o : Built) → Builds s room before after o → Cause s room Built B.Refused (IsBuilt before.tracker after.tracker o) o
+  pub build-cause : (o : Result Tracker Refusal) → Builds s room before after o → Cause s room (Result Tracker Refusal) Err (IsBuilt before.tracker after.tracker o) o
   build-cause o (Builds.short short e same) = absurd (short lent)
-  build-cause o (Builds.refused l r h e x y) = sheet-cause Built B.Refused (IsBuilt before.tracker after.tracker o) o r h e
-  build-cause (B.Refused r) (Builds.asked l σ accepted z (h, e, y) x) = Cause.no_room σ accepted h (ap B.Refused e)
-  build-cause (B.Is x) (Builds.asked l σ accepted z (n, fitted) e) =
+  build-cause o (Builds.refused l r h e x y) = sheet-cause (Result Tracker Refusal) Err (IsBuilt before.tracker after.tracker o) o r h e
+  build-cause (Err r) (Builds.asked l σ accepted z (h, e, y) x) = Cause.no_room σ accepted h (ap Err e)
+  build-cause (Ok x) (Builds.asked l σ accepted z (n, fitted) e) =
       Cause.numbered σ accepted fitted.list fitted.holds.numbering (room-is σ after.tracker x.tuples fitted)
       (record { holds = fitted.holds; tracker = x; is = refl; counted = fitted.count-is })

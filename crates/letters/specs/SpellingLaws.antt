@@ -1,6 +1,6 @@
 -- In a sheet file the name of a letter is found again as it is spelled: by induction along the name lines. Assumes nothing.
 use Prim.Native.Nat.{ℕ, zero, suc, ◌+◌, ◌-◌, ◌≤◌, ◌<◌}
-use Rattle.std.specs.Prelude.{◌≡◌, List, [], ◌∷◌, ◌++◌, length, get_or, drop}
+use Rattle.std.specs.Prelude.{◌≡◌, List, [], ◌∷◌, ◌++◌, length, get_or, drop, None, Some}
 use Rattle.std.proofs.Math.Path.{ap}
 use Rattle.std.proofs.Common.{◌∙◌, append_assoc}
 use native.Mathlib.Omega.{arith}
@@ -8,7 +8,6 @@ use Rattle.text.specs.Bytes.{lf}
 use Rattle.text.specs.BytesLaws.{stretch-is, stretch-rest}
 use Rattle.names.specs.Scan.{name_end_at}
 use Rattle.names.specs.ScanLaws.{name-ends}
-use Rattle.names.specs.declared.Ending.TheVariants as E
 use Rattle.format.specs.Format.{Sheet, FileIs, NamesRight, head_line, name_line, name_lines, withdrawal_lines, state_lines, transition_lines, end_line}
 use Rattle.format.proofs.FormatLaws.{head-length, lines-parted, name-behind, name-rest}
 use Rattle.letters.specs.Spelling.{line_below, spelled_at, spelling}
@@ -38,13 +37,13 @@ spelling-is s σ file l b =
 
 -- A NAME LINE found again: `left` lines are to be passed
 module _ (s : List ℕ) (at left : ℕ) where
-  pub below_next : 0 < left → (e : ℕ) → name_end_at s (at + 5) ≡ E.At e → line_below s at left ≡ line_below s (e + 1) (left - 1)
+  pub below_next : 0 < left → (e : ℕ) → name_end_at s (at + 5) ≡ Some e → line_below s at left ≡ line_below s (e + 1) (left - 1)
   unfolding line_below
   below_next h e b =
       let m : left ≡ suc (left - 1) = omega arith in
       ap (λ (n : ℕ). line_below s at n) m ∙ simp b
 
-  pub line-below-none : 0 < left → name_end_at s (at + 5) ≡ E.Bad → line_below s at left ≡ at
+  pub line-below-none : 0 < left → name_end_at s (at + 5) ≡ None → line_below s at left ≡ at
   unfolding line_below
   line-below-none h b =
       let m : left ≡ suc (left - 1) = omega arith in

@@ -6,7 +6,6 @@ mod spelling;
 ghost use Rattle.letters.specs.Letters.{NameIs, NumberIs};
 
 use gate::Refusal;
-use parser::File;
 
 // The name of a letter, as that very stretch of the sheet file, in the spelling found there; empty where there is none.
 pub fn name(sheet: &[u8], letter: usize) -> &[u8]
@@ -14,14 +13,8 @@ pub fn name(sheet: &[u8], letter: usize) -> &[u8]
 {
     let mut rows = [0u8; 224];
     match spelling::read_rows(sheet, &mut rows) {
-        File::Refused(_) => &sheet[..0],
-        File::Is(a) => {
-            if letter < a.k {
-                spelling::spelled(sheet, letter)
-            } else {
-                &sheet[..0]
-            }
-        }
+        Ok(a) if letter < a.k => spelling::spelled(sheet, letter),
+        _ => &sheet[..0],
     }
 }
 
@@ -31,21 +24,16 @@ pub fn name_number(sheet: &[u8], letter: usize) -> Refusal
 {
     let mut rows = [0u8; 224];
     match spelling::read_rows(sheet, &mut rows) {
-        File::Refused(r) => r,
-        File::Is(a) => {
-            if letter < a.k {
-                Refusal {
-                    number: 0,
-                    line: 0,
-                    length: 0,
-                }
-            } else {
-                Refusal {
-                    number: 14,
-                    line: 0,
-                    length: 0,
-                }
-            }
-        }
+        Err(r) => r,
+        Ok(a) if letter < a.k => Refusal {
+            number: 0,
+            line: 0,
+            length: 0,
+        },
+        Ok(_) => Refusal {
+            number: 14,
+            line: 0,
+            length: 0,
+        },
     }
 }

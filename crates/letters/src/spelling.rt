@@ -3,12 +3,12 @@ ghost use Rattle.std.specs.Prelude.{◌≡◌, ◌<◌, ◌≤◌, length};
 ghost use Rattle.letters.specs.Answers.{RowsRead};
 ghost use Rattle.letters.specs.Spelling.{line_below, spelling};
 
-use names::Ending;
-use parser::File;
+use automaton::Numbers;
+use gate::Refusal;
 use parser::whole_file::read_file;
 
 // The questions 2 to 9 on a sheet file, and its composed names in rows, with zeros behind. A refusal leaves the rows all zero.
-pub fn read_rows(s: &[u8], rows: &mut [u8]) -> File
+pub fn read_rows(s: &[u8], rows: &mut [u8]) -> Result<Numbers, Refusal>
     requires { 224 ≤ length rows.old }
     ensures { RowsRead s.now rows.old rows.new result }
 {
@@ -23,13 +23,11 @@ fn line_of(s: &[u8], letter: usize) -> usize
     ensures { (result ≡ line_below s.now 12 letter) × (result ≤ 252) }
 {
     let mut at = 12;
-    let mut left = letter;
-    while 0 < left {
-        let Ending::At(e) = names::name_end(s, at + 5) else {
+    for _ in 0..letter {
+        let Some(e) = names::name_end(s, at + 5) else {
             return at;
         };
         at = e + 1;
-        left -= 1;
     }
     at
 }
@@ -41,7 +39,7 @@ pub fn spelled(s: &[u8], letter: usize) -> &[u8]
 {
     let at = line_of(s, letter);
     let start = at + 5;
-    let Ending::At(end) = names::name_end(s, start) else {
+    let Some(end) = names::name_end(s, start) else {
         return &s[..0];
     };
     &s[start..end]

@@ -1,5 +1,5 @@
 -- The answers of listing from numbers, one by one. Assumes nothing.
-use Rattle.std.specs.Prelude.{ℕ, ◌≡◌, List}
+use Rattle.std.specs.Prelude.{ℕ, ◌≡◌, List, Err, Ok, Result}
 use Rattle.std.proofs.Common.{sym, ap, subst, ◌∙◌, arith}
 use Rattle.gate.specs.Gate.{refusal, RefusedWith}
 use Rattle.gate.specs.GateLaws.{refused-first}
@@ -12,10 +12,6 @@ use Rattle.tracker.specs.Build.{BuildNumbersTables, build_numbers_tables, cleare
 use Rattle.tracker.specs.BuildLaws.{numbers-built}
 use Rattle.filling.proofs.FittedLaws.{fitted-room, fitted-cleared}
 use Rattle.tracker.specs.declared.Tracker.{Tracker}
-use Rattle.tracker.specs.declared.Built.{Built}
-use Rattle.tracker.specs.declared.Built.TheVariants.{Refused as BuildRefused, Is}
-use Rattle.gate.specs.declared.Written.{Written}
-use Rattle.gate.specs.declared.Written.TheVariants.{Refused, Bytes}
 use Rattle.listing.specs.List.{list_numbers_tables, listing_of, Left, ListsNumbers}
 use Rattle.listing_lines.specs.PutLine.{Sized}
 use Rattle.listing.specs.Finish.{Finishes}
@@ -37,16 +33,16 @@ room-number r e n = let k : ◌≡◌ {A = ℕ} 11 1 = sym (ap (λ (r : Refusal)
 
 -- WHAT IS LEFT of the tables that building gave, from what the last question leaves of the tracker's. The buffer was old and is new.
 
-left-numbers : (before built : BuildNumbersTables) (tracker : TrackerTables) (l : Written) → built.witness ≡ cleared_witness before.witness
+left-numbers : (before built : BuildNumbersTables) (tracker : TrackerTables) (l : Result ℕ Refusal) → built.witness ≡ cleared_witness before.witness
     → cleared_tracker built.tracker ≡ cleared_tracker before.tracker → Left (cleared_tracker built.tracker) built.tracker tracker l
     → Left (cleared_build_numbers before) built (build_numbers_tables built.witness tracker) l
-left-numbers before built tracker (Refused r) witness zero left = λ i. build_numbers_tables (witness i) ((left ∙ zero) i)
-left-numbers before built tracker (Bytes count) witness zero left = λ i. build_numbers_tables built.witness (left i)
+left-numbers before built tracker (Err r) witness zero left = λ i. build_numbers_tables (witness i) ((left ∙ zero) i)
+left-numbers before built tracker (Ok count) witness zero left = λ i. build_numbers_tables built.witness (left i)
 
 -- FROM NUMBERS
 
 module _ {A : Automaton} {room : ℕ} {before built : BuildNumbersTables} where
-  refused-numbers : {r : Refusal} {old new : List ℕ} {l : Written} → BuildsNumbers A room before built (BuildRefused r) → RefusedWith r old new l
+  refused-numbers : {r : Refusal} {old new : List ℕ} {l : Result ℕ Refusal} → BuildsNumbers A room before built (Err r) → RefusedWith r old new l
       → ListsNumbers A room (list_numbers_tables before old) (list_numbers_tables built new) l
   refused-numbers {r} (BuildsNumbers.short n e same) a =
       let i : r ≡ refusal 1 0 = cc in
@@ -58,19 +54,19 @@ module _ {A : Automaton} {room : ℕ} {before built : BuildNumbersTables} where
       ListsNumbers.refused l r (BuildsNumbers.asked l fits free z (m, e, q)) a.is (a.zero (room-number r e))
 
   -- behind building, which answered z
-  module _ {z : Built} (builds : BuildsNumbers A room before built z) where
-    answered-numbers : {y : Built} → z ≡ y → BuildsNumbers A room before built y
+  module _ {z : Result Tracker Refusal} (builds : BuildsNumbers A room before built z) where
+    answered-numbers : {y : Result Tracker Refusal} → z ≡ y → BuildsNumbers A room before built y
     answered-numbers told = subst (BuildsNumbers A room before built) told builds
 
-    pub list-numbers-refused : {r : Refusal} {old new : List ℕ} {l : Written} → z ≡ BuildRefused r → RefusedWith r old new l
+    pub list-numbers-refused : {r : Refusal} {old new : List ℕ} {l : Result ℕ Refusal} → z ≡ Err r → RefusedWith r old new l
         → ListsNumbers A room (list_numbers_tables before old) (list_numbers_tables built new) l
     list-numbers-refused told = refused-numbers (answered-numbers told)
 
-    module _ {x : Tracker} (told : z ≡ Is x) where
+    module _ {x : Tracker} (told : z ≡ Ok x) where
       pub numbers-sized : Sized x.numbers.n x.numbers.k x.tuples built.tracker.tuples built.tracker.nexts
       numbers-sized = let (l, fits, (are, fitted), z) = numbers-built (answered-numbers told) in sized x fits l.tracker are fitted
 
-      pub numbers-finished : {tracker : TrackerTables} {old new : List ℕ} (l : Written) → Finishes (listing_of x built.tracker) built.tracker tracker old new l
+      pub numbers-finished : {tracker : TrackerTables} {old new : List ℕ} (l : Result ℕ Refusal) → Finishes (listing_of x built.tracker) built.tracker tracker old new l
           → ListsNumbers A room (list_numbers_tables before old) (list_numbers_tables (build_numbers_tables built.witness tracker) new) l
       numbers-finished {tracker} l (put, left) =
           let (lent, fits, (are, fitted), witness) = numbers-built (answered-numbers told) in

@@ -1,10 +1,8 @@
 -- A sheet rewritten with a mark on every transition into a must-recur state "has the very same listing" (R-9). Assumes nothing.
-use Rattle.std.specs.Prelude.{ℕ, ◌≤◌, ◌≡◌, List, length}
+use Rattle.std.specs.Prelude.{ℕ, ◌≤◌, ◌≡◌, List, length, Err, Ok, Result}
 use Rattle.std.proofs.Common.{sym, ap, ◌∙◌, arith}
 use Rattle.gate.specs.Gate.{lent_text}
 use Rattle.gate.specs.declared.Refusal.{Refusal}
-use Rattle.gate.specs.declared.Written.{Written}
-use Rattle.gate.specs.declared.Written.TheVariants.{Refused, Bytes}
 use Rattle.automaton.specs.Automaton.{Automaton, Fits, AreNumbers}
 use Rattle.automaton.specs.Rewritten.{marked_into}
 use Rattle.automaton.specs.declared.Edition.TheVariants.{StateBased}
@@ -12,7 +10,6 @@ use Rattle.filling.specs.TrackerTables.{TrackerTables, Fitted}
 use Rattle.tracker.specs.BuildLaws.{numbers-built}
 use Rattle.tracker.specs.RewrittenBuild.{rewritten_numbers, rewritten-enough, rewritten-enough⁻, rewritten-builds}
 use Rattle.tracker.specs.declared.Tracker.{Tracker}
-use Rattle.tracker.specs.declared.Built.TheVariants.{Refused as BuildRefused, Is}
 use Rattle.listing_text.specs.Listing.{listing}
 use Rattle.listing_text.specs.SameListing.{rewritten-listing}
 use Rattle.listing.specs.List.{ListNumbersTables, listing_of, ListsNumbers}
@@ -31,10 +28,10 @@ record ListedFrom (A : Automaton) (room count : ℕ) (before after : ListNumbers
   pub bytes : count ≡ length (listing_of tracker built)
   pub output : after.output ≡ lent_text (listing_of tracker built) before.output
 
-no_bytes : {count : ℕ} {r : Refusal} → Bytes count ≡ Refused r → ⊥
+no_bytes : {count : ℕ} {r : Refusal} → Ok count ≡ Err r → ⊥
 no_bytes e = let z : ◌≡◌ {A = ℕ} 0 1 = cc in omega arith
 
-lists : {A : Automaton} {room count : ℕ} {before after : ListNumbersTables} → ListsNumbers A room before after (Bytes count) → ListedFrom A room count before after
+lists : {A : Automaton} {room count : ℕ} {before after : ListNumbersTables} → ListsNumbers A room before after (Ok count) → ListedFrom A room count before after
 lists (ListsNumbers.short n e same) = absurd (no_bytes e)
 lists (ListsNumbers.refused l r n e z) = absurd (no_bytes e)
 lists (ListsNumbers.asked built x is (bytes, room, output) left) =
@@ -48,7 +45,7 @@ module _ (A : Automaton) (edition : A.edition ≡ StateBased) where
   rewritten-listing-of {one = one} {other} {x} {y} are are' p q = listing-is x one are ∙ rewritten-listing A edition p q ∙ sym (listing-is y other are')
 
   -- so the call writes one text on both
-  pub rewritten-text : {r s c d : ℕ} {v w one other : ListNumbersTables} → ListsNumbers (marked_into A) r v one (Bytes c) → ListsNumbers A s w other (Bytes d)
+  pub rewritten-text : {r s c d : ℕ} {v w one other : ListNumbersTables} → ListsNumbers (marked_into A) r v one (Ok c) → ListsNumbers A s w other (Ok d)
       → (text : List ℕ) × (c ≡ length text) × (one.output ≡ lent_text text v.output) × (d ≡ length text) × (other.output ≡ lent_text text w.output)
   rewritten-text {v = v} p q =
       let x = lists p in
@@ -57,10 +54,10 @@ module _ (A : Automaton) (edition : A.edition ≡ StateBased) where
       (listing_of y.tracker y.built, x.bytes ∙ ap length same, x.output ∙ ap (λ (text : List ℕ). lent_text text v.output) same, y.bytes, y.output)
 
   -- and what it answers on a sheet that fits, it answers on the rewritten one, in the same tables
-  pub rewritten-lists : Fits A → 128 ≤ length A.marks → {room : ℕ} {before after : ListNumbersTables} {l : Written} → ListsNumbers A room before after l
+  pub rewritten-lists : Fits A → 128 ≤ length A.marks → {room : ℕ} {before after : ListNumbersTables} {l : Result ℕ Refusal} → ListsNumbers A room before after l
       → ListsNumbers (marked_into A) room before after l
   rewritten-lists fits full (ListsNumbers.short n e same) = ListsNumbers.short (λ k. n (rewritten-enough⁻ A edition fits full k)) e same
   rewritten-lists fits full (ListsNumbers.refused k r n e z) =
-      ListsNumbers.refused (rewritten-enough A edition fits full k) r (rewritten-builds A edition fits full (BuildRefused r) n) e z
+      ListsNumbers.refused (rewritten-enough A edition fits full k) r (rewritten-builds A edition fits full (Err r) n) e z
   rewritten-lists fits full (ListsNumbers.asked built x is put left) =
-      ListsNumbers.asked built (record { numbers = rewritten_numbers x.numbers; tuples = x.tuples }) (rewritten-builds A edition fits full (Is x) is) put left
+      ListsNumbers.asked built (record { numbers = rewritten_numbers x.numbers; tuples = x.tuples }) (rewritten-builds A edition fits full (Ok x) is) put left

@@ -11,8 +11,7 @@ ghost use Rattle.listing_lines.specs.PutLine.{Sized};
 ghost use Rattle.listing.specs.Finish.{Finishes};
 
 use automaton::Numbers;
-use gate::{Refusal, Written};
-use tracker::Built;
+use gate::Refusal;
 
 // The last question, whether the buffer is long enough, and the listing with zeros behind it.
 pub fn finish(
@@ -22,7 +21,7 @@ pub fn finish(
     tuples: &mut [u16],
     nexts: &mut [u16],
     out: &mut [u8],
-) -> Written
+) -> Result<usize, Refusal>
     requires { Sized n k count tuples.old nexts.old }
     ensures { Finishes (listing n k count tuples.old nexts.old)
         (tracker_tables tuples.old nexts.old) (tracker_tables tuples.new nexts.new) out.old out.new result }
@@ -31,14 +30,14 @@ pub fn finish(
     if out.len() < bytes {
         filling::clear(tuples, nexts);
         gate::clear_bytes(out);
-        return Written::Refused(Refusal {
+        return Err(Refusal {
             number: 1,
             line: 0,
             length: 0,
         });
     }
     listing_text::write(out, n, k, count, tuples, nexts);
-    Written::Bytes(bytes)
+    Ok(bytes)
 }
 
 // The listing of the tracker of a sheet as numbers.
@@ -53,7 +52,7 @@ pub fn list_numbers(
     one: &mut [u16],
     other: &mut [u16],
     out: &mut [u8],
-) -> Written
+) -> Result<usize, Refusal>
     ensures { ListsNumbers (automaton a table.now marks.now) room
         (list_numbers_tables (build_numbers_tables (witness_tables word.old one.old other.old) (tracker_tables tuples.old nexts.old))
         out.old)
@@ -61,7 +60,7 @@ pub fn list_numbers(
         out.new) result }
 {
     match tracker::build_numbers(a, table, marks, room, tuples, nexts, word, one, other) {
-        Built::Refused(r) => gate::refuse(r, out),
-        Built::Is(x) => finish(x.numbers.n, x.numbers.k, x.tuples, tuples, nexts, out),
+        Err(r) => gate::refuse(r, out),
+        Ok(x) => finish(x.numbers.n, x.numbers.k, x.tuples, tuples, nexts, out),
     }
 }

@@ -24,11 +24,9 @@ fn put_cells(out: &mut [u8], at: usize, w: usize, table: &[u16], from: usize, co
     ensures { out.new ≡ sets out.old at (columns w (cells_from table.now from) count) }
 {
     let mut p = at;
-    let mut i: usize = 0;
-    while i < count {
+    for i in 0..count {
         columns::put_column(out, p, w, table[from + i] as usize);
         p += w;
-        i += 1;
     }
 }
 

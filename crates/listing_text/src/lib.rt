@@ -30,11 +30,9 @@ fn put_tuples(
 {
     let line = 10 + (6 * n + 5 * k);
     let mut p = at;
-    let mut t: usize = 0;
-    while t < count {
+    for t in 0..count {
         listing_lines::put_tuple(out, p, n, k, tuples, nexts, t);
         p += line;
-        t += 1;
     }
 }
 

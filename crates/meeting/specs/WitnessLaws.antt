@@ -1,13 +1,12 @@
 -- A meeting traced back to its start is a witness. Assumes nothing.
-use Rattle.std.specs.Prelude.{ℕ, suc, ◌+◌, ◌<◌, ◌≡◌, List, get_or}
+use Rattle.std.specs.Prelude.{ℕ, suc, ◌+◌, ◌≡◌, refl, List, get_or, IsSome, None, Option, Some}
 use Rattle.std.proofs.Common.{sym, ap, subst, inl, inr, add-one, arith}
-use Rattle.std.proofs.Math.Decide.{dec_lt}
 use Rattle.sets.specs.Sets.{Member}
 use Rattle.automaton.specs.Graph.{Graph}
 use Rattle.automaton.specs.Meeting.{Walk, Witness, cells}
 use Rattle.lent.specs.Lent.{WitnessTables}
 use Rattle.queue.specs.Queue.{pair, depth, one, other}
-use Rattle.pair_search.specs.Search.{Justified, JoinsOn, Common, Joining, MeetingFound}
+use Rattle.pair_search.specs.Search.{Justified, JoinsOn, Common, LeastJoining, Joining, MeetingFound}
 use Rattle.meeting.specs.Trace.{noted, ended, Tail, Traced, Leads}
 use Rattle.meeting.specs.Answer.{Asked}
 use Rattle.meeting.specs.LastLetterLaws.{trace-start}
@@ -39,19 +38,15 @@ traced-witness G counts T head d i v e f x = go (f.justified i (let b = x.before
         }
 
 -- the pair found joins on some letter
-pub found-letter : {G : Graph} {counts : ℕ} {T : List ℕ} {head e l : ℕ} → MeetingFound G counts T head → e ≡ pair T head → Joining G.table counts e l → l < 8
-found-letter {G} {counts} {l = l} f h j = by (dec_lt l 8)
-  where
-    by : Dec (l < 8) → l < 8
-    by (yes k) = k
-    by (no k) = let m = f.low in absurd (j.none f.letter (omega arith) (subst (λ (x : ℕ). JoinsOn G.table counts x f.letter) (sym h) f.joins))
+pub found-joins : {G : Graph} {counts : ℕ} {T : List ℕ} {head e : ℕ} (o : Option ℕ) → MeetingFound G counts T head → e ≡ pair T head → Joining G.table counts e o → IsSome o
+found-joins {G} {counts} None f h j = absurd (j f.letter f.low (subst (λ (x : ℕ). JoinsOn G.table counts x f.letter) (sym h) f.joins))
+found-joins (Some l) f h j = refl
 
 pub witness-of : {G : Graph} {counts : ℕ} {T : List ℕ} {head e l i : ℕ} {v w u : WitnessTables} (r z : ℕ) → Asked G v → MeetingFound G counts T head → e ≡ pair T head
-    → Joining G.table counts e l → Common G.table counts (one e) (other e) l r → Member r z → u ≡ noted v (depth e) l e
+    → LeastJoining G.table counts e l → Common G.table counts (one e) (other e) l r → Member r z → u ≡ noted v (depth e) l e
     → Leads T head (depth e) 0 i (ended u (depth e) z) w
     → Witness G (Member counts) (depth e + 1) w.word w.one w.other
 witness-of {G} {counts} {T} {head} {e} {l} {i} {v} {w} r z a f he j c m k g =
-    let low = found-letter f he j in
-    let start = trace-start G counts T head e l z v a he (rw he f.most) low (j.joins low).apart ((c z).0 m) in
+    let start = trace-start G counts T head e l z v a he (rw he f.most) j.low j.joins.apart ((c z).0 m) in
     let g' = subst (λ (u : WitnessTables). Leads T head (depth e) 0 i (ended u (depth e) z) w) k g in
     rw add-one (traced-witness G counts T head (depth e) i w (ap depth he) f (g' G counts f.justified start))

@@ -18,14 +18,12 @@ fn member(set: u16) -> usize
     requires { set ≡ 0 → ⊥ }
     ensures { (result < 16) × Member set result }
 {
-    let mut q = 0;
-    while q < 15 {
+    for q in 0..15 {
         if sets::contains(set, q) {
             return q;
         }
-        q += 1;
     }
-    q
+    15
 }
 
 // Letter l and the states of pair e at time t.
@@ -46,11 +44,9 @@ fn trace(queue: &[u16], head: usize, d: usize, word: &mut [u16], one: &mut [u16]
         (witness_tables word.new one.new other.new) }
 {
     let mut i = head;
-    let mut t = d;
-    while 0 < t {
+    for t in (0..d).rev() {
         let o = queue::number(queue, 256 + i);
         i = o / 8;
-        t -= 1;
         note(word, one, other, t, o % 8, queue::number(queue, i));
     }
 }
@@ -73,7 +69,7 @@ fn witness(
     let d = e / 256;
     let p = e / 16 % 16;
     let q = e % 16;
-    let l = pair_search::joining(table, counts, e);
+    let l = pair_search::joining(table, counts, e).unwrap();
     let z = member(pair_search::common(table, counts, p, q, l)) as u16;
     note(word, one, other, d, l, e);
     one[d + 1] = z;
@@ -82,7 +78,7 @@ fn witness(
     d + 1
 }
 
-// Question 10 where a meeting counts at the states of a set: 0 for yes, or the length of a shortest word with meeting walks.
+// Question 10 where a meeting counts at the states of a set: the length of a shortest word with meeting walks, if there are any.
 pub fn search(
     g: GraphNumbers,
     table: &[u16],
@@ -90,15 +86,12 @@ pub fn search(
     word: &mut [u16],
     one: &mut [u16],
     other: &mut [u16],
-) -> usize
+) -> Option<usize>
     requires { Asked (graph g table.now) (witness_tables word.old one.old other.old) × Backwards (graph g table.now) (Member counts) }
     ensures { Answered (graph g table.now) (Member counts) (witness_tables word.old one.old other.old)
         (witness_tables word.new one.new other.new) result }
 {
     let mut queue = [0u16; 528];
-    let head = pair_search::explore(g, table, counts, &mut queue);
-    if head < 256 {
-        return witness(g, table, counts, &queue, head, word, one, other);
-    }
-    0
+    let head = pair_search::explore(g, table, counts, &mut queue)?;
+    Some(witness(g, table, counts, &queue, head, word, one, other))
 }

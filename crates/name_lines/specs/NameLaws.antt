@@ -1,6 +1,7 @@
 -- The name lines: the phase that reads them passes or refuses as Format says, by induction along the lines. Assumes nothing.
+use Rattle.std.proofs.lemmas.Option.{none-some}
 use Prim.Native.Nat.{ℕ, zero, suc, ◌+◌, ◌≤◌, ◌<◌}
-use Rattle.std.specs.Prelude.{◌≡◌, refl, Bool, true, false, eqb}
+use Rattle.std.specs.Prelude.{◌≡◌, refl, Bool, true, false, eqb, None, Option, Some}
 use Rattle.std.proofs.Math.Path.{sym, ap}
 use Rattle.std.proofs.Common.{subst, ◌∙◌, zero-add, add-zero, suc-add}
 use Rattle.std.proofs.Math.Bool.{and-eq-true_iff}
@@ -17,8 +18,6 @@ use Rattle.text.specs.WordLaws.{goes_on, byte-is}
 use Rattle.names.specs.Name.{IsName, compose}
 use Rattle.names.specs.Scan.{name_end_at, with_ending}
 use Rattle.names.specs.ScanLaws.{name-is, name-ends}
-use Rattle.names.specs.declared.Ending.{Ending}
-use Rattle.names.specs.declared.Ending.TheVariants as E
 use Rattle.format.specs.Format.{name_line, name_lines, DistinctFrom, NamesRight, NameFault, wrong_name, name-twice}
 use Rattle.format.proofs.FormatLaws.{name-parted, name-behind, name-rest}
 use Rattle.name_lines.specs.NameLines.{Named, name_line_at, names_at}
@@ -31,12 +30,9 @@ use Rattle.lists.specs.ChoiceLaws.{test-true}
 
 -- ONE LINE
 
-bad-is-not : (e : ℕ) → E.Bad ≡ E.At e → ⊥
-bad-is-not e h = let z : ◌≡◌ {A = ℕ} 0 1 = cc in omega arith
-
 module _ (s : List ℕ) (at l : ℕ) where
   pub name-line-of : (x rest : List ℕ) → l < 1000 → IsName x → drop at s ≡ name_line l x ++ rest →
-      (name_line_at s at l ≡ E.At (at + 5 + length x)) × (stretch s (at + 5) (at + 5 + length x) ≡ x)
+      (name_line_at s at l ≡ Some (at + 5 + length x)) × (stretch s (at + 5) (at + 5 + length x) ≡ x)
   unfolding name_line_at
   name-line-of x rest hl h e =
       let (opening, behind) = numbered_of s at 78 l (space ∷ (x ++ (lf ∷ rest))) hl (e ∙ name-parted l x rest) in
@@ -49,10 +45,10 @@ module _ (s : List ℕ) (at l : ℕ) where
     pub is_name : IsName (stretch s (at + 5) e)
     pub text : drop at s ≡ name_line l (stretch s (at + 5) e) ++ drop (e + 1) s
 
-  pub name-line-is : (e : ℕ) → name_line_at s at l ≡ E.At e → NameLine e
+  pub name-line-is : (e : ℕ) → name_line_at s at l ≡ Some e → NameLine e
   unfolding name_line_at
   name-line-is e h =
-      let (tests, ends) = test-true (bad-is-not e) _ (name_end_at s (at + 5)) h in
+      let (tests, ends) = test-true (none-some e) _ (name_end_at s (at + 5)) h in
       let (opening, gap) = (and-eq-true_iff (is_numbered s at 78 l) _).0 tests in
       let name = name-is s (at + 5) e ends in
       let p : at + 4 + 1 ≡ at + 5 = omega arith in
@@ -160,27 +156,27 @@ names-outcome s (suc todo) line at earlier hl =
     known e h false q ih =
         at_once (name-twice (stretch s (at + 5) e) (drop (e + 1) s) h.is_name h.text (λ d. eqb-false _ _ q (distinct-letter (stretch s (at + 5) e) earlier d)))
 
-    by : (w : Ending) → name_line_at s at (length (map compose earlier)) ≡ w → ((e : ℕ) (x : List ℕ) → Next e x (map compose (earlier ++ (x ∷ [])))) →
+    by : (w : Option ℕ) → name_line_at s at (length (map compose earlier)) ≡ w → ((e : ℕ) (x : List ℕ) → Next e x (map compose (earlier ++ (x ∷ [])))) →
         NamesOutcome s line at earlier (suc todo) (with_ending w (after_name s line at earlier todo) (refused 5 line))
-    by (E.At e) q ih = known e (name-line-is s at (length earlier) e (rw length-map at q)) _ refl (ih e)
-    by E.Bad q ih =
-        let b : name_line_at s at (length earlier) ≡ E.Bad = rw length-map at q in
-        at_once (wrong_name (λ x after is t. bad-is-not (at + 5 + length x) (sym b ∙ (name-line-of s at (length earlier) x after (omega arith) is t).0)))
+    by (Some e) q ih = known e (name-line-is s at (length earlier) e (rw length-map at q)) _ refl (ih e)
+    by None q ih =
+        let b : name_line_at s at (length earlier) ≡ None = rw length-map at q in
+        at_once (wrong_name (λ x after is t. none-some (at + 5 + length x) (sym b ∙ (name-line-of s at (length earlier) x after (omega arith) is t).0)))
 
 -- The other way round: along lines that are right the phase goes on, and at a fault it refuses
 
-name-none : (s : List ℕ) (at l : ℕ) → ((x after : List ℕ) → IsName x → drop at s ≡ name_line l x ++ after → ⊥) → name_line_at s at l ≡ E.Bad
+name-none : (s : List ℕ) (at l : ℕ) → ((x after : List ℕ) → IsName x → drop at s ≡ name_line l x ++ after → ⊥) → name_line_at s at l ≡ None
 name-none s at l none = by (name_line_at s at l) refl
   where
-    by : (w : Ending) → name_line_at s at l ≡ w → w ≡ E.Bad
-    by (E.At e) q = let h = name-line-is s at l e q in absurd (none (stretch s (at + 5) e) (drop (e + 1) s) h.is_name h.text)
-    by E.Bad q = refl
+    by : (w : Option ℕ) → name_line_at s at l ≡ w → w ≡ None
+    by (Some e) q = let h = name-line-is s at l e q in absurd (none (stretch s (at + 5) e) (drop (e + 1) s) h.is_name h.text)
+    by None q = refl
 
 module _ (s : List ℕ) (line at : ℕ) (earlier : List (List ℕ)) (todo : ℕ) (few : length earlier < 1000) where
-  name-read : (e : ℕ) → name_line_at s at (length earlier) ≡ E.At e → names_at s line at (map compose earlier) (suc todo) ≡ after_name s line at earlier todo e
+  name-read : (e : ℕ) → name_line_at s at (length earlier) ≡ Some e → names_at s line at (map compose earlier) (suc todo) ≡ after_name s line at earlier todo e
   unfolding names_at
   name-read e h =
-      let w : name_line_at s at (length (map compose earlier)) ≡ E.At e = rw length-map h in
+      let w : name_line_at s at (length (map compose earlier)) ≡ Some e = rw length-map h in
       simp w
 
   name-next : (x rest : List ℕ) → IsName x → DistinctFrom earlier x → drop at s ≡ name_line (length earlier) x ++ rest →
@@ -194,7 +190,7 @@ module _ (s : List ℕ) (line at : ℕ) (earlier : List (List ℕ)) (todo : ℕ)
   pub names-fault : {number : ℕ} → NameFault earlier (drop at s) number → names_at s line at (map compose earlier) (suc todo) ≡ refused number line
   unfolding names_at
   names-fault (wrong_name none) =
-      let w : name_line_at s at (length (map compose earlier)) ≡ E.Bad = rw length-map (name-none s at (length earlier) none) in
+      let w : name_line_at s at (length (map compose earlier)) ≡ None = rw length-map (name-none s at (length earlier) none) in
       simp w
   names-fault (name-twice x after is e d) =
       let w = name-line-of s at (length earlier) x after few is e in

@@ -1,5 +1,5 @@
 -- One step of the definition of the name lines, which the loop goes along. Assumes nothing.
-use Rattle.std.specs.Prelude.{ℕ, ◌+◌, ◌-◌, ◌*◌, ◌<◌, ◌≤◌, ◌≡◌, List, [], ◌∷◌, ◌++◌, length, drop}
+use Rattle.std.specs.Prelude.{ℕ, ◌+◌, ◌-◌, ◌*◌, ◌<◌, ◌≤◌, ◌≡◌, List, [], ◌∷◌, ◌++◌, length, drop, None, Some}
 use Rattle.std.proofs.Math.Path.{sym}
 use Rattle.std.proofs.Common.{◌∙◌, ap, subst, length-append, drop-drop, sub-eq-zero_of_le, arith, eq-eqb, ne_eqb}
 use Rattle.std.proofs.lemmas.List.Edits.{sets}
@@ -14,7 +14,6 @@ use Rattle.names.specs.NameLaws.{composed-name}
 use Rattle.name_rows.specs.LetterLaws.{letter-is}
 use Rattle.name_rows.specs.RowsLaws.{holds_more, rest-still, row-tells}
 use Rattle.name_lines.specs.NameLaws.{name-line-is}
-use Rattle.names.specs.declared.Ending.TheVariants as E
 
 -- the name lines as far as they are read: the next one is line `line`, stands at `at` and is of letter l
 -- the rows were `old`
@@ -27,7 +26,7 @@ pub record NamesSoFar (s : List ℕ) (k : ℕ) (old rows : List ℕ) (line at l 
 
 -- THE NAME LINES: l of k are read
 module _ {s : List ℕ} {k : ℕ} {old rows : List ℕ} {line at l : ℕ} (z : NamesSoFar s k old rows line at l) where
-  pub names-bad : l < k → name_line_at s at l ≡ E.Bad → names_at s 2 12 [] k ≡ refused 5 line
+  pub names-bad : l < k → name_line_at s at l ≡ None → names_at s 2 12 [] k ≡ refused 5 line
   unfolding names_at
   names-bad h b = sym z.goes ∙ rw (left-more h) (simp (z.count, b))
 
@@ -48,7 +47,7 @@ row-less x y l e =
 
 pub row-stored :
     {s : List ℕ} {k : ℕ} {old rows v : List ℕ} {line at l e r : ℕ} →
-    NamesSoFar s k old rows line at l → l < k → name_line_at s at l ≡ E.At e → 24 * l + 24 ≤ length rows →
+    NamesSoFar s k old rows line at l → l < k → name_line_at s at l ≡ Some e → 24 * l + 24 ≤ length rows →
     v ≡ sets rows (24 * l) (padded 24 (compose (stretch s (at + 5) e))) → FirstLike v l r → NameStored s k old v line l e r
 unfolding names_at
 row-stored {s} {k} {old} {rows} {v} {line} {at} {l} {e} {r} z h b fits stored like =

@@ -1,10 +1,9 @@
 -- A text begins with the name lines of one list of so many names at most. Assumes nothing.
-use Rattle.std.specs.Prelude.{ℕ, suc, ◌+◌, ◌≤◌, ◌<◌, ◌≡◌, refl, List, [], ◌∷◌, ◌++◌, length}
+use Rattle.std.specs.Prelude.{ℕ, suc, ◌+◌, ◌≤◌, ◌<◌, ◌≡◌, refl, List, [], ◌∷◌, ◌++◌, length, Some}
 use Rattle.std.proofs.Common.{sym, ap, ap₂, ◌∙◌, append_assoc, arith}
 use Rattle.text.specs.Bytes.{stretch}
 use Rattle.lists.specs.AppendLaws.{append-same}
 use Rattle.names.specs.Name.{IsName}
-use Rattle.names.specs.declared.Ending.TheVariants as E
 use Rattle.format.specs.Format.{name_line, name_lines, NamesRight}
 use Rattle.format.proofs.FormatLaws.{name-length}
 use Rattle.name_lines.specs.NameLaws.{name-line-of}
@@ -16,7 +15,7 @@ module _ (r t : List ℕ) where
       let s : List ℕ = name_line l x ++ r in
       let a = name-line-of s 0 l x r hl h refl in
       let b = name-line-of s 0 l y t hl g e in
-      let f : E.At (0 + 5 + length x) ≡ E.At (0 + 5 + length y) = sym a.0 ∙ b.0 in
+      let f : Some (0 + 5 + length x) ≡ Some (0 + 5 + length y) = sym a.0 ∙ b.0 in
       let d : 0 + 5 + length x ≡ 0 + 5 + length y = cc in
       let c : length y ≡ length x = omega arith in
       (sym a.1 ∙ (ap (stretch s (0 + 5)) d ∙ b.1), (append-same (name_line l x) (name_line l y) r t (name-length l x ∙ (ap (6 +◌) (sym c) ∙ sym (name-length l y))) e).1)

@@ -50,6 +50,7 @@ fn put_composed(s: &[u8], start: usize, end: usize, out: &mut [u8], at: usize) -
 {
     let mut i = start;
     let mut n = 0;
+    // A while: a turn passes three bytes or one.
     while i < end {
         if diaeresis_at(s, i, end) {
             out[at + n] = 0xC3;
@@ -71,8 +72,7 @@ pub fn compose_into(s: &[u8], start: usize, end: usize, rows: &mut [u8], at: usi
     ensures { rows.new ≡ sets rows.old at (padded 24 (compose (stretch s.now start end))) }
 {
     let n = put_composed(s, start, end, rows, at);
-    let zeros = [0u8; 24];
-    text::put_bytes(rows, at + n, &zeros[..24 - n]);
+    rows[at + n..at + 24].fill(0);
 }
 
 // Whether the rows at a and at b are equal.
@@ -80,12 +80,7 @@ fn same_row(rows: &[u8], a: usize, b: usize) -> bool
     requires { (a + 24 ≤ length rows.now) × (b + 24 ≤ length rows.now) }
     ensures { Decides result (name_row rows.now a ≡ name_row rows.now b) }
 {
-    for i in 0..24usize {
-        if rows[a + i] != rows[b + i] {
-            return false;
-        }
-    }
-    true
+    rows[a..a + 24] == rows[b..b + 24]
 }
 
 // The first row that is like row `count`.
@@ -93,12 +88,10 @@ pub fn first_like(rows: &[u8], count: usize) -> usize
     requires { (count ≤ 8) × (24 * count + 24 ≤ length rows.now) }
     ensures { FirstLike rows.now count result }
 {
-    let mut l = 0;
-    while l < count {
+    for l in 0..count {
         if same_row(rows, 24 * l, 24 * count) {
             return l;
         }
-        l += 1;
     }
     count
 }

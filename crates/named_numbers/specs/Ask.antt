@@ -1,12 +1,10 @@
 -- What the questions on a sheet as numbers, with a sheet file for the names, answer.
-use Rattle.std.specs.Prelude.{ℕ, ◌≡◌, List}
+use Rattle.std.specs.Prelude.{ℕ, ◌≡◌, List, Err, Ok, Result}
 use Rattle.gate.specs.Gate.{refusal}
 use Rattle.gate.specs.declared.Refusal.{Refusal}
 use Rattle.automaton.specs.Automaton.{Automaton, graph_of, Fits, FirstNo}
 use Rattle.automaton.specs.Endless.{MeetingFree}
 use Rattle.lent.specs.Lent.{WitnessTables, cleared_witness, Meets}
-use Rattle.walks.specs.declared.Checked.{Checked}
-use Rattle.walks.specs.declared.Checked.TheVariants as K
 use Rattle.format.specs.Format.{Withdrawal, Sheet}
 use Rattle.format.specs.Withdrawals.{EdgesInForce}
 use Rattle.parser.specs.LettersOf.{LettersIn}
@@ -20,9 +18,9 @@ pub data NamedNumbersRefuse (A : Automaton) (ws : List Withdrawal) (before after
   meeting : Fits A → EdgesInForce (graph_of A) ws → Meets (graph_of A) before after x → NamedNumbersRefuse A ws before after x
 
 -- the same, or all answered yes
-abbrev pub ChecksNamed : Automaton → List Withdrawal → WitnessTables → WitnessTables → Checked → Type 0
-ChecksNamed A ws before after (K.Refused x) = NamedNumbersRefuse A ws before after x
-ChecksNamed A ws before after K.Accepted = Fits A × EdgesInForce (graph_of A) ws × MeetingFree (graph_of A) × (after ≡ cleared_witness before)
+abbrev pub ChecksNamed : Automaton → List Withdrawal → WitnessTables → WitnessTables → Result Unit Refusal → Type 0
+ChecksNamed A ws before after (Err x) = NamedNumbersRefuse A ws before after x
+ChecksNamed A ws before after (Ok tt) = Fits A × EdgesInForce (graph_of A) ws × MeetingFree (graph_of A) × (after ≡ cleared_witness before)
 
 -- NUMBERS A with a file s for the names. Questions 2 to 10; the tables are the witness:
 -- "that file's questions come first, then a differing k is 4, line 0, then the questions on the numbers"
@@ -40,6 +38,6 @@ pub record NamedAccepted (A : Automaton) (s : List ℕ) (σ : Sheet) : Type 0 wh
   pub free : MeetingFree (graph_of A)
 
 -- on numbers with the names' file s: refused, or all answered yes, with the file's letters in rows. The other tables are the witness.
-abbrev pub Asks : Automaton → List ℕ → List ℕ → WitnessTables → WitnessTables → Checked → Type 0
-Asks A s rows before after (K.Refused x) = NamedRefuse A s before after x
-Asks A s rows before after K.Accepted = (σ : Sheet) × NamedAccepted A s σ × LettersIn σ A.k rows × (after ≡ cleared_witness before)
+abbrev pub Asks : Automaton → List ℕ → List ℕ → WitnessTables → WitnessTables → Result Unit Refusal → Type 0
+Asks A s rows before after (Err x) = NamedRefuse A s before after x
+Asks A s rows before after (Ok tt) = (σ : Sheet) × NamedAccepted A s σ × LettersIn σ A.k rows × (after ≡ cleared_witness before)

@@ -1,15 +1,12 @@
 -- The questions behind the reading of the names' file: a differing k, and those on the numbers. Assumes nothing.
-use Rattle.std.specs.Prelude.{ℕ, ◌≡◌, List}
+use Rattle.std.specs.Prelude.{ℕ, ◌≡◌, List, Err, Ok, Result}
 use Rattle.std.proofs.Common.{sym, ap, ◌∙◌, subst}
 use Rattle.gate.specs.Gate.{refusal}
 use Rattle.gate.specs.declared.Refusal.{Refusal}
 use Rattle.automaton.specs.declared.Numbers.{Numbers}
-use Rattle.automaton.specs.Automaton.{Automaton, TransitionSets}
-use Rattle.lent.specs.Lent.{WitnessTables, EnoughForSheet, cleared_witness}
+use Rattle.automaton.specs.Automaton.{Automaton}
+use Rattle.lent.specs.Lent.{WitnessTables, cleared_witness}
 use Rattle.lent.proofs.LentLaws.{tables-twice, meets-cleared}
-use Rattle.walks.specs.declared.Checked.{Checked}
-use Rattle.walks.specs.declared.Checked.TheVariants as K
-use Rattle.walks.specs.CheckLaws.{ready}
 use Rattle.superseding.specs.Superseding.{superseding_in}
 use Rattle.format.specs.Format.{Withdrawal}
 use Rattle.format.specs.Withdrawals.{TellWithdrawn}
@@ -29,26 +26,22 @@ module _ (A : Automaton) {s : List ℕ} {before after : ReadTables} {a : Numbers
   pub ask-letters : {x : Refusal} → (a.k ≡ A.k → ⊥) → x ≡ refusal 4 0 → NamedRefuse A s before.witness after.witness x
   ask-letters differ e = NamedRefuse.by-letters h.sheet h.accepted (λ same. differ (sym h.names.letters ∙ same)) e h.witness
 
-  -- the witness is long enough still, and all zero
-  pub ask-ready : {t : TransitionSets} → EnoughForSheet t before.witness → EnoughForSheet t after.witness × (after.witness ≡ cleared_witness after.witness)
-  ask-ready long = ready before.witness h.witness long
-
   -- the rows tell which letters the file withdraws
   tell : TellWithdrawn h.sheet.withdrawals (superseding_in after.rows)
   tell =
       let ws = h.sheet.withdrawals in
       subst (TellWithdrawn ws) (sym h.names.superseding) (superseding-tell h.sheet.k h.accepted.file.right.range.3 ws h.names.withdrawals)
 
-  pub ask-numbers : a.k ≡ A.k → (checked : WitnessTables) (r : Checked)
+  pub ask-numbers : a.k ≡ A.k → (checked : WitnessTables) (r : Result Unit Refusal)
       → ((ws : List Withdrawal) → TellWithdrawn ws (superseding_in after.rows) → ChecksNamed A ws after.witness checked r)
       → Asks A s after.rows before.witness checked r
   ask-numbers same checked r answer = by r (answer h.sheet.withdrawals tell)
     where
-      by : (r : Checked) → ChecksNamed A h.sheet.withdrawals after.witness checked r → Asks A s after.rows before.witness checked r
-      by (K.Refused x) refuse =
+      by : (r : Result Unit Refusal) → ChecksNamed A h.sheet.withdrawals after.witness checked r → Asks A s after.rows before.witness checked r
+      by (Err x) refuse =
           let cleared-refuse = subst (λ (z : WitnessTables). NamedNumbersRefuse A h.sheet.withdrawals z checked x) h.witness refuse in
           NamedRefuse.by-numbers h.sheet h.accepted (h.names.letters ∙ same) (named-cleared before.witness cleared-refuse)
-      by K.Accepted (fits, in-force, free, z) = (
+      by (Ok tt) (fits, in-force, free, z) = (
         h.sheet,
         record { names = h.accepted; letters = h.names.letters ∙ same; fits = fits; in-force = in-force; free = free },
         subst (λ (k : ℕ). LettersIn h.sheet k after.rows) same h.names,

@@ -13,22 +13,19 @@ ghost use Rattle.named_numbers.specs.Ask.{ChecksNamed, Asks};
 
 use automaton::Numbers;
 use gate::Refusal;
-use reading::{Read, read_long};
-use walks::Checked;
+use reading::read_long;
 
 // Question 16: have the withdrawn letters no successors? Cell i is of letter i % 8, and the superseding letters are in rows.
 fn in_force(table: &[u16], rows: &[u8]) -> bool
     requires { (128 ≤ length table.now) × (224 ≤ length rows.now) }
     ensures { Decides result (CellsInForce table.now (superseding_in rows.now)) }
 {
-    let mut i = 0;
-    while i < 128 {
+    for i in 0..128 {
         if table[i] != 0 {
             if superseding::superseding(rows, i % 8) != 0 {
                 return false;
             }
         }
-        i += 1;
     }
     true
 }
@@ -42,37 +39,35 @@ fn ask_numbers(
     word: &mut [u16],
     one: &mut [u16],
     other: &mut [u16],
-) -> Checked
+) -> Result<(), Refusal>
     requires { EnoughForSheet (transition_sets table.now marks.now) (witness_tables word.old one.old other.old)
         × (witness_tables word.old one.old other.old ≡ cleared_witness (witness_tables word.old one.old other.old)) × (224 ≤ length rows.now) }
     ensures { (ws : List Withdrawal) → TellWithdrawn ws (superseding_in rows.now)
         → ChecksNamed (automaton a table.now marks.now) ws (witness_tables word.old one.old other.old)
         (witness_tables word.new one.new other.new) result }
 {
-    let number = automaton::first_no(a, table, marks);
-    if number != 0 {
-        return Checked::Refused(Refusal {
+    if let Some(number) = automaton::first_no(a, table, marks) {
+        return Err(Refusal {
             number,
             line: 0,
             length: 0,
         });
     }
     if !in_force(table, rows) {
-        return Checked::Refused(Refusal {
+        return Err(Refusal {
             number: 16,
             line: 0,
             length: 0,
         });
     }
-    let length = walks::ask(automaton::graph_of(a), table, word, one, other);
-    if length == 0 {
-        return Checked::Accepted;
+    if let Some(length) = walks::ask(automaton::graph_of(a), table, word, one, other) {
+        return Err(Refusal {
+            number: 10,
+            line: 0,
+            length,
+        });
     }
-    Checked::Refused(Refusal {
-        number: 10,
-        line: 0,
-        length,
-    })
+    Ok(())
 }
 
 // The questions behind 1 on a sheet as numbers with a sheet file for the names: that file's questions 2 to 10, a differing k (4), and the
@@ -86,24 +81,20 @@ pub fn ask(
     word: &mut [u16],
     one: &mut [u16],
     other: &mut [u16],
-) -> Checked
+) -> Result<(), Refusal>
     requires { EnoughForSheet (transition_sets table.now marks.now) (witness_tables word.old one.old other.old) × (224 ≤ length rows.old) }
     ensures { Asks (automaton a table.now marks.now) names.now rows.new
         (witness_tables word.old one.old other.old) (witness_tables word.new one.new other.new) result }
 {
     let mut successors = [0u16; 128];
     let mut marked = [0u16; 128];
-    match read_long(names, &mut successors, &mut marked, rows, word, one, other) {
-        Read::Refused(r) => Checked::Refused(r),
-        Read::Is(b) => {
-            if b.k != a.k {
-                return Checked::Refused(Refusal {
-                    number: 4,
-                    line: 0,
-                    length: 0,
-                });
-            }
-            ask_numbers(a, table, marks, rows, word, one, other)
-        }
+    let b = read_long(names, &mut successors, &mut marked, rows, word, one, other)?;
+    if b.k != a.k {
+        return Err(Refusal {
+            number: 4,
+            line: 0,
+            length: 0,
+        });
     }
+    ask_numbers(a, table, marks, rows, word, one, other)
 }

@@ -1,29 +1,14 @@
 -- The bytes of name parts: which they can be, and that they tell the parts apart. Assumes nothing.
-use Rattle.std.specs.Prelude.{ℕ, ◌+◌, ◌<◌, ◌≤◌, ◌≡◌, refl, Bool, true, false, ◌&&◌, List, [], ◌∷◌, ◌++◌, length, get_or, drop, eqb, leb}
-use Rattle.std.proofs.Common.{sym, ◌∙◌, ap, subst, ⊎_elim, append_assoc, append-nil, drop_of_length-le, drop-cons, eq-eqb, ne_eqb, eqb-true, leb-true, arith}
+use Rattle.std.specs.Prelude.{ℕ, ◌<◌, ◌≤◌, ◌≡◌, refl, Bool, true, false, ◌&&◌, List, [], ◌∷◌, ◌++◌, get_or, eqb, leb}
+use Rattle.std.proofs.Common.{sym, ◌∙◌, ap, subst, ⊎_elim, append_assoc, append-nil, ne_eqb, eqb-true, leb-true, arith}
 use Rattle.std.proofs.lemmas.Bool.{false≢true}
 use Rattle.std.proofs.Math.Bool.{and-false, and-eq-true_iff}
-use Rattle.std.proofs.Math.Numerals.{add-one}
 use Rattle.lists.specs.Choice.{choose}
 use Rattle.lists.specs.ChoiceLaws.{true-or-false}
 use Rattle.columns.specs.Number.{is_between}
 use Rattle.text.specs.Word.{without}
 use Rattle.names.specs.Name.{one_of, is_umlaut, is_vowel, is_decomposed, umlaut_of, Part, RightPart, RightParts, part_bytes, name_bytes, composed_part}
 use Rattle.names.specs.Name.Part.{plain, composed, decomposed}
-
--- A BYTE of a list, one step of the search
-module _ (bytes : List ℕ) (b i : ℕ) where
-  pub one-here : i < length bytes → b ≡ get_or bytes i 0 → one_of (drop i bytes) b ≡ true
-  unfolding one_of
-  one-here h e = rw (drop-cons bytes i 0) (simp (eq-eqb _ _ e))
-
-  pub one_later : i < length bytes → (b ≡ get_or bytes i 0 → ⊥) → one_of (drop i bytes) b ≡ one_of (drop (i + 1) bytes) b
-  unfolding one_of
-  one_later h n = rw (drop-cons bytes i 0, add-one i) (simp (ne_eqb _ _ n))
-
-  pub one-nowhere : length bytes ≤ i → one_of (drop i bytes) b ≡ false
-  unfolding one_of
-  one-nowhere h = rw (drop_of_length-le bytes h)
 
 -- THE RANGE of some bytes, by a test over them
 between : ℕ → ℕ → List ℕ → Bool

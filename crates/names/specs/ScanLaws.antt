@@ -1,5 +1,5 @@
 -- One step along a name, and what its end means. Assumes nothing.
-use Rattle.std.specs.Prelude.{ℕ, zero, suc, ◌+◌, ◌-◌, ◌<◌, ◌≤◌, ◌≡◌, Bool, true, false, List, [], ◌∷◌, ◌++◌, length, get_or, drop, eqb, ltb}
+use Rattle.std.specs.Prelude.{ℕ, zero, suc, ◌+◌, ◌-◌, ◌<◌, ◌≤◌, ◌≡◌, Bool, true, false, List, [], ◌∷◌, ◌++◌, length, get_or, drop, eqb, ltb, None, Some}
 use Rattle.std.proofs.Math.Path.{refl}
 use Rattle.std.proofs.Common.{sym, ◌∙◌, ap, subst, append_assoc, append-nil, length-append, get_or-drop, add-zero, sub-eq-zero_of_le}
 use Rattle.std.proofs.Math.Bool.{and-eq-true_iff}
@@ -17,7 +17,6 @@ use Rattle.names.specs.Name.{is_umlaut, is_vowel, is_decomposed, Part, RightPart
 use Rattle.names.specs.Name.Part.{plain, composed, decomposed}
 use Rattle.names.specs.PartLaws.{vowel-range, NoMark, no-mark, no-decomposed, parts-without}
 use Rattle.names.specs.Scan.{width_of, width_at, parts_end, name_end_at}
-use Rattle.names.specs.declared.Ending.TheVariants.{At, Bad}
 
 -- ONE STEP of the scan
 module _ (s : List ℕ) (at n t : ℕ) where
@@ -196,7 +195,7 @@ pub record NameAt (s : List ℕ) (start e : ℕ) : Type 0 where
 
 tests-of :
     (t₁ t₂ t₃ : Bool) (x e : ℕ) →
-    choose t₁ Bad (choose t₂ Bad (choose t₃ (At x) Bad)) ≡ At e → (t₁ ≡ false) × (t₂ ≡ false) × (t₃ ≡ true) × (x ≡ e)
+    choose t₁ None (choose t₂ None (choose t₃ (Some x) None)) ≡ Some e → (t₁ ≡ false) × (t₂ ≡ false) × (t₃ ≡ true) × (x ≡ e)
 tests-of true t₂ t₃ x e p = absurd (let z : ◌≡◌ {A = ℕ} 0 1 = cc in omega arith)
 tests-of false true t₃ x e p = absurd (let z : ◌≡◌ {A = ℕ} 0 1 = cc in omega arith)
 tests-of false false false x e p = absurd (let z : ◌≡◌ {A = ℕ} 0 1 = cc in omega arith)
@@ -221,7 +220,7 @@ name-at s start e p n l b =
       place = omega arith;
     }
 
-pub name-is : (s : List ℕ) (start e : ℕ) → name_end_at s start ≡ At e → NameAt s start e
+pub name-is : (s : List ℕ) (start e : ℕ) → name_end_at s start ≡ Some e → NameAt s start e
 unfolding name_end_at
 name-is s start e p =
     let w = tests-of _ _ _ (parts_end s start 25) e p in
@@ -230,7 +229,7 @@ name-is s start e p =
 
 -- and the other: a name with an LF behind it is found
 pub name-ends :
-    (s x rest : List ℕ) (start : ℕ) → IsName x → drop start s ≡ x ++ (lf ∷ rest) → name_end_at s start ≡ At (start + length x)
+    (s x rest : List ℕ) (start : ℕ) → IsName x → drop start s ≡ x ++ (lf ∷ rest) → name_end_at s start ≡ Some (start + length x)
 unfolding name_end_at
 name-ends s x rest start n e =
     let k : drop start s ≡ name_bytes n.parts ++ (lf ∷ rest) = e ∙ ap (λ (y : List ℕ). y ++ (lf ∷ rest)) n.is in
@@ -242,7 +241,7 @@ name-ends s x rest start n e =
     let j = n.most in
     simp (f, ne_eqb (start + length x) start (λ (q : start + length x ≡ start). omega arith), le-ltb (start + 24) (start + length x) (omega arith), eq-eqb _ _ b)
 
-pub no_name : (s x rest : List ℕ) (start : ℕ) → name_end_at s start ≡ Bad → IsName x → drop start s ≡ x ++ (lf ∷ rest) → ⊥
+pub no_name : (s x rest : List ℕ) (start : ℕ) → name_end_at s start ≡ None → IsName x → drop start s ≡ x ++ (lf ∷ rest) → ⊥
 no_name s x rest start b n e =
     let a = name-ends s x rest start n e in
     let z : ◌≡◌ {A = ℕ} 0 1 = cc in

@@ -6,25 +6,11 @@ ghost use Rattle.gate.specs.Gate.{Decides};
 ghost use Rattle.names.specs.Name.{one_of, is_umlaut, is_vowel, is_decomposed, IsName};
 ghost use Rattle.names.specs.Scan.{width_of, parts_end, name_end_at, name_fits};
 
-// Where a name ends: the position of the LF behind it.
-#[derive(Clone, Copy)]
-pub enum Ending {
-    At(usize),
-    Bad,
-}
-
 // Whether b is one of some bytes.
 fn one_of(bytes: &[u8], b: u8) -> bool
     ensures { result ≡ one_of bytes.now b }
 {
-    let mut i = 0;
-    while i < bytes.len() {
-        if b == bytes[i] {
-            return true;
-        }
-        i += 1;
-    }
-    false
+    bytes.contains(&b)
 }
 
 // The second byte of ä ö ü Ä Ö Ü ß, behind C3.
@@ -95,22 +81,22 @@ fn parts_end(s: &[u8], start: usize) -> usize
     at
 }
 
-// Where the name that starts at `start` ends.
-pub fn name_end(s: &[u8], start: usize) -> Ending
+// Where the name that starts at `start` ends: the position of the LF behind it.
+pub fn name_end(s: &[u8], start: usize) -> Option<usize>
     requires { start < 2 ^ 31 }
     ensures { (result ≡ name_end_at s.now start) × name_fits (length s.now) start result }
 {
     let end = parts_end(s, start);
     if end == start {
-        return Ending::Bad;
+        return None;
     }
     if end > start + 24 {
-        return Ending::Bad;
+        return None;
     }
     if text::byte_at(s, end) != 10 {
-        return Ending::Bad;
+        return None;
     }
-    Ending::At(end)
+    Some(end)
 }
 
 // Whether a slice is a name, with nothing behind it.

@@ -33,7 +33,7 @@ module _ {G : Graph} (fits : GraphFits G) {counts : ℕ} (back : Backwards G (Me
         go (i, h, d, a, b) =
             let p = v.goes u l in
             let q = v'.goes u l in
-            s.none i (w u) (done i h (omega arith)) (edge-letter G fits (w u) (x u) (x (suc u)) p)
+            s.none i (done i h (omega arith)) (w u) (edge-letter G fits (w u) (x u) (x (suc u)) p)
             (record {
               apart = λ e. j.apart (sym a ∙ e ∙ b);
               state = x (suc u);

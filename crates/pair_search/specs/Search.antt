@@ -1,5 +1,5 @@
 -- What a breadth-first search among pairs of states knows of its queue: why each pair is there, which pairs are done, and that none of these joins.
-use Rattle.std.specs.Prelude.{ℕ, suc, ◌+◌, ◌*◌, ◌/◌, ◌%◌, ◌≤◌, ◌<◌, ◌≡◌, ◌⊎◌, ◌↔◌, List, length}
+use Rattle.std.specs.Prelude.{ℕ, suc, ◌+◌, ◌*◌, ◌/◌, ◌%◌, ◌≤◌, ◌<◌, ◌≡◌, ◌⊎◌, ◌↔◌, List, length, None, Option, Some}
 use Rattle.sets.specs.Sets.{Member}
 use Rattle.automaton.specs.Graph.{Graph, Edge, GraphFits, successor_set}
 use Rattle.automaton.specs.Meeting.{Free, NoneShorter}
@@ -86,11 +86,20 @@ pub record JoinsOn (table : List ℕ) (counts e l : ℕ) : Type 0 where
   pub right : Member (successor_set table (other e) l) state
   pub counted : Member counts state
 
--- l is the least letter on which pair e joins, or 8 where there is none
-pub record Joining (table : List ℕ) (counts e l : ℕ) : Type 0 where
-  pub most : l ≤ 8
-  pub joins : l < 8 → JoinsOn table counts e l
-  pub none : (m : ℕ) → m < l → JoinsOn table counts e m → ⊥
+-- pair e joins on none of the letters below l
+abbrev pub NoneBelow : List ℕ → ℕ → ℕ → ℕ → Type 0
+NoneBelow table counts e l = (m : ℕ) → m < l → JoinsOn table counts e m → ⊥
+
+-- l is the least letter on which pair e joins
+pub record LeastJoining (table : List ℕ) (counts e l : ℕ) : Type 0 where
+  pub low : l < 8
+  pub joins : JoinsOn table counts e l
+  pub none : NoneBelow table counts e l
+
+-- the least letter on which pair e joins, or none where there is none
+abbrev pub Joining : List ℕ → ℕ → ℕ → Option ℕ → Type 0
+Joining table counts e None = NoneBelow table counts e 8
+Joining table counts e (Some l) = LeastJoining table counts e l
 
 -- the search has come to pair head: the pairs before are done
 pub record Search (G : Graph) (counts : ℕ) (T : List ℕ) (count head : ℕ) : Type 0 where
@@ -100,7 +109,7 @@ pub record Search (G : Graph) (counts : ℕ) (T : List ℕ) (count head : ℕ) :
   pub within : head ≤ count
   pub near : head < count → AtMost T count (suc (depth (pair T head)))
   pub closed : (i : ℕ) → i < head → Closed G T count i
-  pub none : (i l : ℕ) → i < head → l < 8 → JoinsOn G.table counts (pair T i) l → ⊥
+  pub none : (i : ℕ) → i < head → NoneBelow G.table counts (pair T i) 8
 
 -- the search has found that pair head joins: its walks make a shortest meeting
 pub record MeetingFound (G : Graph) (counts : ℕ) (T : List ℕ) (head : ℕ) : Type 0 where
@@ -113,6 +122,7 @@ pub record MeetingFound (G : Graph) (counts : ℕ) (T : List ℕ) (head : ℕ) :
   pub joins : JoinsOn G.table counts (pair T head) letter
   pub shortest : NoneShorter G (Member counts) (suc (depth (pair T head)))
 
--- 256 where no pair joins
-abbrev pub SearchAnswers : Graph → ℕ → List ℕ → ℕ → Type 0
-SearchAnswers G counts T r = (r ≤ 256) × (r ≡ 256 → Free G (Member counts)) × (r < 256 → MeetingFound G counts T r)
+-- none where no pair joins
+abbrev pub SearchAnswers : Graph → ℕ → List ℕ → Option ℕ → Type 0
+SearchAnswers G counts T None = Free G (Member counts)
+SearchAnswers G counts T (Some head) = MeetingFound G counts T head

@@ -5,7 +5,7 @@ use Rattle.std.proofs.Math.Decide.{dec_lt}
 use Rattle.sets.specs.Sets.{Member}
 use Rattle.sets.specs.SetLaws.{no_member}
 use Rattle.automaton.specs.Graph.{Graph, GraphFits}
-use Rattle.queue.specs.Queue.{Has, Longer, Below, Open}
+use Rattle.queue.specs.Queue.{Has, Longer, Below}
 use Rattle.queue.specs.RowLaws.{has-longer}
 use Rattle.pair_search.specs.Search.{Empty, Started, Guarded}
 use Rattle.automaton.specs.EdgeLaws.{initial-lt}
@@ -28,9 +28,6 @@ start-empty e = record {
 }
 
 module _ {G : Graph} {T : List ℕ} {count p : ℕ} (s : Started G T count p) where
-  pub start-open : p < 16 → Open T count 0 p
-  start-open l = record { queue = s.queue; most = s.most; deep = omega arith; state = l }
-
   module _ (fits : GraphFits G) (x : ℕ) (g : Guarded G.initial p G.initial x) {T' : List ℕ} {count' : ℕ} (y : Longer T count 0 p (Below x 16) 0 T' count') where
     at : (r q : ℕ) → r < p + 1 → Member G.initial r → Member G.initial q → Dec (r < p) → Has T' count' 0 r q
     at r q l a b (yes h) = has-longer T T' count count' 0 r q y.keeps y.more (s.begun r q h a b)

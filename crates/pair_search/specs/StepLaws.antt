@@ -1,23 +1,17 @@
 -- The queue grows by what one of its pairs steps to. Assumes nothing.
-use Rattle.std.specs.Prelude.{ℕ, suc, ◌+◌, ◌*◌, ◌/◌, ◌%◌, ◌≤◌, ◌<◌, ◌≡◌, refl, List}
+use Rattle.std.specs.Prelude.{ℕ, suc, ◌+◌, ◌*◌, ◌/◌, ◌%◌, ◌≤◌, ◌<◌, ◌≡◌, List}
 use Rattle.std.proofs.Common.{sym, ◌∙◌, inr, arith}
 use Rattle.std.proofs.Math.Decide.{dec_lt}
 use Rattle.automaton.specs.Graph.{Graph, Edge, GraphFits, successor_set}
-use Rattle.queue.specs.Queue.{pair, depth, one, other, Has, Queue, AtMost, Longer, Below, Open}
+use Rattle.queue.specs.Queue.{pair, depth, one, other, Has, Longer, Below}
 use Rattle.queue.specs.RowLaws.{has-longer}
-use Rattle.pair_search.specs.Search.{Arrives, AllJustified, Grown, Guarded, SuccessorsQueued, Closed}
+use Rattle.pair_search.specs.Search.{Arrives, Grown, Guarded, SuccessorsQueued, Closed}
 use Rattle.automaton.specs.EdgeLaws.{edge_of, edge_to}
 use Rattle.pair_search.specs.JustifiedLaws.{justified-longer}
-
-pub grown-none : {G : Graph} {T : List ℕ} {count d : ℕ} → Queue T count → AllJustified G T count → AtMost T count d → Grown G T count d T count
-grown-none q s m = record { queue = q; justified = s; more = omega arith; keeps = λ i l. (refl, refl); most = m }
 
 -- Step j is on letter j / 16 to state j % 16; e is the pair whose steps they are.
 module _ {G : Graph} (fits : GraphFits G) {T₀ : List ℕ} {count₀ head e d : ℕ} (h : head < count₀) (is : e ≡ pair T₀ head) (deep : d ≡ depth e + 1)
     {T : List ℕ} {count : ℕ} (j : ℕ) (g : Grown G T₀ count₀ d T count) where
-  pub step-open : Queue T₀ count₀ → Open T count d (j % 16)
-  step-open q = let m = g.more in let u = q.early head h in let v : depth e ≤ head = rw is u in record { queue = g.queue; most = g.most; deep = omega arith; state = omega arith }
-
   module _ (x : ℕ) {T' : List ℕ} {count' : ℕ} (l : j / 16 < G.k) (gd : Guarded (successor_set G.table (one e) (j / 16)) (j % 16) (successor_set G.table (other e) (j / 16)) x)
       (y : Longer T count d (j % 16) (Below x 16) (8 * head + j / 16) T' count') where
     why : (q : ℕ) → Below x 16 q → Arrives G T count d (j % 16) q (8 * head + j / 16)

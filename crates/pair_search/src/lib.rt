@@ -27,10 +27,8 @@ fn begin(g: GraphNumbers, table: &[u16], queue: &mut [u16]) -> usize
     ensures { Started (graph g table.now) queue.new result 16 }
 {
     let mut count = 0;
-    let mut p = 0;
-    while p < 16 {
+    for p in 0..16 {
         count = queue::add_row(queue, count, 0, p, guarded(g.initial, p, g.initial), 0);
-        p += 1;
     }
     count
 }
@@ -46,13 +44,11 @@ fn expand(g: GraphNumbers, table: &[u16], queue: &mut [u16], count: usize, head:
     let p = e / 16 % 16;
     let q = e % 16;
     let mut reached = count;
-    let mut j = 0;
-    while j < 16 * g.k {
+    for j in 0..16 * g.k {
         let l = j / 16;
         let x = j % 16;
         let next = guarded(table[8 * p + l], x, table[8 * q + l]);
         reached = queue::add_row(queue, reached, d, x, next, 8 * head + l);
-        j += 1;
     }
     reached
 }
@@ -68,39 +64,38 @@ pub fn common(table: &[u16], counts: u16, p: usize, q: usize, letter: usize) -> 
     )
 }
 
-// The least letter on which both states of a pair step to one that counts, or 8.
-pub fn joining(table: &[u16], counts: u16, e: usize) -> usize
+// The least letter on which both states of a pair step to one that counts, if there is one.
+pub fn joining(table: &[u16], counts: u16, e: usize) -> Option<usize>
     requires { 128 ≤ length table.now }
     ensures { Joining table.now counts e result }
 {
     let p = e / 16 % 16;
     let q = e % 16;
     if p == q {
-        return 8;
+        return None;
     }
-    let mut l = 0;
-    while l < 8 {
+    for l in 0..8 {
         if common(table, counts, p, q, l) != 0 {
-            return l;
+            return Some(l);
         }
-        l += 1;
     }
-    l
+    None
 }
 
-// The first pair in the order of the search that joins, or 256.
-pub fn explore(g: GraphNumbers, table: &[u16], counts: u16, queue: &mut [u16]) -> usize
+// The first pair in the order of the search that joins, if one does.
+pub fn explore(g: GraphNumbers, table: &[u16], counts: u16, queue: &mut [u16]) -> Option<usize>
     requires { GraphFits (graph g table.now) × (128 ≤ length table.now) × Backwards (graph g table.now) (Member counts) × Empty queue.old }
     ensures { SearchAnswers (graph g table.now) counts queue.new result }
 {
     let mut count = begin(g, table, queue);
     let mut head = 0;
+    // A while: the queue grows.
     while head < count {
-        if joining(table, counts, queue::number(queue, head)) < 8 {
-            return head;
+        if joining(table, counts, queue::number(queue, head)).is_some() {
+            return Some(head);
         }
         count = expand(g, table, queue, count, head);
         head += 1;
     }
-    256
+    None
 }

@@ -1,6 +1,6 @@
 -- The other way round: the lines of a sheet's upper part are read through, and behind them its fault is met, or its end. Assumes nothing.
 use Prim.Native.Nat.{ℕ, suc, ◌+◌, ◌-◌, ◌≤◌, ◌<◌}
-use Rattle.std.specs.Prelude.{◌≡◌, replicate}
+use Rattle.std.specs.Prelude.{◌≡◌, replicate, None}
 use Rattle.std.proofs.Math.Path.{refl, ap}
 use Rattle.std.proofs.Common.{sym, ◌∙◌, lt-ltb, le-ltb, zero-add}
 use mathlib.Core.List.{List, [], ◌∷◌, ◌++◌, map}
@@ -16,7 +16,6 @@ use Rattle.format.proofs.WithdrawalLaws.{superseding-tell}
 use Rattle.format.proofs.FormatLaws.{head-length, transitions-few, lines-parted}
 use Rattle.parser.specs.declared.Sizes.{Sizes}
 use Rattle.state_lines.specs.declared.Sets.{Sets}
-use Rattle.state_lines.specs.declared.StateLine.TheVariants as S
 use Rattle.state_lines.specs.StateLines.{state_line_at, states_at}
 use Rattle.name_lines.specs.NameLines.{Named, names_at}
 use Rattle.transition_lines.specs.TransitionLines.{transitions_at}
@@ -188,7 +187,7 @@ module _ (s : List ℕ) (σ : Sheet) (rest : List ℕ) (above : Above s σ rest)
           let n : σ.n ≡ length σ.states + suc m = omega arith in
           let at : ℕ = withdrawn.at + length (state_lines σ.edition 0 σ.states) in
           let t : drop at s ≡ rest = from-states ∙ rw due.transitions in
-          let bad : state_line_at σ.edition s at (0 + length σ.states) ≡ S.Bad = state-none σ.edition s at (0 + length σ.states) (rw (t, zero-add) none) in
+          let bad : state_line_at σ.edition s at (0 + length σ.states) ≡ None = state-none σ.edition s at (0 + length σ.states) (rw (t, zero-add) none) in
           let phase : states_at σ.edition s withdrawn.line withdrawn.at 0 0 0 σ.n ≡ refused 7 (withdrawn.line + length σ.states) =
           ap (states_at σ.edition s withdrawn.line withdrawn.at 0 0 0) n ∙ (states-goes (suc m) (omega arith) ∙ simp bad) in
           let y : length σ.transitions ≡ 0 = ap length due.transitions in

@@ -1,5 +1,5 @@
 -- What the answer of a whole file says of the file: the theorem of ParseLaws, put to use. Assumes nothing.
-use Rattle.std.specs.Prelude.{ℕ, ◌*◌, ◌≡◌, List, drop}
+use Rattle.std.specs.Prelude.{ℕ, ◌*◌, ◌≡◌, List, drop, Err, Ok}
 use Rattle.std.proofs.Common.{sym, ◌∙◌, ap, subst, arith}
 use Rattle.gate.specs.Gate.{RefusedBy, cleared}
 use Rattle.gate.specs.declared.Refusal.{Refusal}
@@ -13,7 +13,6 @@ use Rattle.parser.specs.Parse.{Contents, parse}
 use Rattle.frame.specs.Phase.{Phase, refused, passed}
 use Rattle.parser.proofs.ParseLaws.{Means, AreContents, parse-means}
 use Rattle.parser.specs.PhaseAnswers.{numbers_of, FileRead}
-use Rattle.parser.specs.declared.File.TheVariants as F
 use Rattle.superseding.specs.Superseding.{superseding_in, with_superseding}
 use Rattle.parser.specs.LettersOf.{LettersIn, BehindNames, LettersOf}
 
@@ -46,20 +45,20 @@ letters-in {rows = rows} σ file e are holds cells =
     }
 
 module _ (s : List ℕ) (t u : TransitionSets) (old rows : List ℕ) where
-  pub file-refused : (r : Refusal) → FileRead (parse s) t u old rows (F.Refused r) → RefusedBy (Faulty s) r × (u ≡ cleared_sets t) × (rows ≡ cleared old)
+  pub file-refused : (r : Refusal) → FileRead (parse s) t u old rows (Err r) → RefusedBy (Faulty s) r × (u ≡ cleared_sets t) × (rows ≡ cleared old)
   file-refused r = cases (parse s) (parse-means s)
     where
-      cases : (p : Phase Contents) → Means s p → FileRead p t u old rows (F.Refused r) → RefusedBy (Faulty s) r × (u ≡ cleared_sets t) × (rows ≡ cleared old)
+      cases : (p : Phase Contents) → Means s p → FileRead p t u old rows (Err r) → RefusedBy (Faulty s) r × (u ≡ cleared_sets t) × (rows ≡ cleared old)
       cases (refused number line) m e = ((number, line, m, (let d = e.0 in cc)), e.1, e.2)
       cases (passed c) m e = absurd (let d = e.0 in let z : ◌≡◌ {A = ℕ} 0 1 = cc in omega arith)
 
-  pub read-accepted : (a : Numbers) → FileRead (parse s) t u old rows (F.Is a) → FileAccepted s t u old rows a
+  pub read-accepted : (a : Numbers) → FileRead (parse s) t u old rows (Ok a) → FileAccepted s t u old rows a
   read-accepted a = cases (parse s) (parse-means s)
     where
-      cases : (p : Phase Contents) → Means s p → FileRead p t u old rows (F.Is a) → FileAccepted s t u old rows a
+      cases : (p : Phase Contents) → Means s p → FileRead p t u old rows (Ok a) → FileAccepted s t u old rows a
       cases (refused number line) m e = absurd (let d = e.0 in let z : ◌≡◌ {A = ℕ} 0 1 = cc in omega arith)
       cases (passed c) (σ, file, are) e =
-          let d : F.Is a ≡ F.Is (numbers_of c.numbers) = e.0 in
+          let d : Ok a ≡ Ok (numbers_of c.numbers) = e.0 in
           let h : a ≡ numbers_of c.numbers = cc in
           let n : a ≡ numbers_of (numbers σ) = h ∙ ap numbers_of are.numbers in
           record {

@@ -1,5 +1,5 @@
 -- A phase that refuses refuses the file, and a phase that passes hands on. Assumes nothing.
-use Rattle.std.specs.Prelude.{ℕ, ◌+◌, ◌-◌, ◌*◌, ◌≤◌, ◌<◌, ◌≡◌, refl, List, ◌++◌, length, take, drop, replicate}
+use Rattle.std.specs.Prelude.{ℕ, ◌+◌, ◌-◌, ◌*◌, ◌≤◌, ◌<◌, ◌≡◌, refl, List, ◌++◌, length, take, drop, replicate, Err, Ok, Result}
 use Rattle.std.proofs.Common.{sym, ◌∙◌, ap, subst, arith, take_at, drop_at, lt-ltb, le-ltb}
 use Rattle.std.proofs.lemmas.List.{length-replicate, replicate-append-replicate}
 use Rattle.gate.specs.Gate.{cleared}
@@ -21,15 +21,9 @@ use Rattle.parser.specs.PhaseAnswers.{GraphRead, NumbersRead, FileRead}
 use Rattle.name_rows.specs.Rows.{HoldNames}
 use Rattle.automaton.specs.Graph.{InRange}
 use Rattle.frame.specs.declared.Position.{Position}
-use Rattle.parser.specs.declared.File.{File}
-use Rattle.name_lines.specs.declared.Names.TheVariants as N
-use Rattle.withdrawal_lines.specs.declared.Withdrawals.TheVariants as W
 use Rattle.parser.specs.LettersRowsLaws.{names-kept, behind-cells}
 use Rattle.parser.specs.declared.Sizes.{Sizes}
 use Rattle.state_lines.specs.declared.Sets.{Sets}
-use Rattle.parser.specs.declared.File.TheVariants as F
-use Rattle.state_lines.specs.declared.States.TheVariants as Q
-use Rattle.frame.specs.declared.End.TheVariants as E
 
 -- A TABLE OF ZEROS: the 128 sets, and the rest
 module _ (t : List ℕ) (zeros : t ≡ cleared t) (long : 128 ≤ length t) where
@@ -63,11 +57,11 @@ module _ (t : TransitionSets) (h : ClearedLong t) where
 -- THE STATE LINES
 pub refused-by-states :
     (p : Phase Sets) (next : Sets → Phase Contents) (t u : TransitionSets) (r : Refusal) →
-    Q.Refused r ≡ states_answer p → u ≡ cleared_sets t → GraphRead (and_then p next) t u (F.Refused r)
+    Err r ≡ states_answer p → u ≡ cleared_sets t → GraphRead (and_then p next) t u (Err r)
 refused-by-states (refused number line) next t u r e h = (cc, h)
 refused-by-states (passed q) next t u r e h = absurd (let z : ◌≡◌ {A = ℕ} 0 1 = cc in omega arith)
 
-pub states-pass : (p : Phase Sets) (next : Sets → Phase Contents) (q : Sets) → Q.Are q ≡ states_answer p → and_then p next ≡ next q
+pub states-pass : (p : Phase Sets) (next : Sets → Phase Contents) (q : Sets) → Ok q ≡ states_answer p → and_then p next ≡ next q
 states-pass (refused number line) next q e = absurd (let z : ◌≡◌ {A = ℕ} 0 1 = cc in omega arith)
 states-pass (passed q') next q e = let g : q' ≡ q = cc in ap next g
 
@@ -75,22 +69,22 @@ states-pass (passed q') next q e = let g : q' ≡ q = cc in ap next g
 module _ (z : Sizes) (y : Named) (w : Superseded) (q : Sets) where
   pub refused-by-transitions :
       (p : Phase TransitionSets) (t u : TransitionSets) (r : Refusal) →
-      FillsTable p t u (E.Refused r) → GraphRead (and_then p (λ sets. passed (contents z y w q sets))) t u (F.Refused r)
+      FillsTable p t u (Err r) → GraphRead (and_then p (λ sets. passed (contents z y w q sets))) t u (Err r)
   refused-by-transitions (refused number line) t u r e = ((let d = e.0 in cc), e.1)
   refused-by-transitions (passed sets) t u r e = absurd (let d = e.0 in let z : ◌≡◌ {A = ℕ} 0 1 = cc in omega arith)
 
   pub transitions-pass :
       (p : Phase TransitionSets) (t u : TransitionSets) →
-      FillsTable p t u E.Reached → ClearedLong t →
+      FillsTable p t u (Ok tt) → ClearedLong t →
       GraphRead (and_then p (λ sets. passed (contents z y w q sets))) t u
-      (F.Is (record { edition = z.edition; n = z.n; k = z.k; initial = q.initial; recurring = q.recurring }))
+      (Ok (record { edition = z.edition; n = z.n; k = z.k; initial = q.initial; recurring = q.recurring }))
   transitions-pass (refused number line) t u e h = absurd (let d = e.0 in let z : ◌≡◌ {A = ℕ} 0 1 = cc in omega arith)
   transitions-pass (passed sets) t u e h = (refl, e.1 ∙ lent-behind t h (contents z y w q sets).numbers)
 
 -- THE WITHDRAWAL LINES, in rows that were `old`
 pub refused-by-withdrawals :
     (p : Phase Superseded) (next : Superseded → Phase Contents) (t u : TransitionSets) (old rows : List ℕ) (r : Refusal) →
-    WithdrawalsRead p old rows (W.Refused r) → u ≡ cleared_sets t → NumbersRead (and_then p next) t u old rows (F.Refused r)
+    WithdrawalsRead p old rows (Err r) → u ≡ cleared_sets t → NumbersRead (and_then p next) t u old rows (Err r)
 refused-by-withdrawals (refused number line) next t u old rows r e h = ((let d = e.0 in cc), h)
 refused-by-withdrawals (passed w) next t u old rows r e h = absurd (let d = e.0 in let z : ◌≡◌ {A = ℕ} 0 1 = cc in omega arith)
 
@@ -105,10 +99,10 @@ pub record WithdrawalsHanded (p : Phase Superseded) (old rows : List ℕ) (place
   pub eight : length superseded.cells ≡ 8
   pub stored : rows ≡ with_superseding old superseded.cells
 
-pub withdrawals-pass : (p : Phase Superseded) (old rows : List ℕ) (place : Position) → WithdrawalsRead p old rows (W.Are place) → WithdrawalsHanded p old rows place
+pub withdrawals-pass : (p : Phase Superseded) (old rows : List ℕ) (place : Position) → WithdrawalsRead p old rows (Ok place) → WithdrawalsHanded p old rows place
 withdrawals-pass (refused number line) old rows place e = absurd (let d = e.0 in let z : ◌≡◌ {A = ℕ} 0 1 = cc in omega arith)
 withdrawals-pass (passed w) old rows place e =
-    let d : W.Are place ≡ W.Are (record { at = w.at; line = w.line }) = e.0 in
+    let d : Ok place ≡ Ok (record { at = w.at; line = w.line }) = e.0 in
     let g : place ≡ record { at = w.at; line = w.line } = cc in
     record {
       superseded = w;
@@ -124,7 +118,7 @@ withdrawals-pass (passed w) old rows place e =
 -- the graph's lines behind them
 module _ (z : Sizes) (y : Named) (w : Superseded) (old rows : List ℕ) (eight : length w.cells ≡ 8) (stored : rows ≡ with_superseding old w.cells) where
   pub with-cells :
-      (p : Phase Sets) (next : Sets → Phase TransitionSets) (t u : TransitionSets) (r : File) →
+      (p : Phase Sets) (next : Sets → Phase TransitionSets) (t u : TransitionSets) (r : Result Numbers Refusal) →
       GraphRead (and_then p (λ q. and_then (next q) (λ sets. passed (contents z y w q sets)))) t u r →
       NumbersRead (and_then p (λ q. and_then (next q) (λ sets. passed (contents z y w q sets)))) t u old rows r
   with-cells (refused number line) next t u r e = e
@@ -140,7 +134,7 @@ module _ (z : Sizes) (y : Named) (w : Superseded) (old rows : List ℕ) (eight :
 -- THE NAME LINES
 pub refused-by-names :
     (k : ℕ) (p : Phase Named) (next : Named → Phase Contents) (t u : TransitionSets) (old rows : List ℕ) (r : Refusal) →
-    NamesRead k p (cleared old) rows (N.Refused r) → u ≡ cleared_sets t → FileRead (and_then p next) t u old rows (F.Refused r)
+    NamesRead k p (cleared old) rows (Err r) → u ≡ cleared_sets t → FileRead (and_then p next) t u old rows (Err r)
 refused-by-names k (refused number line) next t u old rows r e h = ((let d = e.0 in cc), h, e.1 ∙ cleared-twice old)
 refused-by-names k (passed y) next t u old rows r e h = absurd (let d = e.0 in let z : ◌≡◌ {A = ℕ} 0 1 = cc in omega arith)
 
@@ -156,10 +150,10 @@ pub record NamesHanded (k : ℕ) (p : Phase Named) (old rows : List ℕ) (place 
   pub holds : HoldNames named.names rows
   pub behind : drop (24 * k) rows ≡ drop (24 * k) old
 
-pub names-pass : (k : ℕ) (p : Phase Named) (old rows : List ℕ) (place : Position) → NamesRead k p old rows (N.Are place) → NamesHanded k p old rows place
+pub names-pass : (k : ℕ) (p : Phase Named) (old rows : List ℕ) (place : Position) → NamesRead k p old rows (Ok place) → NamesHanded k p old rows place
 names-pass k (refused number line) old rows place e = absurd (let d = e.0 in let z : ◌≡◌ {A = ℕ} 0 1 = cc in omega arith)
 names-pass k (passed y) old rows place e =
-    let d : N.Are place ≡ N.Are (record { at = y.at; line = y.line }) = e.0 in
+    let d : Ok place ≡ Ok (record { at = y.at; line = y.line }) = e.0 in
     let g : place ≡ record { at = y.at; line = y.line } = cc in
     record {
       named = y;
@@ -175,14 +169,14 @@ names-pass k (passed y) old rows place e =
 
 -- THE NUMBERS, behind the name lines of y: the rows, which were `old` and with the names `mid`, are all zero or hold these names and the superseding letters
 module _ (z : Sizes) (y : Named) (old mid : List ℕ) where
-  abbrev pub RowsLeft : List ℕ → List ℕ → File → Type 0
-  RowsLeft after rows (F.Refused r) = rows ≡ cleared old
-  RowsLeft after rows (F.Is a) =
+  abbrev pub RowsLeft : List ℕ → List ℕ → Result Numbers Refusal → Type 0
+  RowsLeft after rows (Err r) = rows ≡ cleared old
+  RowsLeft after rows (Ok a) =
       (rows ≡ after) × InRange z.n z.k × (length y.names ≡ z.k) × HoldNames y.names mid
       × (drop (24 * z.k) mid ≡ drop (24 * z.k) (cleared old)) × (224 ≤ length mid)
 
   -- the rows with superseding letters in their cells
-  rows_told : (cells after rows : List ℕ) (a : Numbers) → length cells ≡ 8 → after ≡ with_superseding mid cells → RowsLeft after rows (F.Is a) →
+  rows_told : (cells after rows : List ℕ) (a : Numbers) → length cells ≡ 8 → after ≡ with_superseding mid cells → RowsLeft after rows (Ok a) →
       InRange z.n z.k × (length y.names ≡ z.k) × HoldNames y.names rows
       × (drop (24 * z.k) rows ≡ drop (24 * z.k) (with_superseding (cleared old) cells)) × (superseding_in rows ≡ cells)
   rows_told cells after rows a eight stored (same, range, all, holds, behind, long) =
@@ -196,7 +190,7 @@ module _ (z : Sizes) (y : Named) (old mid : List ℕ) where
       )
 
   pub with_rows :
-      (p : Phase Superseded) (states : Superseded → Phase Sets) (transitions : Superseded → Sets → Phase TransitionSets) (t u : TransitionSets) (after rows : List ℕ) (r : File) →
+      (p : Phase Superseded) (states : Superseded → Phase Sets) (transitions : Superseded → Sets → Phase TransitionSets) (t u : TransitionSets) (after rows : List ℕ) (r : Result Numbers Refusal) →
       NumbersRead (and_then p (λ w. and_then (states w) (λ q. and_then (transitions w q) (λ sets. passed (contents z y w q sets))))) t u mid after r →
       RowsLeft after rows r →
       FileRead (and_then p (λ w. and_then (states w) (λ q. and_then (transitions w q) (λ sets. passed (contents z y w q sets))))) t u old rows r

@@ -3,8 +3,7 @@
 
 pub mod whole_file;
 
-use automaton::{Edition, Numbers};
-use gate::Refusal;
+use automaton::Edition;
 
 // The most bytes that a sheet may have.
 pub const MOST: usize = 32768;
@@ -15,11 +14,4 @@ pub struct Sizes {
     pub edition: Edition,
     pub n: usize,
     pub k: usize,
-}
-
-// The answer of a whole file on these questions.
-#[derive(Clone, Copy)]
-pub enum File {
-    Refused(Refusal),
-    Is(Numbers),
 }

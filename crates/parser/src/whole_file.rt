@@ -13,14 +13,14 @@ ghost use Rattle.withdrawal_lines.specs.WithdrawalLines.{Superseded};
 ghost use Rattle.parser.specs.Parse.{edition_of, sheet_bounds, parse, after_names, after_withdrawals};
 ghost use Rattle.parser.specs.PhaseAnswers.{GraphRead, NumbersRead, FileRead};
 
-use super::{File, MOST, Sizes};
+use super::{MOST, Sizes};
 use automaton::{Edition, Numbers};
-use frame::{Bounds, End, First, Position, first_line};
+use frame::{Bounds, Position, first_line};
 use gate::Refusal;
-use name_lines::{Names, read_names};
-use state_lines::{States, read_states};
+use name_lines::read_names;
+use state_lines::read_states;
 use transition_lines::read_transitions;
-use withdrawal_lines::{Withdrawals, read_withdrawals};
+use withdrawal_lines::read_withdrawals;
 
 // The state lines and what follows, behind the withdrawal lines, whose superseding letters stand in rows. A refusal leaves the tables all zero.
 fn read_graph(
@@ -30,7 +30,7 @@ fn read_graph(
     rows: &[u8],
     table: &mut [u16],
     marks: &mut [u16],
-) -> File
+) -> Result<Numbers, Refusal>
     requires { (length s.now ≤ most_sheet) × InRange z.n z.k × (place.line ≤ 17) × (place.at ≤ 308) × (224 ≤ length rows.now)
         × ClearedLong (transition_sets table.old marks.old) }
     ensures { (y : Named) (w : Superseded) → w.at ≡ place.at → w.line ≡ place.line → w.cells ≡ superseding_in rows.now
@@ -40,21 +40,15 @@ fn read_graph(
     let n = z.n;
     let k = z.k;
     let edition = z.edition;
-    match read_states(edition, s, place.line, place.at, n) {
-        States::Refused(r) => File::Refused(r),
-        States::Are(q) => match read_transitions(
-            edition, s, rows, n, k, q.line, q.at, table, marks,
-        ) {
-            End::Refused(r) => File::Refused(r),
-            End::Reached => File::Is(Numbers {
-                edition,
-                n,
-                k,
-                initial: q.initial,
-                recurring: q.recurring,
-            }),
-        },
-    }
+    let q = read_states(edition, s, place.line, place.at, n)?;
+    read_transitions(edition, s, rows, n, k, q.line, q.at, table, marks)?;
+    Ok(Numbers {
+        edition,
+        n,
+        k,
+        initial: q.initial,
+        recurring: q.recurring,
+    })
 }
 
 // The withdrawal lines and what follows, behind the name lines. A refusal leaves the tables all zero, and the rows to the caller.
@@ -65,17 +59,15 @@ fn read_numbers(
     rows: &mut [u8],
     table: &mut [u16],
     marks: &mut [u16],
-) -> File
+) -> Result<Numbers, Refusal>
     requires { (length s.now ≤ most_sheet) × InRange z.n z.k × (place.line ≤ 10) × (place.at ≤ 252) × (224 ≤ length rows.old)
         × (superseding_in rows.old ≡ replicate 8 0) × ClearedLong (transition_sets table.old marks.old) }
     ensures { (y : Named) → y.at ≡ place.at → y.line ≡ place.line
         → NumbersRead (after_names s.now z y) (transition_sets table.old marks.old)
         (transition_sets table.new marks.new) rows.old rows.new result }
 {
-    match read_withdrawals(s, z.k, place.line, place.at, rows) {
-        Withdrawals::Refused(r) => File::Refused(r),
-        Withdrawals::Are(behind) => read_graph(s, z, behind, rows, table, marks),
-    }
+    let behind = read_withdrawals(s, z.k, place.line, place.at, rows)?;
+    read_graph(s, z, behind, rows, table, marks)
 }
 
 // The edition that the first line names.
@@ -89,7 +81,7 @@ fn edition_of(s: &[u8]) -> Edition
 }
 
 // The first line, of an edition's form.
-fn head_line(s: &[u8], edition: Edition) -> First
+fn head_line(s: &[u8], edition: Edition) -> Result<(usize, usize), Refusal>
     ensures { (result ≡ first_answer (first_phase (word_and_pair s.now (sheet_word edition)) sheet_bounds (λ n k. (n, k)) 3 4))
         × FirstFits sheet_bounds result }
 {
@@ -107,34 +99,33 @@ fn head_line(s: &[u8], edition: Edition) -> First
 
 // A sheet file: its numbers, its successor sets and its marks in tables that are all zero before, and in rows its composed names and its superseding
 // letters, with zeros everywhere else. A refusal leaves all of them zero.
-pub fn read_file(s: &[u8], table: &mut [u16], marks: &mut [u16], rows: &mut [u8]) -> File
+pub fn read_file(
+    s: &[u8],
+    table: &mut [u16],
+    marks: &mut [u16],
+    rows: &mut [u8],
+) -> Result<Numbers, Refusal>
     requires { ClearedLong (transition_sets table.old marks.old) × (224 ≤ length rows.old) }
     ensures { FileRead (parse s.now) (transition_sets table.old marks.old)
         (transition_sets table.new marks.new) rows.old rows.new result }
 {
     gate::clear_bytes(rows);
     if MOST < s.len() {
-        return File::Refused(Refusal {
+        return Err(Refusal {
             number: 2,
             line: 0,
             length: 0,
         });
     }
     let edition = edition_of(s);
-    match head_line(s, edition) {
-        First::Refused(r) => File::Refused(r),
-        First::Are(n, k) => match read_names(s, k, rows) {
-            Names::Refused(r) => File::Refused(r),
-            Names::Are(place) => {
-                let z = Sizes { edition, n, k };
-                match read_numbers(s, z, place, rows, table, marks) {
-                    File::Refused(r) => {
-                        gate::clear_bytes(rows);
-                        File::Refused(r)
-                    }
-                    File::Is(a) => File::Is(a),
-                }
-            }
-        },
+    let (n, k) = head_line(s, edition)?;
+    let place = read_names(s, k, rows)?;
+    let z = Sizes { edition, n, k };
+    match read_numbers(s, z, place, rows, table, marks) {
+        Err(r) => {
+            gate::clear_bytes(rows);
+            Err(r)
+        }
+        Ok(a) => Ok(a),
     }
 }

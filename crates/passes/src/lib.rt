@@ -1,7 +1,7 @@
 // The verdict on an endless word of letters, by tuple numbers: nothing is asked of a tracker's tables but next numbers and colours.
 #![tactic(auto)]
 
-ghost use Rattle.std.specs.Prelude.{◌≡◌, ◌+◌, ◌*◌, ◌<◌, ◌≤◌, min, length, get_or};
+ghost use Rattle.std.specs.Prelude.{◌≡◌, ◌+◌, ◌*◌, ◌<◌, ◌≤◌, length, get_or};
 ghost use Rattle.passes.specs.Passes.{LeastOf, AnswerIs, is_yes};
 ghost use Rattle.passes.specs.TableRun.{AllBelow, TablesFit, LettersFit, word_of, Passing, TableJudges};
 
@@ -15,10 +15,7 @@ pub enum Answer {
 pub fn is_yes(answer: Answer) -> bool
     ensures { result ≡ is_yes answer }
 {
-    match answer {
-        Answer::Yes => true,
-        Answer::No => false,
-    }
+    matches!(answer, Answer::Yes)
 }
 
 // "yes or no with least colour and passes"
@@ -52,12 +49,6 @@ fn next(nexts: &[u16], count: usize, at: usize, letter: usize) -> usize
     nexts[8 * at + letter] as usize
 }
 
-fn lesser(a: u16, b: u16) -> u16
-    ensures { result ≡ min a b }
-{
-    if b < a { b } else { a }
-}
-
 // The letters from place `from` on, `size` of them, followed through the tables from tuple `start`.
 fn follow(
     tuples: &[u16],
@@ -74,14 +65,9 @@ fn follow(
 {
     let mut at = start;
     let mut least: u16 = 65535;
-    let mut i = 0;
-    while i < size {
+    for i in 0..size {
         at = next(nexts, count, at, letter(letters, from + i));
-        least = lesser(
-            least,
-            tuples[tuple_record::RECORD * at + tuple_record::COLOUR],
-        );
-        i += 1;
+        least = least.min(tuples[tuple_record::RECORD * at + tuple_record::COLOUR]);
     }
     Pass { at, least }
 }
@@ -92,10 +78,8 @@ fn least_of(cells: &[u16], first: usize, last: usize) -> u16
     ensures { LeastOf (λ i. get_or cells.now i 0) first (last + 1) result }
 {
     let mut least = cells[first];
-    let mut i = first;
-    while i < last {
-        i += 1;
-        least = lesser(least, cells[i]);
+    for i in first + 1..last + 1 {
+        least = least.min(cells[i]);
     }
     least
 }

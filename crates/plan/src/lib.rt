@@ -3,8 +3,6 @@
 
 pub mod whole_file;
 
-use gate::Refusal;
-
 // The most bytes that a plan may have.
 pub const MOST: usize = 12288;
 
@@ -13,11 +11,4 @@ pub const MOST: usize = 12288;
 pub struct PlanLengths {
     pub lead: usize,
     pub cycle: usize,
-}
-
-// The answer of reading a plan: a refusal, or its lengths, with the letters in a lent buffer.
-#[derive(Clone, Copy)]
-pub enum Planned {
-    Refused(Refusal),
-    Is(PlanLengths),
 }

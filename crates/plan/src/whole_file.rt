@@ -7,13 +7,19 @@ ghost use Rattle.plan.specs.Answers.{LengthsFit};
 ghost use Rattle.parser.specs.LettersOf.{LettersIn};
 ghost use Rattle.plan.specs.Read.{ReadsPlan};
 
-use super::{PlanLengths, Planned};
-use frame::{Bounds, End, First, end_line, first_line};
-use plan_lines::{Letters, read_letters};
+use super::PlanLengths;
+use frame::{Bounds, end_line, first_line};
+use gate::Refusal;
+use plan_lines::read_letters;
 
 // The plan, over the letters whose composed names the first k rows hold, with the superseding letters behind the rows: they stand there
 // still. Only row k is written, whatever the rows hold. A refusal leaves the letters all zero.
-pub fn read_plan(p: &[u8], rows: &mut [u8], k: usize, letters: &mut [u8]) -> Planned
+pub fn read_plan(
+    p: &[u8],
+    rows: &mut [u8],
+    k: usize,
+    letters: &mut [u8],
+) -> Result<PlanLengths, Refusal>
     requires { (length p.now ≤ most_plan) × (k ≤ 8) × (224 ≤ length rows.old) × (400 ≤ length letters.old) }
     ensures { LengthsFit result × ((σ : Sheet) → LettersIn σ k rows.old
         → LettersIn σ k rows.new × ReadsPlan σ p.now letters.old letters.new result)
@@ -25,20 +31,17 @@ pub fn read_plan(p: &[u8], rows: &mut [u8], k: usize, letters: &mut [u8]) -> Pla
         low: 1,
         high: 200,
     };
-    match first_line(p, b"PLAN", bounds, 12, 13) {
-        First::Refused(r) => {
+    let (lead, cycle) = match first_line(p, b"PLAN", bounds, 12, 13) {
+        Ok(lengths) => lengths,
+        Err(r) => {
             gate::clear_bytes(letters);
-            Planned::Refused(r)
+            return Err(r);
         }
-        First::Are(lead, cycle) => match read_letters(p, rows, k, lead + cycle, letters) {
-            Letters::Refused(r) => Planned::Refused(r),
-            Letters::Are(place) => match end_line(p, 12, place.line, place.at) {
-                End::Refused(r) => {
-                    gate::clear_bytes(letters);
-                    Planned::Refused(r)
-                }
-                End::Reached => Planned::Is(PlanLengths { lead, cycle }),
-            },
-        },
+    };
+    let place = read_letters(p, rows, k, lead + cycle, letters)?;
+    if let Err(r) = end_line(p, 12, place.line, place.at) {
+        gate::clear_bytes(letters);
+        return Err(r);
     }
+    Ok(PlanLengths { lead, cycle })
 }

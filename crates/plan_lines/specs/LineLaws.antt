@@ -1,6 +1,6 @@
 -- The name lines of a plan: the phase that reads them passes or refuses as Plan says, by induction along the lines. Assumes nothing.
 use Prim.Native.Nat.{ℕ, zero, suc, ◌+◌, ◌≤◌, ◌<◌}
-use Rattle.std.specs.Prelude.{◌≡◌, Bool}
+use Rattle.std.specs.Prelude.{◌≡◌, Bool, Err, None, Ok, Option, Result, Some}
 use Rattle.std.proofs.Math.Path.{refl, ap}
 use Rattle.std.proofs.Common.{◌∙◌, zero-add}
 use Rattle.std.proofs.Math.Bool.{true, false}
@@ -18,8 +18,6 @@ use Rattle.text.specs.WordLaws.{goes_on}
 use Rattle.names.specs.Name.{IsName, compose}
 use Rattle.names.specs.Scan.{name_end_at, with_ending}
 use Rattle.names.specs.ScanLaws.{NameAt, name-is, name-ends, no_name}
-use Rattle.names.specs.declared.Ending.{Ending}
-use Rattle.names.specs.declared.Ending.TheVariants as E
 use Rattle.superseding.specs.Superseding.{final_letter}
 use Rattle.format.specs.Format.{Sheet, NamesRight, WithdrawalsRight}
 use Rattle.format.specs.Withdrawals.{superseding_of}
@@ -27,8 +25,8 @@ use Rattle.format.specs.StandsFor.{StandsFor}
 use Rattle.frame.specs.Phase.{Phase, refused, passed}
 use Rattle.name_rows.specs.Rows.{letter_of}
 use Rattle.plan_lines.specs.PlanLines.{plan_lines, Known, none, more, PlanNameFault, wrong_name, unknown-name}
-use Rattle.plan_lines.specs.declared.LetterLine.{LetterLine}
-use Rattle.plan_lines.specs.declared.LetterLine.TheVariants as L
+use Rattle.plan_lines.specs.declared.NotALetter.{NotALetter}
+use Rattle.plan_lines.specs.declared.NotALetter.TheVariants.{Unknown, Bad}
 use Rattle.plan_lines.specs.LetterLines.{Lettered, letter_from, letter_line_at, with_letter, letters_at}
 use Rattle.plan_lines.specs.KnownLaws.{found-stands, found_none, named-found, stands-found}
 
@@ -88,26 +86,26 @@ module _ (σ : Sheet) (all : length σ.names ≡ σ.k) (few : σ.k ≤ 8) (withd
   cells = superseding_of σ.withdrawals
 
   -- ONE LINE
-  abbrev LineOutcome : List ℕ → ℕ → LetterLine → Type 0
-  LineOutcome p at (L.Is l e) = NameAt p at e × StandsFor σ (stretch p at e) l
-  LineOutcome p at L.Unknown = PlanNameFault σ (drop at p) 14
-  LineOutcome p at L.Bad = PlanNameFault σ (drop at p) 12
+  abbrev LineOutcome : List ℕ → ℕ → Result (ℕ × ℕ) NotALetter → Type 0
+  LineOutcome p at (Ok (l, e)) = NameAt p at e × StandsFor σ (stretch p at e) l
+  LineOutcome p at (Err Unknown) = PlanNameFault σ (drop at p) 14
+  LineOutcome p at (Err Bad) = PlanNameFault σ (drop at p) 12
 
   line-outcome : (p : List ℕ) (at : ℕ) → LineOutcome p at (letter_line_at composed cells p at)
   unfolding letter_line_at
   line-outcome p at = by (name_end_at p at) refl
     where
       tell : (e : ℕ) → NameAt p at e → (t : Bool) → ltb (letter_from composed p at e) (length composed) ≡ t
-          → LineOutcome p at (choose t (L.Is (final_letter cells (letter_from composed p at e)) e) L.Unknown)
+          → LineOutcome p at (choose t (Ok (final_letter cells (letter_from composed p at e), e)) (Err Unknown))
       tell e h true q = (h, found-stands σ all (stretch p at e) few withdrawals h.name (ltb-true (letter_from composed p at e) (length composed) q))
       tell e h false q =
           let n = ltb-false (letter_from composed p at e) (length composed) q in
           unknown-name (stretch p at e) (drop (e + 1) p) h.name h.line (found_none σ all (stretch p at e) (λ k. omega arith))
 
-      by : (w : Ending) → name_end_at p at ≡ w
-          → LineOutcome p at (with_ending w (λ e. choose (ltb (letter_from composed p at e) (length composed)) (L.Is (final_letter cells (letter_from composed p at e)) e) L.Unknown) L.Bad)
-      by (E.At e) q = tell e (name-is p at e q) (ltb (letter_from composed p at e) (length composed)) refl
-      by E.Bad q = wrong_name (λ x after is t. no_name p x after at q is t)
+      by : (w : Option ℕ) → name_end_at p at ≡ w
+          → LineOutcome p at (with_ending w (λ e. choose (ltb (letter_from composed p at e) (length composed)) (Ok (final_letter cells (letter_from composed p at e), e)) (Err Unknown)) (Err Bad))
+      by (Some e) q = tell e (name-is p at e q) (ltb (letter_from composed p at e) (length composed)) refl
+      by None q = wrong_name (λ x after is t. no_name p x after at q is t)
 
   -- THE PHASE
   pub letters-outcome : (p : List ℕ) (todo line at : ℕ) (before : List ℕ) → LettersOutcome σ p line at before todo (letters_at composed cells p line at before todo)
@@ -124,34 +122,34 @@ module _ (σ : Sheet) (all : length σ.names ≡ σ.k) (few : σ.k ≤ 8) (withd
       at_once : {number : ℕ} → PlanNameFault σ (drop at p) number → LettersRefused σ p line at (suc todo) number line
       at_once f = record { names = []; letters = []; rest = drop at p; known = none; count = omega arith; text = refl; here = omega arith; fault = f }
 
-      by : (w : LetterLine) → LineOutcome p at w → ((l e : ℕ) → LettersOutcome σ p (line + 1) (e + 1) (before ++ (l ∷ [])) todo (go l e))
+      by : (w : Result (ℕ × ℕ) NotALetter) → LineOutcome p at w → ((l e : ℕ) → LettersOutcome σ p (line + 1) (e + 1) (before ++ (l ∷ [])) todo (go l e))
           → LettersOutcome σ p line at before (suc todo) (with_letter w go (refused 14 line) (refused 12 line))
-      by (L.Is l e) (h, s) ih = letters-step σ p line at before todo e l h s (go l e) (ih l e)
-      by L.Unknown f ih = at_once f
-      by L.Bad f ih = at_once f
+      by (Ok (l, e)) (h, s) ih = letters-step σ p line at before todo e l h s (go l e) (ih l e)
+      by (Err Unknown) f ih = at_once f
+      by (Err Bad) f ih = at_once f
 
   -- The other way round: along lines that are right the phase goes on, and at a fault it refuses
 
   module _ (p : List ℕ) (line at : ℕ) (before : List ℕ) (todo : ℕ) where
     line_read : (x rest : List ℕ) → IsName x → drop at p ≡ x ++ (lf ∷ rest)
         → letter_line_at composed cells p at
-        ≡ choose (ltb (letter_of composed (compose x)) (length composed)) (L.Is (final_letter cells (letter_of composed (compose x))) (at + length x)) L.Unknown
+        ≡ choose (ltb (letter_of composed (compose x)) (length composed)) (Ok (final_letter cells (letter_of composed (compose x)), at + length x)) (Err Unknown)
     unfolding letter_line_at
     line_read x rest is e =
         let w = name-ends p x rest at is e in
         let s = stretch-is p at x (lf ∷ rest) e in
         simp (w, s)
 
-    line-none : ((x after : List ℕ) → IsName x → drop at p ≡ x ++ (lf ∷ after) → ⊥) → letter_line_at composed cells p at ≡ L.Bad
+    line-none : ((x after : List ℕ) → IsName x → drop at p ≡ x ++ (lf ∷ after) → ⊥) → letter_line_at composed cells p at ≡ Err Bad
     unfolding letter_line_at
     line-none f = by (name_end_at p at) refl
       where
-        by : (w : Ending) → name_end_at p at ≡ w
-            → with_ending w (λ e. choose (ltb (letter_from composed p at e) (length composed)) (L.Is (final_letter cells (letter_from composed p at e)) e) L.Unknown) L.Bad ≡ L.Bad
-        by (E.At e) q = let h = name-is p at e q in absurd (f (stretch p at e) (drop (e + 1) p) h.name h.line)
-        by E.Bad q = refl
+        by : (w : Option ℕ) → name_end_at p at ≡ w
+            → with_ending {A = Result (ℕ × ℕ) NotALetter} w (λ e. choose (ltb (letter_from composed p at e) (length composed)) (Ok (final_letter cells (letter_from composed p at e), e)) (Err Unknown)) (Err Bad) ≡ Err Bad
+        by (Some e) q = let h = name-is p at e q in absurd (f (stretch p at e) (drop (e + 1) p) h.name h.line)
+        by None q = refl
 
-    line-unknown : (x after : List ℕ) → IsName x → drop at p ≡ x ++ (lf ∷ after) → ((l : ℕ) → StandsFor σ x l → ⊥) → letter_line_at composed cells p at ≡ L.Unknown
+    line-unknown : (x after : List ℕ) → IsName x → drop at p ≡ x ++ (lf ∷ after) → ((l : ℕ) → StandsFor σ x l → ⊥) → letter_line_at composed cells p at ≡ Err Unknown
     line-unknown x after is e f =
         let n : length composed ≤ letter_of composed (compose x) = by (dec_lt (letter_of composed (compose x)) (length composed)) in
         line_read x after is e ∙ simp (le-ltb (letter_of composed (compose x)) (length composed) n)
@@ -172,7 +170,7 @@ module _ (σ : Sheet) (all : length σ.names ≡ σ.k) (few : σ.k ≤ 8) (withd
         let named = named-found σ all x right l s in
         let m = s.letter in
         let b : letter_of composed (compose x) < length composed = omega (arith, length-map σ.names compose) in
-        let n : letter_line_at composed cells p at ≡ L.Is l (at + length x) =
+        let n : letter_line_at composed cells p at ≡ Ok (l, at + length x) =
         line_read x rest s.is_name e
         ∙ simp (lt-ltb (letter_of composed (compose x)) (length composed) b, stands-found σ all x few withdrawals right l s) in
         simp n

@@ -1,36 +1,35 @@
 -- One step of each definition that the code goes along. Assumes nothing.
-use Rattle.std.specs.Prelude.{ℕ, ◌+◌, ◌-◌, ◌*◌, ◌≤◌, ◌<◌, ◌≡◌, List, [], ◌∷◌, ◌++◌, length, take, drop, set}
+use Rattle.std.specs.Prelude.{ℕ, ◌+◌, ◌-◌, ◌*◌, ◌≤◌, ◌<◌, ◌≡◌, List, [], ◌∷◌, ◌++◌, length, take, drop, set, Err, None, Ok, Result, Some}
 use Rattle.std.proofs.Common.{sym, ◌∙◌, ap, take-suc-set, drop-set-lt, drop-drop, arith, sub-eq-zero_of_le, add-one}
 use borrow.Author.Tests.{lt-ltb, le-ltb}
 use Rattle.lists.specs.LeftLaws.{left-more}
 use Rattle.names.specs.Scan.{name_end_at}
-use Rattle.names.specs.declared.Ending.TheVariants as Ending
 use Rattle.frame.specs.Phase.{refused, passed}
 use Rattle.name_rows.specs.Rows.{HoldNames, OnlyRow}
 use Rattle.superseding.specs.Superseding.{superseding_in, final_letter}
 use Rattle.superseding.specs.SupersedingLaws.{cells-behind}
-use Rattle.plan_lines.specs.declared.LetterLine.{LetterLine}
-use Rattle.plan_lines.specs.declared.LetterLine.TheVariants as L
+use Rattle.plan_lines.specs.declared.NotALetter.{NotALetter}
+use Rattle.plan_lines.specs.declared.NotALetter.TheVariants.{Unknown, Bad}
 use Rattle.plan_lines.specs.LetterLines.{lettered, letter_from, letter_line_at, with_letter, letters_at}
 
 -- ONE LINE
 module _ (names : List (List ℕ)) (cells p : List ℕ) (at : ℕ) where
-  pub line-bad : name_end_at p at ≡ Ending.Bad → letter_line_at names cells p at ≡ L.Bad
+  pub line-bad : name_end_at p at ≡ None → letter_line_at names cells p at ≡ Err Bad
   unfolding letter_line_at
   line-bad e = simp e
 
-  module _ (e l : ℕ) (end : name_end_at p at ≡ Ending.At e) (letter : letter_from names p at e ≡ l) where
-    pub line_known : {r : ℕ} → final_letter cells l ≡ r → l < length names → letter_line_at names cells p at ≡ L.Is r e
+  module _ (e l : ℕ) (end : name_end_at p at ≡ Some e) (letter : letter_from names p at e ≡ l) where
+    pub line_known : {r : ℕ} → final_letter cells l ≡ r → l < length names → letter_line_at names cells p at ≡ Ok (r, e)
     unfolding letter_line_at
     line_known f h = simp (end, letter, lt-ltb l (length names) h, f)
 
-    pub line-unknown : length names ≤ l → letter_line_at names cells p at ≡ L.Unknown
+    pub line-unknown : length names ≤ l → letter_line_at names cells p at ≡ Err Unknown
     unfolding letter_line_at
     line-unknown h = simp (end, letter, le-ltb l (length names) h)
 
 -- THE NAME LINES: i of `count` are read
 module _ (names : List (List ℕ)) (cells p : List ℕ) (line at i count : ℕ) (letters : List ℕ) where
-  pub letters-step : {w : LetterLine} → i < count → letter_line_at names cells p at ≡ w
+  pub letters-step : {w : Result (ℕ × ℕ) NotALetter} → i < count → letter_line_at names cells p at ≡ w
       → letters_at names cells p line at letters (count - i)
       ≡ with_letter w (λ l e. letters_at names cells p (line + 1) (e + 1) (letters ++ (l ∷ [])) (count - (i + 1))) (refused 14 line) (refused 12 line)
   unfolding letters_at

@@ -10,42 +10,33 @@ ghost use Rattle.plan_lines.specs.LetterLines.{letter_line_at, letters_at, LineF
 use frame::Position;
 use gate::Refusal;
 use name_rows::letter_of;
-use names::Ending;
 
-// A line with a name.
+// Why no letter stands for a line.
 #[derive(Clone, Copy)]
-pub enum LetterLine {
-    // The letter that finally stands for it, and the position of its LF.
-    Is(usize, usize),
+enum NotALetter {
     // It is no letter's name.
     Unknown,
     // It is no name.
     Bad,
 }
 
-// The answer of the name lines: a refusal, or the next line.
-#[derive(Clone, Copy)]
-pub enum Letters {
-    Refused(Refusal),
-    Are(Position),
-}
-
-// The line at `at`. Where the first k rows hold the composed names of k letters, they hold them still; the superseding letters stand behind
-// the rows. The line's own name goes into row k, and no other byte changes, whatever the rows hold.
-fn letter_line(p: &[u8], at: usize, rows: &mut [u8], k: usize) -> LetterLine
+// The line at `at`: the letter that finally stands for its name, and the position of its LF. Where the first k rows hold the composed names
+// of k letters, they hold them still; the superseding letters stand behind the rows. The line's own name goes into row k, and no other byte
+// changes, whatever the rows hold.
+fn letter_line(p: &[u8], at: usize, rows: &mut [u8], k: usize) -> Result<(usize, usize), NotALetter>
     requires { (at < 2 ^ 30) × (k ≤ 8) × (224 ≤ length rows.old) }
     ensures { LineFits (length p.now) result × ((names : List (List ℕ)) → length names ≡ k → HoldNames names rows.old
         → (result ≡ letter_line_at names (superseding_in rows.old) p.now at) × HoldNames names rows.new)
         × OnlyRow k rows.old rows.new }
 {
-    let Ending::At(e) = names::name_end(p, at) else {
-        return LetterLine::Bad;
+    let Some(e) = names::name_end(p, at) else {
+        return Err(NotALetter::Bad);
     };
     let l = letter_of(rows, k, p, at, e);
     if l < k {
-        return LetterLine::Is(superseding::final_letter(rows, l), e);
+        return Ok((superseding::final_letter(rows, l), e));
     }
-    LetterLine::Unknown
+    Err(NotALetter::Unknown)
 }
 
 // The lines of `count` names: the letters that finally stand for them go into the buffer, which a refusal leaves all zero. Names that the
@@ -56,7 +47,7 @@ pub fn read_letters(
     k: usize,
     count: usize,
     letters: &mut [u8],
-) -> Letters
+) -> Result<Position, Refusal>
     requires { (length p.now ≤ most_plan) × (k ≤ 8) × (224 ≤ length rows.old) × (count ≤ length letters.old) × (count ≤ 400) }
     ensures { PlaceFits result × ((names : List (List ℕ)) → length names ≡ k → HoldNames names rows.old
         → HoldNames names rows.new
@@ -65,32 +56,26 @@ pub fn read_letters(
 {
     let mut line = 2;
     let mut at = 11;
-    let mut i = 0;
-    while i < count {
+    for i in 0..count {
         match letter_line(p, at, rows, k) {
-            LetterLine::Is(l, e) => {
+            Ok((l, e)) => {
                 letters[i] = l as u8;
                 line += 1;
                 at = e + 1;
-                i += 1;
             }
-            LetterLine::Unknown => {
+            Err(why) => {
                 gate::clear_bytes(letters);
-                return Letters::Refused(Refusal {
-                    number: 14,
-                    line,
-                    length: 0,
-                });
-            }
-            LetterLine::Bad => {
-                gate::clear_bytes(letters);
-                return Letters::Refused(Refusal {
-                    number: 12,
+                let number = match why {
+                    NotALetter::Unknown => 14,
+                    NotALetter::Bad => 12,
+                };
+                return Err(Refusal {
+                    number,
                     line,
                     length: 0,
                 });
             }
         }
     }
-    Letters::Are(Position { at, line })
+    Ok(Position { at, line })
 }

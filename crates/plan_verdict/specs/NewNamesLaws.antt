@@ -1,5 +1,5 @@
 -- R-1, on the verdict's own contract: what a plan with old names gets, the same plan in new names may get, table by table. Assumes nothing.
-use Rattle.std.specs.Prelude.{ℕ, ◌≡◌, List}
+use Rattle.std.specs.Prelude.{ℕ, ◌≡◌, List, Ok}
 use Rattle.std.proofs.Common.{arith}
 use Rattle.format.specs.Format.{Sheet}
 use Rattle.reading.specs.Read.{Accepted}
@@ -7,7 +7,6 @@ use Rattle.plan.specs.NewNames.{plan_text}
 use Rattle.plan.specs.NewNamesLaws.{plan_new}
 use Rattle.passes.specs.declared.Verdict.{Verdict}
 use Rattle.tracker.specs.Build.{BuildTables}
-use Rattle.plan_verdict.specs.declared.Outcome.TheVariants.{Judged}
 use Rattle.plan_verdict.specs.Verdict.{SizesFit, Verdicts, Judgement}
 
 -- a plan on a sheet, in the names of its letters
@@ -18,10 +17,10 @@ pub record InNewNames (s p : List ℕ) (room : ℕ) (before after : BuildTables)
   pub cycle : List ℕ
   pub count : ℕ
   pub old : Verdicts sheet p lead cycle count z
-  pub new : Judgement s (plan_text sheet lead cycle) room before after (Judged z)
+  pub new : Judgement s (plan_text sheet lead cycle) room before after (Ok z)
 
 module _ (s p : List ℕ) (room : ℕ) (before after : BuildTables) where
-  pub judged-new : (z : Verdict) → Judgement s p room before after (Judged z) → InNewNames s p room before after z
+  pub judged-new : (z : Verdict) → Judgement s p room before after (Ok z) → InNewNames s p room before after z
   judged-new z (Judgement.short a e b) = absurd (let o : ◌≡◌ {A = ℕ} 0 1 = cc in omega arith)
   judged-new z (Judgement.refused a r b e c d) = absurd (let o : ◌≡◌ {A = ℕ} 0 1 = cc in omega arith)
   judged-new z (Judgement.judged lent sizes σ accepted count fitted lead cycle y h e sets witness) =

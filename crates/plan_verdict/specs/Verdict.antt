@@ -1,5 +1,5 @@
 -- What the verdict on a plan from two files answers, and what the lent tables hold then: demands 1 to 3 in one contract.
-use Rattle.std.specs.Prelude.{ℕ, ◌≤◌, ◌≡◌, List, length}
+use Rattle.std.specs.Prelude.{ℕ, ◌≤◌, ◌≡◌, List, length, Err, Ok, Result}
 use Rattle.gate.specs.Gate.{refusal}
 use Rattle.gate.specs.declared.Refusal.{Refusal}
 use Rattle.lent.specs.Lent.{cleared_witness, cleared_sets, lent_sets}
@@ -12,8 +12,6 @@ use Rattle.plan_lines.specs.PlanLines.{most_plan}
 use Rattle.numbering.specs.Numbering.{MoreThan}
 use Rattle.filling.specs.TrackerTables.{TrackerTables, Fitted, cleared_tracker}
 use Rattle.tracker.specs.Build.{BuildTables, EnoughToBuild}
-use Rattle.plan_verdict.specs.declared.Outcome.{Outcome}
-use Rattle.plan_verdict.specs.declared.Outcome.TheVariants.{Refused, Judged}
 use Rattle.passes.specs.declared.Verdict.{Verdict}
 use Rattle.passes.specs.Passes.{Judges, Sound}
 
@@ -44,15 +42,15 @@ pub data Refusing (s p : List ℕ) (room : ℕ) (before after : BuildTables) (r 
       → Refusing s p room before after r
 
 -- THE VERDICT. s and p are the two files.
-pub data Judgement (s p : List ℕ) (room : ℕ) (before after : BuildTables) (o : Outcome) : Type 0 where
+pub data Judgement (s p : List ℕ) (room : ℕ) (before after : BuildTables) (o : Result Verdict Refusal) : Type 0 where
   -- 1, asked first: nothing is touched
-  short : (EnoughToBuild room before → ⊥) → o ≡ Refused (refusal 1 0) → after ≡ before → Judgement s p room before after o
+  short : (EnoughToBuild room before → ⊥) → o ≡ Err (refusal 1 0) → after ≡ before → Judgement s p room before after o
   -- 2 to 14
-  refused : EnoughToBuild room before → (r : Refusal) → Refusing s p room before after r → o ≡ Refused r
+  refused : EnoughToBuild room before → (r : Refusal) → Refusing s p room before after r → o ≡ Err r
       → after.sets ≡ cleared_sets before.sets → after.tracker ≡ cleared_tracker before.tracker → Judgement s p room before after o
   -- yes or no, with the sheet's successor sets, its marks and its tracker in the tables
   judged : EnoughToBuild room before → SizesFit s p → (σ : Sheet) → Accepted s σ
       → (count : ℕ) → Fitted (numbers σ) room before.tracker after.tracker count
-      → (lead cycle : List ℕ) (z : Verdict) → Verdicts σ p lead cycle count z → o ≡ Judged z
+      → (lead cycle : List ℕ) (z : Verdict) → Verdicts σ p lead cycle count z → o ≡ Ok z
       → after.sets ≡ lent_sets (numbers σ) before.sets → after.witness ≡ cleared_witness before.witness
       → Judgement s p room before after o

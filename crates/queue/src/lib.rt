@@ -50,10 +50,8 @@ pub fn add_row(
         return count;
     }
     let mut reached = count;
-    let mut q = 0;
-    while q < 16 {
+    for q in 0..16 {
         reached = add(queue, reached, depth, p, set, q, origin);
-        q += 1;
     }
     reached
 }

@@ -1,5 +1,5 @@
 -- From the file and the walk check to the answer of reading. Assumes nothing.
-use Rattle.std.specs.Prelude.{ℕ, ◌≤◌, ◌≡◌, List, length, take}
+use Rattle.std.specs.Prelude.{ℕ, ◌≤◌, ◌≡◌, refl, List, length, take, Err, None, Ok, Option, Result, Some}
 use Rattle.std.proofs.Common.{sym, ◌∙◌, ap, subst, arith}
 use Rattle.gate.specs.Gate.{cleared}
 use Rattle.gate.specs.declared.Refusal.{Refusal}
@@ -8,8 +8,8 @@ use Rattle.automaton.specs.Graph.{Graph, graph, GraphFits}
 use Rattle.automaton.specs.QuestionLaws.{same_graph, fits-graph}
 use Rattle.automaton.specs.declared.GraphNumbers.{GraphNumbers}
 use Rattle.automaton.specs.declared.Numbers.{Numbers}
-use Rattle.lent.specs.Lent.{WitnessTables, EnoughForWitness, cleared_witness, cleared_sets, EnoughForSheet}
-use Rattle.lent.proofs.LentLaws.{tables-twice, long-cleared, meets-cleared, sets-twice, long-sets-cleared, lent-cleared}
+use Rattle.lent.specs.Lent.{WitnessTables, EnoughForWitness, cleared_witness, cleared_sets}
+use Rattle.lent.proofs.LentLaws.{tables-twice, meets-cleared, sets-twice, lent-cleared}
 use Rattle.meeting.specs.Answer.{Asked}
 use Rattle.walks.specs.Check.{AnsweredTen}
 use Rattle.walks.specs.CheckLaws.{meets-answered}
@@ -20,9 +20,6 @@ use Rattle.format.proofs.NumbersLaws.{sheet-fits, numbers-length, read_is}
 use Rattle.parser.specs.PhaseAnswers.{FileRead}
 use Rattle.parser.proofs.UniqueLaws.{file-unique, fault-unique, file-or-fault}
 use Rattle.parser.specs.Parse.{parse}
-use Rattle.parser.specs.declared.File.TheVariants as F
-use Rattle.reading.specs.declared.Read.{Read}
-use Rattle.reading.specs.declared.Read.TheVariants as R
 use Rattle.parser.proofs.LettersOfLaws.{FileAccepted, file-refused}
 use Rattle.reading.specs.Read.{Accepted, Refuses, ReadTables, read_tables, lent_cleared, SheetRead, ReadsNamed}
 
@@ -64,41 +61,43 @@ module _ {s : List ℕ} {t u : TransitionSets} {old rows : List ℕ} {a : Number
       zeros = zeros;
     }
 
-    module _ {after : WitnessTables} {r : ℕ} (answer : AnsweredTen (graph g (take 128 u.successors)) before after r) where
-      answered : AnsweredTen (graph_of (numbers h.letters.sheet)) before after r
-      answered = subst (λ (G : Graph). AnsweredTen G before after r) sheet-graph answer
+    module _ {after : WitnessTables} where
+      answered : (r : Option ℕ) → AnsweredTen (graph g (take 128 u.successors)) before after r → AnsweredTen (graph_of (numbers h.letters.sheet)) before after r
+      answered r answer = subst (λ (G : Graph). AnsweredTen G before after r) sheet-graph answer
 
-      pub free-accepts : r ≡ 0 → SheetRead s (read_tables t old before) (read_tables u rows after) a
-      free-accepts e = record {
-        sheet = h.letters.sheet;
-        accepted = record { file = h.letters.file; free = answered.free e };
-        are = h.letters.are;
-        sets = h.sets;
-        witness = answered.kept e ∙ zeros;
-        names = h.letters.names;
-        behind = h.behind;
-      }
+      pub free-accepts : AnsweredTen (graph g (take 128 u.successors)) before after None → SheetRead s (read_tables t old before) (read_tables u rows after) a
+      free-accepts answer =
+          let free = answered None answer in
+          record {
+            sheet = h.letters.sheet;
+            accepted = record { file = h.letters.file; free = free.free refl };
+            are = h.letters.are;
+            sets = h.sets;
+            witness = free.kept refl ∙ zeros;
+            names = h.letters.names;
+            behind = h.behind;
+          }
 
-      pub meeting-refuses : (r ≡ 0 → ⊥) → {u' : TransitionSets} {rows' : List ℕ} → u' ≡ cleared_sets t → rows' ≡ cleared old
-          → ReadsNamed s (read_tables t old before) (read_tables u' rows' after) (R.Refused (record { number = 10; line = 0; length = r }))
-      meeting-refuses e z y = (Refuses.meeting h.letters.sheet h.letters.file (meets-answered answered e), z, y)
+      pub meeting-refuses : {d : ℕ} → AnsweredTen (graph g (take 128 u.successors)) before after (Some d) → {u' : TransitionSets} {rows' : List ℕ} → u' ≡ cleared_sets t → rows' ≡ cleared old
+          → ReadsNamed s (read_tables t old before) (read_tables u' rows' after) (Err (record { number = 10; line = 0; length = d }))
+      meeting-refuses {d} answer z y = (Refuses.meeting h.letters.sheet h.letters.file (meets-answered (answered (Some d) answer)), z, y)
 
 -- a file with a fault
 pub fault-refuses :
-    (s : List ℕ) (t u : TransitionSets) (old rows : List ℕ) (r : Refusal) {before : WitnessTables} → FileRead (parse s) t u old rows (F.Refused r) → before ≡ cleared_witness before
-    → ReadsNamed s (read_tables t old before) (read_tables u rows before) (R.Refused r)
+    (s : List ℕ) (t u : TransitionSets) (old rows : List ℕ) (r : Refusal) {before : WitnessTables} → FileRead (parse s) t u old rows (Err r) → before ≡ cleared_witness before
+    → ReadsNamed s (read_tables t old before) (read_tables u rows before) (Err r)
 fault-refuses s t u old rows r e zeros =
     let ((number, line, faulty, is), clear, zero) = file-refused s t u old rows r e in
     (Refuses.faulty number line faulty is zeros, clear, zero)
 
 -- TABLES THAT ARE CLEARED FIRST
-named-cleared : (s : List ℕ) (before after : ReadTables) (r : Read) → ReadsNamed s (lent_cleared before) after r → ReadsNamed s before after r
-named-cleared s before after (R.Refused r) (f, z, y) = (refuses f, z ∙ sets-twice before.sets, y)
+named-cleared : (s : List ℕ) (before after : ReadTables) (r : Result Numbers Refusal) → ReadsNamed s (lent_cleared before) after r → ReadsNamed s before after r
+named-cleared s before after (Err r) (f, z, y) = (refuses f, z ∙ sets-twice before.sets, y)
   where
     refuses : Refuses s (cleared_witness before.witness) after.witness r → Refuses s before.witness after.witness r
     refuses (Refuses.faulty number line f e c) = Refuses.faulty number line f e (c ∙ tables-twice before.witness)
     refuses (Refuses.meeting σ f m) = Refuses.meeting σ f (meets-cleared before.witness m)
-named-cleared s before after (R.Is a) h = record {
+named-cleared s before after (Ok a) h = record {
   sheet = h.sheet;
   accepted = h.accepted;
   are = h.are;
@@ -110,20 +109,7 @@ named-cleared s before after (R.Is a) h = record {
 
 -- the tables once they are cleared
 module _ (before : ReadTables) {zeroed : ReadTables} (e : zeroed ≡ lent_cleared before) where
-  pub ready-to-read : EnoughForSheet before.sets before.witness × (224 ≤ length before.rows)
-      → EnoughForSheet zeroed.sets zeroed.witness
-      × (224 ≤ length zeroed.rows)
-      × (zeroed.sets ≡ cleared_sets zeroed.sets)
-      × (zeroed.witness ≡ cleared_witness zeroed.witness)
-  ready-to-read (long, room) =
-      rw e (
-        record { tables = long-sets-cleared before.sets long.tables; long = long-cleared before.witness long.long },
-        room,
-        sym (sets-twice before.sets),
-        sym (tables-twice before.witness),
-      )
-
-  pub reads-cleared : (s : List ℕ) (after : ReadTables) (r : Read) → ReadsNamed s zeroed after r → ReadsNamed s before after r
+  pub reads-cleared : (s : List ℕ) (after : ReadTables) (r : Result Numbers Refusal) → ReadsNamed s zeroed after r → ReadsNamed s before after r
   reads-cleared s after r j = named-cleared s before after r (rw e at j)
 
 -- A SHEET THAT IS READ: its numbers, with the first 128 cells of the tables, are an automaton that fits

@@ -1,13 +1,11 @@
 -- What the questions behind 1 answer on a sheet file, and what the tables hold then.
-use Rattle.std.specs.Prelude.{ℕ, ◌≡◌, List}
+use Rattle.std.specs.Prelude.{ℕ, ◌≡◌, List, Err, Ok, Result}
 use Rattle.gate.specs.Gate.{refusal, cleared}
 use Rattle.gate.specs.declared.Refusal.{Refusal}
 use Rattle.automaton.specs.declared.Numbers.{Numbers}
 use Rattle.automaton.specs.Automaton.{TransitionSets, graph_of, AreNumbers}
 use Rattle.automaton.specs.Endless.{MeetingFree}
 use Rattle.lent.specs.Lent.{WitnessTables, cleared_witness, cleared_sets, lent_sets, Meets}
-use Rattle.reading.specs.declared.Read.{Read}
-use Rattle.reading.specs.declared.Read.TheVariants.{Refused, Is}
 use Rattle.format.specs.Format.{Sheet, FileIs, Faulty}
 use Rattle.format.specs.Numbers.{numbers}
 use Rattle.parser.specs.LettersOf.{LettersIn, BehindNames}
@@ -49,7 +47,7 @@ pub record SheetRead (s : List ℕ) (before after : ReadTables) (a : Numbers) : 
   pub behind : BehindNames sheet a.k before.rows after.rows
 
 -- the answer of questions 2 to 10, in tables that are long enough, with the names
-abbrev pub ReadsNamed : List ℕ → ReadTables → ReadTables → Read → Type 0
-ReadsNamed s before after (Refused r) =
+abbrev pub ReadsNamed : List ℕ → ReadTables → ReadTables → Result Numbers Refusal → Type 0
+ReadsNamed s before after (Err r) =
     Refuses s before.witness after.witness r × (after.sets ≡ cleared_sets before.sets) × (after.rows ≡ cleared before.rows)
-ReadsNamed s before after (Is a) = SheetRead s before after a
+ReadsNamed s before after (Ok a) = SheetRead s before after a

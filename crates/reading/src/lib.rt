@@ -8,15 +8,7 @@ ghost use Rattle.reading.specs.Read.{read_tables, ReadsNamed};
 
 use automaton::Numbers;
 use gate::Refusal;
-use parser::File;
 use parser::whole_file::read_file;
-
-// The answer of reading: a refusal, or the sheet's numbers, whose successor sets and marks stand in the lent tables.
-#[derive(Clone, Copy)]
-pub enum Read {
-    Refused(Refusal),
-    Is(Numbers),
-}
 
 // The questions in tables that are long enough, with those of the successor sets and marks and the witness all zero. With 10 the former and the
 // names are cleared again.
@@ -28,7 +20,7 @@ fn read_cleared(
     word: &mut [u16],
     one: &mut [u16],
     other: &mut [u16],
-) -> Read
+) -> Result<Numbers, Refusal>
     requires { EnoughForSheet (transition_sets table.old marks.old) (witness_tables word.old one.old other.old) × (224 ≤ length rows.old)
         × (transition_sets table.old marks.old ≡ cleared_sets (transition_sets table.old marks.old))
         × (witness_tables word.old one.old other.old ≡ cleared_witness (witness_tables word.old one.old other.old)) }
@@ -38,22 +30,17 @@ fn read_cleared(
         (read_tables (transition_sets table.new marks.new) rows.new
         (witness_tables word.new one.new other.new)) result }
 {
-    match read_file(sheet, table, marks, rows) {
-        File::Refused(r) => Read::Refused(r),
-        File::Is(a) => {
-            let length = walks::ask(automaton::graph_of(a), &table[..128], word, one, other);
-            if length == 0 {
-                return Read::Is(a);
-            }
-            lent::clear_sets(table, marks);
-            gate::clear_bytes(rows);
-            Read::Refused(Refusal {
-                number: 10,
-                line: 0,
-                length,
-            })
-        }
+    let a = read_file(sheet, table, marks, rows)?;
+    if let Some(length) = walks::ask(automaton::graph_of(a), &table[..128], word, one, other) {
+        lent::clear_sets(table, marks);
+        gate::clear_bytes(rows);
+        return Err(Refusal {
+            number: 10,
+            line: 0,
+            length,
+        });
     }
+    Ok(a)
 }
 
 // The questions in tables that are long enough. The composed names go into rows, with zeros behind; a refusal leaves the rows all zero.
@@ -65,7 +52,7 @@ pub fn read_long(
     word: &mut [u16],
     one: &mut [u16],
     other: &mut [u16],
-) -> Read
+) -> Result<Numbers, Refusal>
     requires { EnoughForSheet (transition_sets table.old marks.old) (witness_tables word.old one.old other.old) × (224 ≤ length rows.old) }
     ensures { ReadsNamed sheet.now
         (read_tables (transition_sets table.old marks.old) rows.old

@@ -3,16 +3,15 @@
 
 use std::io;
 use std::io::Print;
-use stdin::Input;
 
 fn main(rt: HostRuntime) -> io::Result<()> {
     let mut input = [0u8; rewrite_output::INPUT];
     let mut source = rt.stdin();
     match stdin::read(&mut source, &mut input) {
-        Input::Failed => rt
+        Err(_) => rt
             .stderr()
             .write_all(b"rewrite: standard input cannot be read\n"),
-        Input::Bytes(n) => {
+        Ok(n) => {
             let mut out = [0u8; rewrite_output::OUTPUT];
             let m = rewrite_output::rewrite(&input[..n], &mut out);
             rt.stdout().write_all(&out[..m])

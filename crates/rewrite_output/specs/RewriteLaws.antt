@@ -1,10 +1,9 @@
 -- What `rewrite` prints: one line for an input that is too long, each number of a witness whole, and the ends of the call. Assumes nothing.
-use Rattle.std.specs.Prelude.{ℕ, ◌+◌, ◌≤◌, ◌<◌, ◌≡◌, refl, ◌↔◌, List, length, get_or, take}
+use Rattle.std.specs.Prelude.{ℕ, ◌+◌, ◌≤◌, ◌<◌, ◌≡◌, refl, ◌↔◌, List, length, get_or, take, Err, Ok}
 use Rattle.std.proofs.Common.{ap, ap₂, subst, ◌∙◌, ⊎_elim, zero-add, arith}
 use Rattle.gate.specs.Gate.{refusal, cleared}
 use Rattle.gate.specs.GateLaws.{length-cleared}
 use Rattle.gate.specs.declared.Refusal.{Refusal}
-use Rattle.gate.specs.declared.Written.TheVariants.{Refused, Bytes}
 use Rattle.automaton.specs.Automaton.{graph_of}
 use Rattle.automaton.specs.QuestionLaws.{fits-graph}
 use Rattle.automaton.specs.EdgeLaws.{edge-letter, walk-in}
@@ -85,7 +84,7 @@ rewrite-most : {s : List ℕ} (σ : Sheet) → FileIs s σ → length (writing �
 rewrite-most {s} σ file = omega (arith, writing-most s σ file, longest-most σ.edition)
 
 module _ {s : List ℕ} {before after : WriteTables} where
-  pub bytes-printed : {m : ℕ} → Writes s before after (Bytes m) → longest_rewrite ≤ length before.output
+  pub bytes-printed : {m : ℕ} → Writes s before after (Ok m) → longest_rewrite ≤ length before.output
       → Prints (RewriteOutput s) longest_rewrite before.output after.output m
   bytes-printed (Writes.short n e z) room = let x : ◌≡◌ {A = ℕ} 0 1 = cc in absurd (omega arith)
   bytes-printed (Writes.refused l x f e k) room = let x : ◌≡◌ {A = ℕ} 0 1 = cc in absurd (omega arith)
@@ -93,7 +92,7 @@ module _ {s : List ℕ} {before after : WriteTables} where
       Prints.printed room (writing σ) (RewriteOutput.written σ a refl) count (rewrite-most σ a.file) is
 
   -- question 1 is not answered no: the tables and the buffer are long enough
-  refused-behind : {r : Refusal} → Writes s before after (Refused r) → EnoughForWitness before.witness → longest_rewrite ≤ length before.output
+  refused-behind : {r : Refusal} → Writes s before after (Err r) → EnoughForWitness before.witness → longest_rewrite ≤ length before.output
       → Refuses s before.witness after.witness r × (after.output ≡ cleared before.output)
   refused-behind (Writes.short n e z) long room = absurd (n long)
   refused-behind {r} (Writes.refused l x f e k) long room =
@@ -101,7 +100,7 @@ module _ {s : List ℕ} {before after : WriteTables} where
       (subst (Refuses s before.witness after.witness) same f, k)
   refused-behind (Writes.asked l σ a z (short, e, k)) long room = absurd (omega (arith, rewrite-most σ a.file))
 
-  module _ {r : Refusal} (h : Writes s before after (Refused r)) (long : EnoughForWitness before.witness) (room : longest_rewrite ≤ length before.output) where
+  module _ {r : Refusal} (h : Writes s before after (Err r)) (long : EnoughForWitness before.witness) (room : longest_rewrite ≤ length before.output) where
     pub refused-short : r.length ≤ 136
     refused-short = refused-most (refused-behind h long room).0
 

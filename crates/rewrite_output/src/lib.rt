@@ -9,7 +9,7 @@ ghost use Rattle.witness_text.specs.Put.{WrittenAt};
 ghost use Rattle.rewrite_output.specs.Rewrite.{RewriteOutput, longest_rewrite};
 ghost use Rattle.rewrite_output.specs.Put.{refusal_text, RefusalFits};
 
-use gate::{Refusal, Written};
+use gate::Refusal;
 
 // How many bytes of the input are read: one more than a sheet may have decides question 2, whatever follows.
 pub const INPUT: usize = 32769;
@@ -43,7 +43,7 @@ pub fn rewrite(input: &[u8], out: &mut [u8]) -> usize
     let mut one = [0u16; 137];
     let mut other = [0u16; 137];
     match file_writer::write(input, &mut word, &mut one, &mut other, out) {
-        Written::Bytes(m) => m,
-        Written::Refused(r) => put_refusal_text(r, &word, &one, &other, out),
+        Ok(m) => m,
+        Err(r) => put_refusal_text(r, &word, &one, &other, out),
     }
 }

@@ -28,14 +28,12 @@ fn mixed_sets(row: &[u16]) -> usize
     ensures { (result ≡ mix_from row.now 0 0 set_cells) × (result < 4294967296) }
 {
     let mut h: usize = 0;
-    let mut i: usize = 0;
-    while i < tuple_record::SETS {
+    for i in 0..tuple_record::SETS {
         let x = row[i];
         if x == 0 {
             return h;
         }
         h = mixed(h, x);
-        i += 1;
     }
     h
 }
@@ -54,12 +52,10 @@ fn same(table: &[u16], t: usize, row: &[u16]) -> bool
     ensures { Decides result (row_at table.now t ≡ row.now) }
 {
     let at = tuple_record::RECORD * t;
-    let mut i: usize = 0;
-    while i < tuple_record::ROW {
+    for i in 0..tuple_record::ROW {
         if table[at + i] != row[i] {
             return false;
         }
-        i += 1;
     }
     true
 }
@@ -70,6 +66,7 @@ pub fn find(table: &[u16], m: usize, row: &[u16], h: usize, head: &[u16], link: 
     ensures { RowFound table.now m row.now result }
 {
     let mut p = head[h] as usize;
+    // A while: a chain has no length beside it.
     while 0 < p {
         let t = p - 1;
         if same(table, t, row) {

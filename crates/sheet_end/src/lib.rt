@@ -22,12 +22,10 @@ fn ends_at(s: &[u8], a: usize) -> bool
 pub fn sheet_end(s: &[u8]) -> usize
     ensures { SheetEnds s.now result × (result ≤ length s.now) }
 {
-    let mut a = 0;
-    while a < s.len() {
+    for a in 0..s.len() {
         if ends_at(s, a) {
             return a + 4;
         }
-        a += 1;
     }
-    a
+    s.len()
 }

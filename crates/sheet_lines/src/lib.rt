@@ -1,37 +1,28 @@
 // One line of a sheet file, of each kind, at a position of the output.
 #![tactic(auto)]
 
-ghost use Rattle.std.specs.Prelude.{◌≡◌, ◌+◌, ◌≤◌, ◌<◌, length, [], ◌∷◌};
+ghost use Rattle.std.specs.Prelude.{◌≡◌, ◌+◌, ◌*◌, ◌≤◌, ◌<◌, length};
 ghost use Rattle.std.proofs.lemmas.List.Edits.{sets};
-ghost use Rattle.text.specs.Bytes.{lf};
-ghost use Rattle.columns.specs.Line.{fields, numbers_line};
+ghost use Rattle.columns.specs.Line.{numbers_line};
 ghost use Rattle.sets.specs.Sets.{bit};
-ghost use Rattle.format.specs.Format.{sheet_word, head_line, name_line, withdrawal_line, state_line, transition_line, state_width, transition_width};
+ghost use Rattle.format.specs.Format.{head_line, name_line, withdrawal_line, state_line, transition_line, state_width, transition_width};
 ghost use Rattle.format.specs.Withdrawals.{withdrawn_by};
 ghost use Rattle.format.specs.Written.{state_of, placed, most_transitions};
 ghost use Rattle.sheet_lines.specs.RowName.{row_name};
 
 use automaton::Edition;
 
-// The last two numbers of a line, and its end.
-fn put_last(out: &mut [u8], at: usize, a: usize, b: usize)
-    requires { at + 7 ≤ length out.old }
-    ensures { out.new ≡ sets out.old at (fields (a ∷ b ∷ []) (lf ∷ [])) }
+// A line of numbers: what it opens with, the numbers in three columns each, and its end.
+fn put_numbers(out: &mut [u8], at: usize, opening: &[u8], numbers: &[usize])
+    requires { at + (length opening.now + (3 * length numbers.now + 1)) ≤ length out.old }
+    ensures { out.new ≡ sets out.old at (numbers_line opening.now numbers.now) }
 {
-    columns::put_column(out, at, 3, a);
-    columns::put_column(out, at + 3, 3, b);
-    out[at + 6] = 10;
-}
-
-// The word of an edition.
-fn put_word(out: &mut [u8], at: usize, edition: Edition)
-    requires { at + 5 ≤ length out.old }
-    ensures { out.new ≡ sets out.old at (sheet_word edition) }
-{
-    match edition {
-        Edition::StateBased => text::put_bytes(out, at, b"SHEET"),
-        Edition::TransitionBased => text::put_bytes(out, at, b"SHT-2"),
+    text::put_bytes(out, at, opening);
+    let first = at + opening.len();
+    for (i, v) in numbers.iter().enumerate() {
+        columns::put_column(out, first + 3 * i, 3, *v);
     }
+    out[first + 3 * numbers.len()] = 10;
 }
 
 // The first line.
@@ -39,8 +30,10 @@ pub fn put_head(out: &mut [u8], at: usize, edition: Edition, n: usize, k: usize)
     requires { at + 12 ≤ length out.old }
     ensures { out.new ≡ sets out.old at (head_line edition n k) }
 {
-    put_word(out, at, edition);
-    put_last(out, at + 5, n, k);
+    match edition {
+        Edition::StateBased => put_numbers(out, at, b"SHEET", &[n, k]),
+        Edition::TransitionBased => put_numbers(out, at, b"SHT-2", &[n, k]),
+    }
 }
 
 // The line of a letter's name. The answer is the place behind it.
@@ -63,14 +56,12 @@ pub fn name_length(rows: &[u8], l: usize) -> usize
     requires { (l < 8) × (192 ≤ length rows.now) }
     ensures { (result ≡ length (row_name rows.now l)) × (result ≤ 24) }
 {
-    let mut i = 0;
-    while i < 24 {
+    for i in 0..24 {
         if rows[24 * l + i] == 0 {
             return i;
         }
-        i += 1;
     }
-    i
+    24
 }
 
 // The line of the name in row l. The answer is the place behind it.
@@ -84,42 +75,12 @@ pub fn put_row(out: &mut [u8], at: usize, rows: &[u8], l: usize) -> usize
     put_name(out, at, l, &rows[start..end])
 }
 
-// The byte `kind` and two numbers.
-fn put_two(out: &mut [u8], at: usize, kind: u8, a: usize, b: usize)
-    requires { at + 8 ≤ length out.old }
-    ensures { out.new ≡ sets out.old at (numbers_line (kind ∷ []) (a ∷ b ∷ [])) }
-{
-    out[at] = kind;
-    put_last(out, at + 1, a, b);
-}
-
 // The line of a withdrawn letter: `by` supersedes it.
 pub fn put_withdrawal(out: &mut [u8], at: usize, letter: usize, by: usize)
     requires { at + 8 ≤ length out.old }
     ensures { out.new ≡ sets out.old at (withdrawal_line (withdrawn_by letter by)) }
 {
-    put_two(out, at, b'W', letter, by);
-}
-
-// The byte `kind` and three numbers.
-fn put_three(out: &mut [u8], at: usize, kind: u8, a: usize, b: usize, c: usize)
-    requires { at + 11 ≤ length out.old }
-    ensures { out.new ≡ sets out.old at (numbers_line (kind ∷ []) (a ∷ b ∷ c ∷ [])) }
-{
-    out[at] = kind;
-    columns::put_column(out, at + 1, 3, a);
-    put_last(out, at + 4, b, c);
-}
-
-// The byte `kind` and four numbers.
-fn put_four(out: &mut [u8], at: usize, kind: u8, a: usize, b: usize, c: usize, d: usize)
-    requires { at + 14 ≤ length out.old }
-    ensures { out.new ≡ sets out.old at (numbers_line (kind ∷ []) (a ∷ b ∷ c ∷ d ∷ [])) }
-{
-    out[at] = kind;
-    columns::put_column(out, at + 1, 3, a);
-    columns::put_column(out, at + 4, 3, b);
-    put_last(out, at + 7, c, d);
+    put_numbers(out, at, b"W", &[letter, by]);
 }
 
 // 1 where q is a member of the set, and 0 where it is not.
@@ -127,10 +88,7 @@ fn flag(set: u16, q: usize) -> usize
     requires { q < 16 }
     ensures { result ≡ bit set q }
 {
-    if sets::contains(set, q) {
-        return 1;
-    }
-    0
+    usize::from(sets::contains(set, q))
 }
 
 // The line of state q.
@@ -145,9 +103,11 @@ pub fn put_state(
     requires { (q < 16) × (at + state_width edition ≤ length out.old) }
     ensures { out.new ≡ sets out.old at (state_line edition q (state_of initial recurring q)) }
 {
+    let begins = flag(initial, q);
+    let recurs = flag(recurring, q);
     match edition {
-        Edition::StateBased => put_three(out, at, b'S', q, flag(initial, q), flag(recurring, q)),
-        Edition::TransitionBased => put_two(out, at, b'S', q, flag(initial, q)),
+        Edition::StateBased => put_numbers(out, at, b"S", &[q, begins, recurs]),
+        Edition::TransitionBased => put_numbers(out, at, b"S", &[q, begins]),
     }
 }
 
@@ -156,11 +116,12 @@ pub fn put_transition(out: &mut [u8], at: usize, edition: Edition, marks: &[u16]
     requires { (i < most_transitions) × (128 ≤ length marks.now) × (at + transition_width edition ≤ length out.old) }
     ensures { out.new ≡ sets out.old at (transition_line edition (placed marks.now i)) }
 {
+    let (from, letter, to) = (i / 128, i / 16 % 8, i % 16);
     match edition {
-        Edition::StateBased => put_three(out, at, b'T', i / 128, i / 16 % 8, i % 16),
+        Edition::StateBased => put_numbers(out, at, b"T", &[from, letter, to]),
         Edition::TransitionBased => {
-            let mark = flag(marks[i / 16], i % 16);
-            put_four(out, at, b'T', i / 128, i / 16 % 8, i % 16, mark);
+            let mark = flag(marks[i / 16], to);
+            put_numbers(out, at, b"T", &[from, letter, to, mark]);
         }
     }
 }

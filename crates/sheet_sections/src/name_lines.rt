@@ -9,11 +9,9 @@ pub fn names_length(rows: &[u8], k: usize) -> usize
     requires { (k ≤ 8) × (192 ≤ length rows.now) }
     ensures { (result ≡ length (name_lines 0 (row_names rows.now 0 k))) × (result ≤ 240) }
 {
-    let mut l = 0;
     let mut count = 0;
-    while l < k {
+    for l in 0..k {
         count += 6 + sheet_lines::name_length(rows, l);
-        l += 1;
     }
     count
 }
@@ -24,11 +22,9 @@ pub fn put_names(out: &mut [u8], start: usize, rows: &[u8], k: usize) -> usize
     ensures { (result ≡ start + length (name_lines 0 (row_names rows.now 0 k)))
         × (out.new ≡ sets out.old start (name_lines 0 (row_names rows.now 0 k))) }
 {
-    let mut l = 0;
     let mut at = start;
-    while l < k {
+    for l in 0..k {
         at = sheet_lines::put_row(out, at, rows, l);
-        l += 1;
     }
     at
 }

@@ -20,12 +20,10 @@ pub fn put_states(
         × (out.new ≡ sets out.old start (state_lines edition 0 (states_of initial recurring 0 n))) }
 {
     let width = format::state_width(edition);
-    let mut q = 0;
     let mut at = start;
-    while q < n {
+    for q in 0..n {
         sheet_lines::put_state(out, at, edition, q, initial, recurring);
         at += width;
-        q += 1;
     }
     at
 }

@@ -13,6 +13,7 @@ fn next_place(table: &[u16], start: usize) -> usize
     ensures { NextPlace table.now start result }
 {
     let mut i = start;
+    // A while: a turn passes one place, or all that are left of an empty cell.
     while i < 2048 {
         let c = i / 16;
         let set = table[c];
@@ -35,6 +36,7 @@ pub fn count_transitions(table: &[u16]) -> usize
 {
     let mut count = 0;
     let mut i = next_place(table, 0);
+    // A while: from one transition to the next.
     while i < 2048 {
         count += 1;
         i = next_place(table, i + 1);
@@ -58,6 +60,7 @@ pub fn put_transitions(
     let width = format::transition_width(edition);
     let mut at = start;
     let mut i = next_place(table, 0);
+    // A while: from one transition to the next.
     while i < 2048 {
         sheet_lines::put_transition(out, at, edition, marks, i);
         at += width;

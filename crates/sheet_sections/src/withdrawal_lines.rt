@@ -12,13 +12,11 @@ pub fn withdrawals_length(rows: &[u8], k: usize) -> usize
     requires { (k ≤ 8) × (224 ≤ length rows.now) }
     ensures { (result ≡ length (withdrawal_lines (withdrawals_of (superseding_in rows.now) 0 k))) × (result ≤ 64) }
 {
-    let mut l = 0;
     let mut count = 0;
-    while l < k {
+    for l in 0..k {
         if superseding(rows, l) != 0 {
             count += 8;
         }
-        l += 1;
     }
     count
 }
@@ -44,11 +42,9 @@ pub fn put_withdrawals(out: &mut [u8], start: usize, rows: &[u8], k: usize) -> u
     ensures { (result ≡ start + length (withdrawal_lines (withdrawals_of (superseding_in rows.now) 0 k)))
         × (out.new ≡ sets out.old start (withdrawal_lines (withdrawals_of (superseding_in rows.now) 0 k))) }
 {
-    let mut l = 0;
     let mut at = start;
-    while l < k {
+    for l in 0..k {
         at = put_letter(out, at, rows, l);
-        l += 1;
     }
     at
 }

@@ -1,11 +1,11 @@
 -- A text begins with the state lines of one list of so many states at most. Assumes nothing.
-use Rattle.std.specs.Prelude.{ℕ, suc, ◌+◌, ◌≤◌, ◌<◌, ◌≡◌, refl, List, [], ◌∷◌, ◌++◌, length}
+use Rattle.std.specs.Prelude.{ℕ, suc, ◌+◌, ◌≤◌, ◌<◌, ◌≡◌, refl, List, [], ◌∷◌, ◌++◌, length, Some}
+use Rattle.columns.specs.PairLaws.{some_both}
 use Rattle.std.proofs.Common.{sym, ap₂, ◌∙◌, append_assoc, arith}
 use Rattle.lists.specs.AppendLaws.{append-same}
 use Rattle.automaton.specs.declared.Edition.{Edition}
 use Rattle.format.specs.Format.{State, state_line, state_lines, FlagsRight, StatesRight}
 use Rattle.format.proofs.FormatLaws.{state-length}
-use Rattle.state_lines.specs.declared.StateLine.TheVariants as S
 use Rattle.state_lines.specs.StateLines.{state_line_at}
 use Rattle.state_lines.specs.StateLaws.{state-line-of}
 
@@ -14,10 +14,9 @@ module _ (e : Edition) (r t : List ℕ) where
   state-same : (q : ℕ) (z y : State) → q < 1000 → FlagsRight e z → FlagsRight e y → state_line e q z ++ r ≡ state_line e q y ++ t → (z ≡ y) × (r ≡ t)
   state-same q z y hq h g f =
       let s : List ℕ = state_line e q z ++ r in
-      let a : state_line_at e s 0 q ≡ S.Is z.initial z.recurring = state-line-of e s 0 q z r hq h refl in
-      let b : state_line_at e s 0 q ≡ S.Is y.initial y.recurring = state-line-of e s 0 q y t hq g f in
-      let c : z.initial ≡ y.initial = cc in
-      let d : z.recurring ≡ y.recurring = cc in
+      let a : state_line_at e s 0 q ≡ Some (z.initial, z.recurring) = state-line-of e s 0 q z r hq h refl in
+      let b : state_line_at e s 0 q ≡ Some (y.initial, y.recurring) = state-line-of e s 0 q y t hq g f in
+      let (c, d) = some_both (sym a ∙ b) in
       (λ i. record { initial = c i; recurring = d i }, (append-same (state_line e q z) (state_line e q y) r t (state-length e q z ∙ sym (state-length e q y)) f).1)
 
 -- AS MANY LINES are the same lines

@@ -6,15 +6,7 @@ ghost use Rattle.automaton.specs.declared.Edition.TheVariants.{StateBased, Trans
 ghost use Rattle.state_lines.specs.StateLines.{state_line_at, states_at, FlagsFit, states_answer, SetsFit};
 
 use automaton::Edition;
-use columns::Pair;
 use gate::Refusal;
-
-// The initial and the must-recur flag of a state line; in SHT-2 the second is 0.
-#[derive(Clone, Copy)]
-pub enum StateLine {
-    Is(usize, usize),
-    Bad,
-}
 
 // The initial and the must-recur set of the state lines, and the next line's position and number.
 #[derive(Clone, Copy)]
@@ -25,49 +17,40 @@ pub struct Sets {
     pub line: usize,
 }
 
-// The answer of the state lines.
-#[derive(Clone, Copy)]
-pub enum States {
-    Refused(Refusal),
-    Are(Sets),
-}
-
-// The line of state q in a SHEET file: its two flags, each 0 or 1.
-fn flags_line(s: &[u8], at: usize, q: usize) -> StateLine
+// The line of state q in a SHEET file: its initial and its must-recur flag, each 0 or 1.
+#[tactic(auto, using(std::proofs::lemmas::Grind::common_steps), unfolding(crate::specs::StateLines::state_line_at))]
+fn flags_line(s: &[u8], at: usize, q: usize) -> Option<(usize, usize)>
     requires { at < 2 ^ 30 }
     ensures { (result ≡ state_line_at StateBased s.now at q) × FlagsFit result }
 {
     if !columns::is_numbered(s, at, b'S', q) {
-        return StateLine::Bad;
+        return None;
     }
-    let Pair::Are(i, r) = columns::pair_at(s, at + 4) else {
-        return StateLine::Bad;
-    };
+    let (i, r) = columns::pair_at(s, at + 4)?;
     if columns::are_between(i, 0, 1, r, 0, 1) {
-        return StateLine::Is(i, r);
+        return Some((i, r));
     }
-    StateLine::Bad
+    None
 }
 
-// The line of state q in an SHT-2 file: its one flag, 0 or 1.
-fn flag_line(s: &[u8], at: usize, q: usize) -> StateLine
+// The line of state q in an SHT-2 file: its one flag, 0 or 1, and 0 for the other.
+#[tactic(auto, using(std::proofs::lemmas::Grind::common_steps), unfolding(crate::specs::StateLines::state_line_at))]
+fn flag_line(s: &[u8], at: usize, q: usize) -> Option<(usize, usize)>
     requires { at < 2 ^ 30 }
     ensures { (result ≡ state_line_at TransitionBased s.now at q) × FlagsFit result }
 {
     if text::reader::opening(s, at) != b'S' {
-        return StateLine::Bad;
+        return None;
     }
-    let Pair::Are(p, i) = columns::pair_at(s, at + 1) else {
-        return StateLine::Bad;
-    };
+    let (p, i) = columns::pair_at(s, at + 1)?;
     if columns::are_between(p, q, q, i, 0, 1) {
-        return StateLine::Is(i, 0);
+        return Some((i, 0));
     }
-    StateLine::Bad
+    None
 }
 
 // The line of state q, of its edition's form.
-fn state_line(edition: Edition, s: &[u8], at: usize, q: usize) -> StateLine
+fn state_line(edition: Edition, s: &[u8], at: usize, q: usize) -> Option<(usize, usize)>
     requires { at < 2 ^ 30 }
     ensures { (result ≡ state_line_at edition s.now at q) × FlagsFit result }
 {
@@ -78,20 +61,25 @@ fn state_line(edition: Edition, s: &[u8], at: usize, q: usize) -> StateLine
 }
 
 // The lines of n states, the first of which is line `first` and stands at `start`.
-pub fn read_states(edition: Edition, s: &[u8], first: usize, start: usize, n: usize) -> States
+pub fn read_states(
+    edition: Edition,
+    s: &[u8],
+    first: usize,
+    start: usize,
+    n: usize,
+) -> Result<Sets, Refusal>
     requires { (first ≤ 17) × (start ≤ 308) × (n ≤ 16) }
     ensures { (result ≡ states_answer (states_at edition s.now first start 0 0 0 n)) × SetsFit result }
 {
     let size = format::state_width(edition);
     let mut line = first;
     let mut at = start;
-    let mut q = 0;
     let mut bit = 1;
     let mut initial = 0;
     let mut recurring = 0;
-    while q < n {
-        let StateLine::Is(i, r) = state_line(edition, s, at, q) else {
-            return States::Refused(Refusal {
+    for q in 0..n {
+        let Some((i, r)) = state_line(edition, s, at, q) else {
+            return Err(Refusal {
                 number: 7,
                 line,
                 length: 0,
@@ -102,9 +90,8 @@ pub fn read_states(edition: Edition, s: &[u8], first: usize, start: usize, n: us
         bit *= 2;
         line += 1;
         at += size;
-        q += 1;
     }
-    States::Are(Sets {
+    Ok(Sets {
         initial: initial as u16,
         recurring: recurring as u16,
         at,

@@ -1,9 +1,7 @@
 -- What a read of standard input answers. Which bytes are read no contract can say.
-use Rattle.std.specs.Prelude.{ℕ, ◌+◌, ◌≤◌, List, length}
-use Rattle.stdin.specs.declared.Input.{Input}
-use Rattle.stdin.specs.declared.Input.TheVariants.{Failed, Bytes}
+use Rattle.std.specs.Prelude.{ℕ, ◌+◌, ◌≤◌, List, length, Err, Ok, Result}
 
 -- so many bytes stand in a buffer from n on
-abbrev pub ReadWithin : List ℕ → ℕ → Input → Type 0
-ReadWithin buf n Failed = Unit
-ReadWithin buf n (Bytes more) = n + more ≤ length buf
+abbrev pub ReadWithin : {E : Type 0} → List ℕ → ℕ → Result ℕ E → Type 0
+ReadWithin buf n (Err e) = Unit
+ReadWithin buf n (Ok more) = n + more ≤ length buf

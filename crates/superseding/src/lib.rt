@@ -19,6 +19,7 @@ pub fn final_letter(rows: &[u8], l: usize) -> usize
 {
     let mut last = l;
     let mut by = superseding(rows, last);
+    // A while: a chain has no length beside it.
     while last < by && by < 8 {
         last = by;
         by = superseding(rows, last);

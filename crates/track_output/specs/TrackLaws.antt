@@ -1,10 +1,8 @@
 -- `track` prints what listing answers, an input that is too long has one answer, and what is read of the input is enough. Assumes nothing.
-use Rattle.std.specs.Prelude.{ℕ, ◌+◌, ◌≤◌, ◌<◌, ◌≡◌, refl, List, [], ◌↔◌, length, take}
+use Rattle.std.specs.Prelude.{ℕ, ◌+◌, ◌≤◌, ◌<◌, ◌≡◌, refl, List, [], ◌↔◌, length, take, Err, Ok, Result}
 use Rattle.std.proofs.Common.{sym, ap, subst, ◌∙◌, arith}
 use Rattle.gate.specs.Gate.{refusal, Put}
 use Rattle.gate.specs.declared.Refusal.{Refusal}
-use Rattle.gate.specs.declared.Written.{Written}
-use Rattle.gate.specs.declared.Written.TheVariants.{Refused, Bytes}
 use Rattle.automaton.specs.Automaton.{AreNumbers}
 use Rattle.lent.specs.Lent.{witness_tables}
 use Rattle.format.specs.Format.{Sheet, Faulty, most_sheet}
@@ -17,7 +15,6 @@ use Rattle.tracker.specs.Build.{BuildTables, EnoughToBuild}
 use Rattle.building.specs.FileBuild.{Builds}
 use Rattle.building.specs.FileBuildLaws.{file-built}
 use Rattle.tracker.specs.declared.Tracker.{Tracker}
-use Rattle.tracker.specs.declared.Built.TheVariants.{Refused as BuildRefused, Is}
 use Rattle.listing_text.specs.Listing.{listing}
 use Rattle.file_listing.specs.FileList.{ListTables, list_tables, Lists}
 use Rattle.listing.specs.List.{listing_of}
@@ -55,7 +52,7 @@ track-enough = enough too-long-track
 
 -- 2 to 11
 refused-output : {s : List ℕ} {before after : BuildTables} {r : Refusal} → EnoughToBuild program_room before
-    → Builds s program_room before after (BuildRefused r) → TrackOutput s (line_of r)
+    → Builds s program_room before after (Err r) → TrackOutput s (line_of r)
 refused-output lent (Builds.short n e same) = absurd (n lent)
 refused-output {before = before} {after} {r} lent (Builds.refused l q x e o z) =
     let k : q ≡ r = cc in
@@ -68,7 +65,7 @@ unfolding numbers
 same-listing x tracker σ are = rw (are.n, are.k)
 
 -- the text of a tracker that fits: it is no longer than the longest
-listed-output : {s : List ℕ} {before built : BuildTables} (x : Tracker) → Builds s program_room before built (Is x)
+listed-output : {s : List ℕ} {before built : BuildTables} (x : Tracker) → Builds s program_room before built (Ok x)
     → TrackOutput s (listing_of x built.tracker) × (length (listing_of x built.tracker) ≤ longest_track)
 unfolding numbers
 listed-output {s} {before} {built} x builds =
@@ -82,35 +79,35 @@ listed-output {s} {before} {built} x builds =
 
 -- a refusal leaves the buffer all zero
 
-put-behind : (text b c : List ℕ) (l : Written) → Put text b c l → Behind l c
-put-behind text b c (Refused r) (short, e, z) = zero-again b c z
-put-behind text b c (Bytes m) put = tt
+put-behind : (text b c : List ℕ) (l : Result ℕ Refusal) → Put text b c l → Behind l c
+put-behind text b c (Err r) (short, e, z) = zero-again b c z
+put-behind text b c (Ok m) put = tt
 
-pub list-behind : {s : List ℕ} {before after : ListTables} {l : Written} → EnoughToBuild program_room before.build → Lists s program_room before after l
+pub list-behind : {s : List ℕ} {before after : ListTables} {l : Result ℕ Refusal} → EnoughToBuild program_room before.build → Lists s program_room before after l
     → Behind l after.output
 list-behind lent (Lists.short n e same) = absurd (n lent)
 list-behind {before = before} {after} lent (Lists.refused m r x e z) =
-    subst (λ (l : Written). Behind l after.output) (sym e) (zero-again before.output after.output z)
+    subst (λ (l : Result ℕ Refusal). Behind l after.output) (sym e) (zero-again before.output after.output z)
 list-behind {before = before} {after} {l} lent (Lists.asked built x builds put left) =
     put-behind (listing_of x built.tracker) before.output after.output l put
 
 -- behind listing the buffer is c, and behind the answer d
 module _ (s b c d : List ℕ) (count : ℕ) (long : longest_track ≤ length b) (kept : length c ≡ length b) where
-  line-prints : (r : Refusal) → TrackOutput s (line_of r) → Printing (Refused r) c d count → Prints (TrackOutput s) longest_track b d count
+  line-prints : (r : Refusal) → TrackOutput s (line_of r) → Printing (Err r) c d count → Prints (TrackOutput s) longest_track b d count
   line-prints r o (n, e) =
       let h = refusal-length r.number r.line in
       Prints.printed long (line_of r) o n (omega arith) (e ∙ same-lent (line_of r) b c kept)
 
   -- behind the last question, whose answer is l
-  text-prints : (text : List ℕ) → TrackOutput s text → length text ≤ longest_track → (l : Written) → Put text b c l → Printing l c d count
+  text-prints : (text : List ℕ) → TrackOutput s text → length text ≤ longest_track → (l : Result ℕ Refusal) → Put text b c l → Printing l c d count
       → Prints (TrackOutput s) longest_track b d count
-  text-prints text o h (Refused r) (short, e, z) a = absurd (omega arith)
-  text-prints text o h (Bytes m) (n, within, z) (k, e) = Prints.printed long text o (k ∙ n) h (e ∙ z)
+  text-prints text o h (Err r) (short, e, z) a = absurd (omega arith)
+  text-prints text o h (Ok m) (n, within, z) (k, e) = Prints.printed long text o (k ∙ n) h (e ∙ z)
 
-  pub track-prints : {before after : BuildTables} {l : Written} → EnoughToBuild program_room before → Lists s program_room (list_tables before b) (list_tables after c) l
+  pub track-prints : {before after : BuildTables} {l : Result ℕ Refusal} → EnoughToBuild program_room before → Lists s program_room (list_tables before b) (list_tables after c) l
       → Printing l c d count → Prints (TrackOutput s) longest_track b d count
   track-prints lent (Lists.short n e same) a = absurd (n lent)
-  track-prints lent (Lists.refused m r x e z) a = line-prints r (refused-output lent x) (subst (λ (l : Written). Printing l c d count) e a)
+  track-prints lent (Lists.refused m r x e z) a = line-prints r (refused-output lent x) (subst (λ (l : Result ℕ Refusal). Printing l c d count) e a)
   track-prints {l = l} lent (Lists.asked built x builds put left) a =
       let (o, small) = listed-output x builds in
       text-prints (listing_of x built.tracker) o small l put a

@@ -7,7 +7,7 @@ ghost use Rattle.report.specs.Output.{Prints};
 ghost use Rattle.track_output.specs.Track.{longest_track, TrackOutput};
 ghost use Rattle.track_output.specs.Parts.{Behind, Printing};
 
-use gate::Written;
+use gate::Refusal;
 
 // How many bytes of the input are read: one more than a sheet may have decides question 2, whatever follows.
 pub const INPUT: usize = 32769;
@@ -16,13 +16,13 @@ pub const INPUT: usize = 32769;
 pub const OUTPUT: usize = 149525;
 
 // The listing stands in the buffer, or a refusal's line takes its place.
-fn answer(listed: Written, out: &mut [u8]) -> usize
+fn answer(listed: Result<usize, Refusal>, out: &mut [u8]) -> usize
     requires { (12 ≤ length out.old) × Behind listed out.old }
     ensures { Printing listed out.old out.new result }
 {
     match listed {
-        Written::Bytes(m) => m,
-        Written::Refused(r) => report::put_refusal(r, out),
+        Ok(m) => m,
+        Err(r) => report::put_refusal(r, out),
     }
 }
 

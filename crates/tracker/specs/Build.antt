@@ -1,5 +1,6 @@
 -- What building a tracker answers, and what the lent tables hold then.
-use Rattle.std.specs.Prelude.{ℕ, ◌≡◌}
+use Rattle.std.specs.Prelude.{ℕ, ◌≡◌, Err, Ok, Result}
+use Rattle.tracker.specs.declared.Tracker.{Tracker}
 use Rattle.gate.specs.Gate.{refusal}
 use Rattle.gate.specs.declared.Refusal.{Refusal}
 use Rattle.automaton.specs.Automaton.{Automaton, TransitionSets, sets_of_automaton, graph_of, Fits, AreNumbers}
@@ -7,8 +8,6 @@ use Rattle.automaton.specs.Endless.{MeetingFree}
 use Rattle.lent.specs.Lent.{WitnessTables, EnoughForSheet, cleared_witness, cleared_sets, NumbersRefuse}
 use Rattle.numbering.specs.Numbering.{MoreThan}
 use Rattle.filling.specs.TrackerTables.{TrackerTables, cleared_tracker, EnoughForTracker, Fitted}
-use Rattle.tracker.specs.declared.Built.{Built}
-use Rattle.tracker.specs.declared.Built.TheVariants.{Refused, Is}
 
 -- THE LENT TABLES of building from numbers, and those of building from a sheet file
 pub record BuildNumbersTables : Type 0 where
@@ -47,16 +46,16 @@ abbrev pub EnoughToBuildNumbers : Automaton → ℕ → BuildNumbersTables → T
 EnoughToBuildNumbers A room before = EnoughToBuild room (build_tables (sets_of_automaton A) before.witness before.tracker)
 
 -- QUESTION 11 on the automaton A: the tracker, or 11 with both of its tables all zero
-abbrev pub Tracks : Automaton → ℕ → TrackerTables → TrackerTables → Built → Type 0
-Tracks A room before after (Refused r) = MoreThan A room × (r ≡ refusal 11 0) × (after ≡ cleared_tracker before)
-Tracks A room before after (Is x) = AreNumbers A x.numbers × Fitted A room before after x.tuples
+abbrev pub Tracks : Automaton → ℕ → TrackerTables → TrackerTables → Result Tracker Refusal → Type 0
+Tracks A room before after (Err r) = MoreThan A room × (r ≡ refusal 11 0) × (after ≡ cleared_tracker before)
+Tracks A room before after (Ok x) = AreNumbers A x.numbers × Fitted A room before after x.tuples
 
 -- BUILDING FROM NUMBERS. The sheet as numbers is A.
-pub data BuildsNumbers (A : Automaton) (room : ℕ) (before after : BuildNumbersTables) (b : Built) : Type 0 where
+pub data BuildsNumbers (A : Automaton) (room : ℕ) (before after : BuildNumbersTables) (b : Result Tracker Refusal) : Type 0 where
   -- 1, asked first: nothing is touched
-  short : (EnoughToBuildNumbers A room before → ⊥) → b ≡ Refused (refusal 1 0) → after ≡ before → BuildsNumbers A room before after b
+  short : (EnoughToBuildNumbers A room before → ⊥) → b ≡ Err (refusal 1 0) → after ≡ before → BuildsNumbers A room before after b
   -- 4, 7, 8 and 10
-  refused : EnoughToBuildNumbers A room before → (r : Refusal) → NumbersRefuse A before.witness after.witness r → b ≡ Refused r
+  refused : EnoughToBuildNumbers A room before → (r : Refusal) → NumbersRefuse A before.witness after.witness r → b ≡ Err r
       → after.tracker ≡ cleared_tracker before.tracker → BuildsNumbers A room before after b
   -- 11, or the tracker
   asked : EnoughToBuildNumbers A room before → Fits A → MeetingFree (graph_of A) → after.witness ≡ cleared_witness before.witness

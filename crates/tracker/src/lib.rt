@@ -9,19 +9,12 @@ ghost use Rattle.tracker.specs.Build.{build_numbers_tables, build_tables, Enough
 
 use automaton::Numbers;
 use gate::Refusal;
-use walks::Checked;
 
 // A tracker that was built: the sheet's numbers, and how many tuples the tables hold.
 #[derive(Clone, Copy)]
 pub struct Tracker {
     pub numbers: Numbers,
     pub tuples: usize,
-}
-
-#[derive(Clone, Copy)]
-pub enum Built {
-    Refused(Refusal),
-    Is(Tracker),
 }
 
 // Question 1 of a call that takes a sheet and a room.
@@ -61,22 +54,21 @@ pub fn track(
     room: usize,
     tuples: &mut [u16],
     nexts: &mut [u16],
-) -> Built
+) -> Result<Tracker, Refusal>
     requires { Fits (automaton a table.now marks.now) × EnoughForTracker room (tracker_tables tuples.old nexts.old) }
     ensures { Tracks (automaton a table.now marks.now) room
         (tracker_tables tuples.old nexts.old) (tracker_tables tuples.new nexts.new) result }
 {
     filling::clear(tuples, nexts);
-    let m = filling::fill(a, table, marks, room, tuples, nexts);
-    if room < m {
+    let Some(m) = filling::fill(a, table, marks, room, tuples, nexts) else {
         filling::clear(tuples, nexts);
-        return Built::Refused(Refusal {
+        return Err(Refusal {
             number: 11,
             line: 0,
             length: 0,
         });
-    }
-    Built::Is(Tracker {
+    };
+    Ok(Tracker {
         numbers: a,
         tuples: m,
     })
@@ -93,21 +85,21 @@ pub fn build_numbers(
     word: &mut [u16],
     one: &mut [u16],
     other: &mut [u16],
-) -> Built
+) -> Result<Tracker, Refusal>
     ensures { BuildsNumbers (automaton a table.now marks.now) room
         (build_numbers_tables (witness_tables word.old one.old other.old) (tracker_tables tuples.old nexts.old))
         (build_numbers_tables (witness_tables word.new one.new other.new) (tracker_tables tuples.new nexts.new)) result }
 {
     if !enough(room, table, marks, tuples, nexts, word, one, other) {
-        return Built::Refused(Refusal {
+        return Err(Refusal {
             number: 1,
             line: 0,
             length: 0,
         });
     }
-    if let Checked::Refused(r) = walks::check_long(a, table, marks, word, one, other) {
+    if let Err(r) = walks::check_long(a, table, marks, word, one, other) {
         filling::clear(tuples, nexts);
-        return Built::Refused(r);
+        return Err(r);
     }
     track(a, table, marks, room, tuples, nexts)
 }

@@ -10,8 +10,6 @@ ghost use Rattle.file_listing.specs.FileList.{list_tables, Lists};
 ghost use Rattle.cells.specs.Cells.{InNumbers, written_cells};
 ghost use Rattle.answers.specs.Answer.{edition_numbered, as_numbers, built_cells, way_cells};
 
-use automaton::Numbers;
-
 // `file_tracker::build`
 #[unsafe(no_mangle)]
 pub extern "C" fn lunthomi_build(
@@ -58,13 +56,7 @@ pub extern "C" fn lunthomi_build_numbers(
         (build_numbers_tables (witness_tables word.new one.new other.new) (tracker_tables tuples.new nexts.new)))
         built_cells answer.old answer.new }
 {
-    let a = Numbers {
-        edition: answers::edition_of(edition),
-        n,
-        k,
-        initial,
-        recurring,
-    };
+    let a = answers::numbers_of(edition, n, k, initial, recurring);
     let r = tracker::build_numbers(a, table, marks, room, tuples, nexts, word, one, other);
     answers::put_built(r, answer);
 }
@@ -152,13 +144,7 @@ pub extern "C" fn lunthomi_list_numbers(
         out.new))
         written_cells answer.old answer.new }
 {
-    let a = Numbers {
-        edition: answers::edition_of(edition),
-        n,
-        k,
-        initial,
-        recurring,
-    };
+    let a = answers::numbers_of(edition, n, k, initial, recurring);
     let r = listing::list_numbers(a, table, marks, room, tuples, nexts, word, one, other, out);
     cells::put_written(r, answer);
 }

@@ -1,9 +1,10 @@
 -- The transition lines and END: the phase that reads them passes or refuses as Format says, by induction along the lines.
 -- Fuel never runs out before the file does. Assumes nothing.
+use Rattle.std.proofs.lemmas.Option.{none-some}
 use Prim.Native.Nat.{ℕ, zero, suc, ◌+◌, ◌≤◌}
-use Rattle.std.specs.Prelude.{◌≡◌, Bool, true, false, eqb, ltb, leb}
+use Rattle.std.specs.Prelude.{◌≡◌, Bool, true, false, eqb, ltb, leb, None, unwrap_or, Option, Some}
 use Rattle.std.proofs.Math.Path.{refl, sym, ap}
-use Rattle.std.proofs.Common.{subst, ◌∙◌, drop_of_length-le, add-one, zero-add, suc-add}
+use Rattle.std.proofs.Common.{ap, subst, ◌∙◌, drop_of_length-le, add-one, zero-add, suc-add}
 use Rattle.std.proofs.Math.Bool.{and-eq-true_iff}
 use mathlib.Core.List.{List, [], ◌∷◌, ◌++◌, append_assoc}
 use Rattle.std.proofs.Math.ListN.{length, get_or, drop}
@@ -12,7 +13,6 @@ use native.Mathlib.Omega.{arith}
 use Rattle.std.proofs.Math.Nat.{add-zero}
 use Rattle.lists.specs.Choice.{choose}
 use Rattle.columns.specs.Number.{number_at}
-use Rattle.columns.specs.declared.Number.TheVariants as N
 use Rattle.automaton.specs.Automaton.{TransitionSets, transition_sets}
 use Rattle.automaton.specs.declared.Edition.{Edition}
 use Rattle.automaton.specs.declared.Edition.TheVariants.{StateBased, TransitionBased}
@@ -21,8 +21,6 @@ use Rattle.format.specs.Numbers.{inserted, table_of, marked_of}
 use Rattle.format.specs.Withdrawals.{TellWithdrawn}
 use Rattle.format.proofs.FormatLaws.{transition-length, transition-width, transition-behind}
 use Rattle.format.proofs.NumbersLaws.{transition, table-where}
-use Rattle.transition_lines.specs.declared.TransitionLine.{TransitionLine}
-use Rattle.transition_lines.specs.declared.TransitionLine.TheVariants as T
 use Rattle.transition_lines.specs.TransitionLines.{with_transition, transition_of, marked_one, line_from, transition_line_at, if_in_force, with_marked, end_sets, transitions_at}
 use Rattle.frame.specs.Phase.{Phase, refused, passed, and_then}
 use Rattle.text.specs.BytesLaws.{stretch-rest}
@@ -36,9 +34,6 @@ use Rattle.frame.specs.EndLaws.{end-outcome, end_read, end-missing, end-behind}
 
 -- ONE LINE
 
-bad-is-not : (f l t m : ℕ) → T.Bad ≡ T.Is f l t m → ⊥
-bad-is-not f l t m e = let z : ◌≡◌ {A = ℕ} 0 1 = cc in omega arith
-
 -- four numbers that are read as a transition are its numbers, and it is right where its mark is one of the edition's
 record Taken (n k least from letter to mark f l t m : ℕ) : Type 0 where
   pub the-from : from ≡ f
@@ -47,24 +42,27 @@ record Taken (n k least from letter to mark f l t m : ℕ) : Type 0 where
   pub the-mark : mark ≡ m
   pub right : (e : Edition) → mark ≤ most_mark e → TransitionRight e n k least (transition f l t m)
 
+-- four numbers that are four others
+pub some_four : {x y z w a b c d : ℕ} → ◌≡◌ {A = Option (ℕ × ℕ × ℕ × ℕ)} (Some (x, y, z, w)) (Some (a, b, c, d)) → (x ≡ a) × (y ≡ b) × (z ≡ c) × (w ≡ d)
+some_four e =
+    let four = λ (o : Option (ℕ × ℕ × ℕ × ℕ)). unwrap_or o (0, 0, 0, 0) in
+    let part = λ (f : ℕ × ℕ × ℕ × ℕ → ℕ). ap (λ (o : Option (ℕ × ℕ × ℕ × ℕ)). f (four o)) e in
+    (part (λ p. p.0), part (λ p. p.1), part (λ p. p.2), part (λ p. p.3))
+
 module _ (n k least : ℕ) where
   right_of : (e : Edition) (t : Transition) → TransitionRight e n k least t →
-      transition_of n k least t.from t.letter t.to t.mark ≡ T.Is t.from t.letter t.to t.mark
+      transition_of n k least t.from t.letter t.to t.mark ≡ Some (t.from, t.letter, t.to, t.mark)
   unfolding transition_of
   right_of e t h = simp (lt-ltb _ _ h.from, lt-ltb _ _ h.letter, lt-ltb _ _ h.to, le-leb _ _ h.order)
 
-  right_is : (from letter to mark f l t m : ℕ) → transition_of n k least from letter to mark ≡ T.Is f l t m → Taken n k least from letter to mark f l t m
+  right_is : (from letter to mark f l t m : ℕ) → transition_of n k least from letter to mark ≡ Some (f, l, t, m) → Taken n k least from letter to mark f l t m
   unfolding transition_of
   right_is from letter to mark f l t m e =
-      let all = test-true (bad-is-not f l t m) _ (T.Is from letter to mark) e in
+      let all = test-true (none-some {A = ℕ × ℕ × ℕ × ℕ} (f, l, t, m)) _ (Some (from, letter, to, mark)) e in
       let e1 = (and-eq-true_iff (ltb from n) _).0 all.0 in
       let e2 = (and-eq-true_iff (ltb letter k) _).0 e1.1 in
       let e3 = (and-eq-true_iff (ltb to n) _).0 e2.1 in
-      let same = all.1 in
-      let a : from ≡ f = cc in
-      let b : letter ≡ l = cc in
-      let c : to ≡ t = cc in
-      let d : mark ≡ m = cc in
+      let (a, b, c, d) = some_four all.1 in
       let h1 = ltb-true from n e1.0 in
       let h2 = ltb-true letter k e2.0 in
       let h3 = ltb-true to n e3.0 in
@@ -80,7 +78,7 @@ module _ (n k least : ℕ) where
   -- by the edition: SHEET has a number and two, SHT-2 has two numbers and two
   module _ (s : List ℕ) (at : ℕ) where
     pub transition-line-of : (e : Edition) (t : Transition) (rest : List ℕ) → n ≤ 1000 → k ≤ 1000 → TransitionRight e n k least t →
-        drop at s ≡ transition_line e t ++ rest → (get_or s at 0 ≡ 84) × (transition_line_at e s at n k least ≡ T.Is t.from t.letter t.to t.mark)
+        drop at s ≡ transition_line e t ++ rest → (get_or s at 0 ≡ 84) × (transition_line_at e s at n k least ≡ Some (t.from, t.letter, t.to, t.mark))
     unfolding transition_line_at line_from marked_one transition_line
     transition-line-of StateBased t rest hn hk h f =
         let narrow : Narrow (t.from ∷ t.letter ∷ t.to ∷ []) = (omega (arith, h.from), (omega (arith, h.letter), (omega (arith, h.to), tt))) in
@@ -93,23 +91,23 @@ module _ (n k least : ℕ) where
         let (first, one, two, last) = four-of s at 84 t.from t.letter t.to t.mark rest narrow f in
         (first, simp (one, two, last, le-leb _ _ h.mark) (right_of TransitionBased t h))
 
-    transition-line-is : (e : Edition) (f l t m : ℕ) → get_or s at 0 ≡ 84 → transition_line_at e s at n k least ≡ T.Is f l t m →
+    transition-line-is : (e : Edition) (f l t m : ℕ) → get_or s at 0 ≡ 84 → transition_line_at e s at n k least ≡ Some (f, l, t, m) →
         TransitionRight e n k least (transition f l t m) × (drop at s ≡ transition_line e (transition f l t m) ++ drop (at + transition_width e) s)
     unfolding transition_line_at line_from marked_one transition_line
     transition-line-is StateBased f l t m first told =
-        let no-bad = bad-is-not f l t m in
+        let no-bad = none-some {A = ℕ × ℕ × ℕ × ℕ} (f, l, t, m) in
         let e1 = some_number no-bad (number_at s (at + 1)) _ told in
         let e2 = some_pair no-bad (pair_at s (at + 4)) _ e1.2 in
         let h = right_is e1.0 e2.0 e2.1 0 f l t m e2.3 in
-        (h.right StateBased (omega arith), three-is s at 84 f l t refl first (e1.1 ∙ ap N.Is h.the-from) (e2.2 ∙ rw (h.the-letter, h.the-to)))
+        (h.right StateBased (omega arith), three-is s at 84 f l t refl first (e1.1 ∙ ap Some h.the-from) (e2.2 ∙ rw (h.the-letter, h.the-to)))
     transition-line-is TransitionBased f l t m first told =
-        let no-bad = bad-is-not f l t m in
+        let no-bad = none-some {A = ℕ × ℕ × ℕ × ℕ} (f, l, t, m) in
         let e1 = some_number no-bad (number_at s (at + 1)) _ told in
         let e2 = some_number no-bad (number_at s (at + 4)) _ e1.2 in
         let e3 = some_pair no-bad (pair_at s (at + 7)) _ e2.2 in
         let e4 = test-true no-bad (leb e3.1 1) _ e3.3 in
         let h = right_is e1.0 e2.0 e3.0 e3.1 f l t m e4.1 in
-        let text = four_is s at 84 f l t m refl first (e1.1 ∙ ap N.Is h.the-from) (e2.1 ∙ ap N.Is h.the-letter) (e3.2 ∙ rw (h.the-to, h.the-mark)) in
+        let text = four_is s at 84 f l t m refl first (e1.1 ∙ ap Some h.the-from) (e2.1 ∙ ap Some h.the-letter) (e3.2 ∙ rw (h.the-to, h.the-mark)) in
         (h.right TransitionBased (leb-true _ _ e4.0), text)
 
 -- THE TWO TABLES with some transitions more: the second has the marked ones
@@ -208,15 +206,15 @@ transitions-outcome ed s ws cells tell n k hn hk (suc fuel) line at least sets h
     letter-by t r f true e ih = transitions-step ed ws s n k line at least sets t r (tell.in-force t.letter (eqb-true _ _ e)) f (go t) ih
     letter-by t r f false e ih = at_once ed ws s n k line at least sets (withdrawn-letter t (drop (at + transition_width ed) s) r f (tell.withdrawn t.letter (eqb-false _ _ e)))
 
-    line-by : get_or s at 0 ≡ 84 → (w : TransitionLine) → transition_line_at ed s at n k least ≡ w → ((t : Transition) → Next t) →
+    line-by : get_or s at 0 ≡ 84 → (w : Option (ℕ × ℕ × ℕ × ℕ)) → transition_line_at ed s at n k least ≡ w → ((t : Transition) → Next t) →
         TransitionsOutcome ed ws s n k line at least sets (with_transition w (λ t. if_in_force cells line t (go t)) (refused 8 line))
-    line-by first (T.Is from letter to mark) e ih =
+    line-by first (Some (from, letter, to, mark)) e ih =
         let f = transition-line-is n k least s at ed from letter to mark first e in
         letter-by (transition from letter to mark) f.0 f.1 (eqb (get_or cells letter 0) 0) refl (ih (transition from letter to mark))
-    line-by first T.Bad e ih =
+    line-by first None e ih =
         at_once ed ws s n k line at least sets
         (wrong-transition (first_byte s at ∙ first)
-        (λ t after r f. bad-is-not t.from t.letter t.to t.mark (sym e ∙ (transition-line-of n k least s at ed t after hn hk r f).1)))
+        (λ t after r f. none-some {A = ℕ × ℕ × ℕ × ℕ} (t.from, t.letter, t.to, t.mark) (sym e ∙ (transition-line-of n k least s at ed t after hn hk r f).1)))
 
     by : (b : Bool) → eqb (get_or s at 0) 84 ≡ b → ((t : Transition) → Next t) →
         TransitionsOutcome ed ws s n k line at least sets
@@ -253,12 +251,12 @@ module _ (ed : Edition) (s : List ℕ) (ws : List Withdrawal) (cells : List ℕ)
   transitions-end e = simp (ne_eqb _ _ (other-than-t [] e)) (ap (λ (p : Phase (List ℕ)). and_then p (λ _. passed sets)) (end_read s at 9 line [] e))
 
   transition-none : get_or s at 0 ≡ 84 → ((t : Transition) (after : List ℕ) → TransitionRight ed n k least t → drop at s ≡ transition_line ed t ++ after → ⊥) →
-      transition_line_at ed s at n k least ≡ T.Bad
+      transition_line_at ed s at n k least ≡ None
   transition-none first none = by (transition_line_at ed s at n k least) refl
     where
-      by : (w : TransitionLine) → transition_line_at ed s at n k least ≡ w → w ≡ T.Bad
-      by (T.Is f l t m) e = let g = transition-line-is n k least s at ed f l t m first e in absurd (none (transition f l t m) (drop (at + transition_width ed) s) g.0 g.1)
-      by T.Bad e = refl
+      by : (w : Option (ℕ × ℕ × ℕ × ℕ)) → transition_line_at ed s at n k least ≡ w → w ≡ None
+      by (Some (f, l, t, m)) e = let g = transition-line-is n k least s at ed f l t m first e in absurd (none (transition f l t m) (drop (at + transition_width ed) s) g.0 g.1)
+      by None e = refl
 
   pub transitions-fault :
       n ≤ 1000 → k ≤ 1000 → {number at-line : ℕ} → EndFault ed ws n k least (drop at s) line number at-line →

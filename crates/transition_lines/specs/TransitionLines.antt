@@ -1,6 +1,7 @@
 -- The transition lines of a sheet file and its end, read from the top: questions 8, 16 and 9 in the order in which a reader asks them.
 -- That this is what Format describes is a theorem. A byte past the end is 0, and 0 stands in no line.
-use Rattle.std.specs.Prelude.{ℕ, zero, suc, ◌+◌, ◌≤◌, ◌<◌, ◌≡◌, List, [], ◌++◌, ◌&&◌, get_or, drop, ltb, leb, eqb}
+use Rattle.std.specs.Prelude.{ℕ, zero, suc, ◌+◌, ◌≤◌, ◌<◌, ◌≡◌, List, [], ◌++◌, ◌&&◌, get_or, drop, ltb, leb, eqb, Err, None, Ok, Option, Result, Some}
+use Rattle.gate.specs.declared.Refusal.{Refusal}
 use Rattle.gate.specs.Gate.{refusal}
 use Rattle.lists.specs.Choice.{choose}
 use Rattle.columns.specs.Number.{number_at, with_number}
@@ -12,35 +13,31 @@ use Rattle.lent.specs.Lent.{cleared_sets}
 use Rattle.format.specs.Format.{Transition, cell, transition_index, transition_width}
 use Rattle.format.specs.Numbers.{inserted, inserted_where}
 use Rattle.frame.specs.Phase.{Phase, refused, passed, and_then, end_at}
-use Rattle.frame.specs.declared.End.{End}
-use Rattle.frame.specs.declared.End.TheVariants as E
-use Rattle.transition_lines.specs.declared.TransitionLine.{TransitionLine}
-use Rattle.transition_lines.specs.declared.TransitionLine.TheVariants as T
 
 -- a transition in range whose place is not below `least`
-unfoldable pub transition_of : ℕ → ℕ → ℕ → ℕ → ℕ → ℕ → ℕ → TransitionLine
+unfoldable pub transition_of : ℕ → ℕ → ℕ → ℕ → ℕ → ℕ → ℕ → Option (ℕ × ℕ × ℕ × ℕ)
 transition_of n k least from letter to mark =
     choose (ltb from n && (ltb letter k && (ltb to n && leb least (transition_index (record { from = from; letter = letter; to = to; mark = mark })))))
-    (T.Is from letter to mark) T.Bad
+    (Some (from, letter, to, mark)) None
 
 -- the same where its mark is 0 or 1
-unfoldable pub marked_one : ℕ → ℕ → ℕ → ℕ → ℕ → ℕ → ℕ → TransitionLine
-marked_one n k least from letter to mark = choose (leb mark 1) (transition_of n k least from letter to mark) T.Bad
+unfoldable pub marked_one : ℕ → ℕ → ℕ → ℕ → ℕ → ℕ → ℕ → Option (ℕ × ℕ × ℕ × ℕ)
+marked_one n k least from letter to mark = choose (leb mark 1) (transition_of n k least from letter to mark) None
 
 -- the line of a transition, behind its T and its first number: what the edition tells
-unfoldable pub line_from : Edition → List ℕ → ℕ → ℕ → ℕ → ℕ → ℕ → TransitionLine
-line_from StateBased s at n k least from = with_pair (pair_at s (at + 4)) (λ letter to. transition_of n k least from letter to 0) T.Bad
+unfoldable pub line_from : Edition → List ℕ → ℕ → ℕ → ℕ → ℕ → ℕ → Option (ℕ × ℕ × ℕ × ℕ)
+line_from StateBased s at n k least from = with_pair (pair_at s (at + 4)) (λ letter to. transition_of n k least from letter to 0) None
 line_from TransitionBased s at n k least from =
-    with_number (number_at s (at + 4)) (λ letter. with_pair (pair_at s (at + 7)) (λ to mark. marked_one n k least from letter to mark) T.Bad) T.Bad
+    with_number (number_at s (at + 4)) (λ letter. with_pair (pair_at s (at + 7)) (λ to mark. marked_one n k least from letter to mark) None) None
 
 -- the line of a transition, behind its T
-unfoldable pub transition_line_at : Edition → List ℕ → ℕ → ℕ → ℕ → ℕ → TransitionLine
-transition_line_at e s at n k least = with_number (number_at s (at + 1)) (λ from. line_from e s at n k least from) T.Bad
+unfoldable pub transition_line_at : Edition → List ℕ → ℕ → ℕ → ℕ → ℕ → Option (ℕ × ℕ × ℕ × ℕ)
+transition_line_at e s at n k least = with_number (number_at s (at + 1)) (λ from. line_from e s at n k least from) None
 
 -- what to do with a transition that was read, and what where there is none
-abbrev pub with_transition : {A : Type 0} → TransitionLine → (Transition → A) → A → A
-with_transition (T.Is from letter to mark) go bad = go (record { from = from; letter = letter; to = to; mark = mark })
-with_transition T.Bad go bad = bad
+abbrev pub with_transition : {A : Type 0} → Option (ℕ × ℕ × ℕ × ℕ) → (Transition → A) → A → A
+with_transition (Some (from, letter, to, mark)) go bad = go (record { from = from; letter = letter; to = to; mark = mark })
+with_transition None go bad = bad
 
 -- what comes after a transition where the cell of its letter has no superseding letter
 -- "a transition on a withdrawn letter with 16 straight after 8"
@@ -71,15 +68,15 @@ transitions_at e s cells n k line at least sets (suc fuel) =
     (λ t. transitions_at e s cells n k (line + 1) (at + transition_width e) (transition_index t + 1) (with_marked sets t) fuel)
 
 -- a transition that is read has its cell among the 128, its state among the 16, and the mark 0 or 1
-abbrev pub TransitionFits : TransitionLine → Type 0
-TransitionFits (T.Is from letter to mark) = (from < 16) × (letter < 8) × (to < 16) × (mark ≤ 1)
-TransitionFits T.Bad = Unit
+abbrev pub TransitionFits : Option (ℕ × ℕ × ℕ × ℕ) → Type 0
+TransitionFits (Some (from, letter, to, mark)) = (from < 16) × (letter < 8) × (to < 16) × (mark ≤ 1)
+TransitionFits None = Unit
 
 -- the tables with the sets that were read, and behind them what was there
 abbrev pub filled_front : TransitionSets → TransitionSets → TransitionSets
 filled_front sets before = transition_sets (sets.successors ++ drop 128 before.successors) (sets.marks ++ drop 128 before.marks)
 
 -- the answer of the transition lines, and the tables, which were `before` and are `after` then: all zero, or filled
-abbrev pub FillsTable : Phase TransitionSets → TransitionSets → TransitionSets → End → Type 0
-FillsTable (refused number line) before after r = (r ≡ E.Refused (refusal number line)) × (after ≡ cleared_sets before)
-FillsTable (passed sets) before after r = (r ≡ E.Reached) × (after ≡ filled_front sets before)
+abbrev pub FillsTable : Phase TransitionSets → TransitionSets → TransitionSets → Result Unit Refusal → Type 0
+FillsTable (refused number line) before after r = (r ≡ Err (refusal number line)) × (after ≡ cleared_sets before)
+FillsTable (passed sets) before after r = (r ≡ Ok tt) × (after ≡ filled_front sets before)

@@ -1,5 +1,6 @@
 -- One step of the definition of the transition lines, which the loop goes along. Assumes nothing.
-use Rattle.std.specs.Prelude.{ℕ, zero, suc, ◌+◌, ◌^◌, ◌<◌, ◌≡◌, refl, List, [], get_or, take, drop}
+use Rattle.std.specs.Prelude.{Ok, Err, ℕ, zero, suc, ◌+◌, ◌^◌, ◌<◌, ◌≡◌, refl, List, [], get_or, take, drop, Option, Result}
+use Rattle.gate.specs.declared.Refusal.{Refusal}
 use Rattle.std.proofs.Common.{subst, drop-set-lt, get_or-take, eq-eqb, ne_eqb}
 use Rattle.std.proofs.Math.Seq.{take-set-lt}
 use Rattle.automaton.specs.Automaton.{TransitionSets}
@@ -12,13 +13,11 @@ use Rattle.transition_lines.specs.TransitionLines.{with_transition, transition_l
 use Rattle.frame.specs.Phase.{refused, passed, and_then, end_at}
 use Rattle.frame.specs.Answers.{end_answer}
 use Rattle.frame.specs.EndLaws.{end-outcome}
-use Rattle.transition_lines.specs.declared.TransitionLine.{TransitionLine}
-use Rattle.frame.specs.declared.End.{End}
 
 -- THE TRANSITION LINES: g of them may still come
 module _ (ed : Edition) (s cells : List ℕ) (n k line at least : ℕ) (sets : TransitionSets) (f g : ℕ) (h : g ≡ suc f) where
   pub transitions-turn :
-      {w : TransitionLine} → get_or s at 0 ≡ 84 → transition_line_at ed s at n k least ≡ w →
+      {w : Option (ℕ × ℕ × ℕ × ℕ)} → get_or s at 0 ≡ 84 → transition_line_at ed s at n k least ≡ w →
       transitions_at ed s cells n k line at least sets g ≡
       with_transition w (λ t. if_in_force cells line t (transitions_at ed s cells n k (line + 1) (at + transition_width ed) (transition_index t + 1) (with_marked sets t) f)) (refused 8 line)
   unfolding transitions_at
@@ -38,12 +37,12 @@ where-take zero table c r h = refl
 where-take (suc b) table c r h = rw (take-set-lt 128 table c (union_of (get_or table c 0) (2 ^ r)) h, get_or-take 128 table c 0 h) refl
 
 -- the end, and the tables left: all zero, or with the sets that were read
-abbrev pub TablesLeft : TransitionSets → TransitionSets → TransitionSets → End → Type 0
-TablesLeft sets before after (End.Refused r) = after ≡ cleared_sets before
-TablesLeft sets before after End.Reached = after ≡ filled_front sets before
+abbrev pub TablesLeft : TransitionSets → TransitionSets → TransitionSets → Result Unit Refusal → Type 0
+TablesLeft sets before after (Err r) = after ≡ cleared_sets before
+TablesLeft sets before after (Ok tt) = after ≡ filled_front sets before
 
 pub end-fills :
-    (s : List ℕ) (line at : ℕ) (sets before after : TransitionSets) (r : End) →
+    (s : List ℕ) (line at : ℕ) (sets before after : TransitionSets) (r : Result Unit Refusal) →
     r ≡ end_answer (end_at 9 s line at []) → TablesLeft sets before after r → FillsTable (end_sets s line at sets) before after r
 end-fills s line at sets before after r e left =
     end-outcome s at 9 line [] (λ p. r ≡ end_answer p → FillsTable (and_then p (λ _. passed sets)) before after r)

@@ -1,26 +1,22 @@
 -- A text is the transition lines of one list of transitions, with END behind them, at most. Assumes nothing.
-use Rattle.std.specs.Prelude.{ℕ, ◌+◌, ◌≤◌, ◌≡◌, refl, List, [], ◌∷◌, ◌++◌, get_or}
+use Rattle.std.specs.Prelude.{ℕ, ◌+◌, ◌≤◌, ◌≡◌, refl, List, [], ◌∷◌, ◌++◌, get_or, Some}
 use Rattle.std.proofs.Common.{sym, ap, ap₂, ◌∙◌, append_assoc, arith}
 use Rattle.lists.specs.AppendLaws.{append-same}
 use Rattle.automaton.specs.declared.Edition.{Edition}
 use Rattle.format.specs.Format.{Transition, transition_line, transition_lines, end_line, transition_index, TransitionRight, TransitionsRight}
 use Rattle.format.proofs.NumbersLaws.{loosened}
 use Rattle.format.proofs.FormatLaws.{transition-length}
-use Rattle.transition_lines.specs.declared.TransitionLine.TheVariants as T
 use Rattle.transition_lines.specs.TransitionLines.{transition_line_at}
-use Rattle.transition_lines.specs.TransitionLaws.{transition-line-of}
+use Rattle.transition_lines.specs.TransitionLaws.{some_four, transition-line-of}
 
 -- ONE LINE at the top of a text is one line
 module _ (ed : Edition) (r t : List ℕ) where
   transition-same : (n k : ℕ) (u v : Transition) → n ≤ 1000 → k ≤ 1000 → TransitionRight ed n k 0 u → TransitionRight ed n k 0 v → transition_line ed u ++ r ≡ transition_line ed v ++ t → (u ≡ v) × (r ≡ t)
   transition-same n k u v hn hk h g e =
       let s : List ℕ = transition_line ed u ++ r in
-      let a : transition_line_at ed s 0 n k 0 ≡ T.Is u.from u.letter u.to u.mark = (transition-line-of n k 0 s 0 ed u r hn hk h refl).1 in
-      let b : transition_line_at ed s 0 n k 0 ≡ T.Is v.from v.letter v.to v.mark = (transition-line-of n k 0 s 0 ed v t hn hk g e).1 in
-      let c : u.from ≡ v.from = cc in
-      let d : u.letter ≡ v.letter = cc in
-      let f : u.to ≡ v.to = cc in
-      let m : u.mark ≡ v.mark = cc in
+      let a : transition_line_at ed s 0 n k 0 ≡ Some (u.from, u.letter, u.to, u.mark) = (transition-line-of n k 0 s 0 ed u r hn hk h refl).1 in
+      let b : transition_line_at ed s 0 n k 0 ≡ Some (v.from, v.letter, v.to, v.mark) = (transition-line-of n k 0 s 0 ed v t hn hk g e).1 in
+      let (c, d, f, m) = some_four (sym a ∙ b) in
       (λ i. record { from = c i; letter = d i; to = f i; mark = m i }, (append-same (transition_line ed u) (transition_line ed v) r t (transition-length ed u ∙ sym (transition-length ed v)) e).1)
 
 -- a line that begins with T is not END

@@ -10,18 +10,10 @@ ghost use Rattle.format.specs.Numbers.{inserted_where};
 ghost use Rattle.transition_lines.specs.TransitionLines.{transition_of, line_from, transition_line_at, transitions_at, TransitionFits, FillsTable};
 
 use automaton::Edition;
-use columns::{Number, Pair};
-use frame::{End, end_line};
+use frame::end_line;
 use gate::Refusal;
 
-// From, letter, to and mark of a transition line; in SHEET the mark is 0.
-#[derive(Clone, Copy)]
-pub enum TransitionLine {
-    Is(usize, usize, usize, usize),
-    Bad,
-}
-
-// The transition, if it is in range and not below the place `least`.
+// From, letter, to and mark, if the transition is in range and not below the place `least`.
 fn transition_of(
     n: usize,
     k: usize,
@@ -30,26 +22,26 @@ fn transition_of(
     letter: usize,
     to: usize,
     mark: usize,
-) -> TransitionLine
+) -> Option<(usize, usize, usize, usize)>
     requires { (n ≤ 16) × (k ≤ 8) × (mark ≤ 1) }
     ensures { (result ≡ transition_of n k least from letter to mark) × TransitionFits result }
 {
     if from >= n {
-        return TransitionLine::Bad;
+        return None;
     }
     if letter >= k {
-        return TransitionLine::Bad;
+        return None;
     }
     if to >= n {
-        return TransitionLine::Bad;
+        return None;
     }
     if (8 * from + letter) * 16 + to < least {
-        return TransitionLine::Bad;
+        return None;
     }
-    TransitionLine::Is(from, letter, to, mark)
+    Some((from, letter, to, mark))
 }
 
-// The line at `at` of a SHEET file, behind its first number: letter and to.
+// The line at `at` of a SHEET file, behind its first number: letter and to. The mark is 0.
 fn unmarked_line(
     s: &[u8],
     at: usize,
@@ -57,30 +49,31 @@ fn unmarked_line(
     k: usize,
     least: usize,
     from: usize,
-) -> TransitionLine
+) -> Option<(usize, usize, usize, usize)>
     requires { (at < 2 ^ 30) × (n ≤ 16) × (k ≤ 8) }
     ensures { (result ≡ line_from StateBased s.now at n k least from) × TransitionFits result }
 {
-    let Pair::Are(letter, to) = columns::pair_at(s, at + 4) else {
-        return TransitionLine::Bad;
-    };
+    let (letter, to) = columns::pair_at(s, at + 4)?;
     transition_of(n, k, least, from, letter, to, 0)
 }
 
 // The line at `at` of an SHT-2 file, behind its first number: letter, to and mark.
 #[tactic(auto, using(std::proofs::lemmas::Bool::Decides::nat_tests), unfolding(crate::specs::TransitionLines::line_from, crate::specs::TransitionLines::marked_one))]
-fn marked_line(s: &[u8], at: usize, n: usize, k: usize, least: usize, from: usize) -> TransitionLine
+fn marked_line(
+    s: &[u8],
+    at: usize,
+    n: usize,
+    k: usize,
+    least: usize,
+    from: usize,
+) -> Option<(usize, usize, usize, usize)>
     requires { (at < 2 ^ 30) × (n ≤ 16) × (k ≤ 8) }
     ensures { (result ≡ line_from TransitionBased s.now at n k least from) × TransitionFits result }
 {
-    let Number::Is(letter) = columns::number_at(s, at + 4) else {
-        return TransitionLine::Bad;
-    };
-    let Pair::Are(to, mark) = columns::pair_at(s, at + 7) else {
-        return TransitionLine::Bad;
-    };
+    let letter = columns::number_at(s, at + 4)?;
+    let (to, mark) = columns::pair_at(s, at + 7)?;
     if 1 < mark {
-        return TransitionLine::Bad;
+        return None;
     }
     transition_of(n, k, least, from, letter, to, mark)
 }
@@ -93,13 +86,11 @@ fn transition_line(
     n: usize,
     k: usize,
     least: usize,
-) -> TransitionLine
+) -> Option<(usize, usize, usize, usize)>
     requires { (at < 2 ^ 30) × (n ≤ 16) × (k ≤ 8) }
     ensures { (result ≡ transition_line_at edition s.now at n k least) × TransitionFits result }
 {
-    let Number::Is(from) = columns::number_at(s, at + 1) else {
-        return TransitionLine::Bad;
-    };
+    let from = columns::number_at(s, at + 1)?;
     match edition {
         Edition::StateBased => unmarked_line(s, at, n, k, least, from),
         Edition::TransitionBased => marked_line(s, at, n, k, least, from),
@@ -128,7 +119,7 @@ pub fn read_transitions(
     start: usize,
     table: &mut [u16],
     marks: &mut [u16],
-) -> End
+) -> Result<(), Refusal>
     requires { (length s.now ≤ most_sheet) × (224 ≤ length rows.now) × (first ≤ 33) × (start ≤ 500) × (n ≤ 16) × (k ≤ 8)
         × (128 ≤ length table.old) × (128 ≤ length marks.old) }
     ensures { FillsTable (transitions_at edition s.now (superseding_in rows.now) n k first start 0
@@ -139,12 +130,11 @@ pub fn read_transitions(
     let mut line = first;
     let mut at = start;
     let mut least = 0;
+    // A while: how many lines there are, the lines tell.
     while text::reader::opening(s, at) == b'T' {
-        let TransitionLine::Is(from, letter, to, mark) = transition_line(
-            edition, s, at, n, k, least,
-        ) else {
+        let Some((from, letter, to, mark)) = transition_line(edition, s, at, n, k, least) else {
             lent::clear_sets(table, marks);
-            return End::Refused(Refusal {
+            return Err(Refusal {
                 number: 8,
                 line,
                 length: 0,
@@ -152,7 +142,7 @@ pub fn read_transitions(
         };
         if superseding::superseding(rows, letter) != 0 {
             lent::clear_sets(table, marks);
-            return End::Refused(Refusal {
+            return Err(Refusal {
                 number: 16,
                 line,
                 length: 0,
@@ -165,11 +155,9 @@ pub fn read_transitions(
         line += 1;
         at += size;
     }
-    match end_line(s, 9, line, at) {
-        End::Refused(r) => {
-            lent::clear_sets(table, marks);
-            End::Refused(r)
-        }
-        End::Reached => End::Reached,
+    if let Err(r) = end_line(s, 9, line, at) {
+        lent::clear_sets(table, marks);
+        return Err(r);
     }
+    Ok(())
 }

@@ -2,7 +2,7 @@
 use Prim.Native.Nat.{ℕ, zero, suc, ◌+◌, ◌-◌, ◌≤◌, ◌<◌, min}
 use Rattle.std.specs.Prelude.{◌≡◌, refl, Bool, ◌⊎◌, get_or, take}
 use Rattle.std.proofs.Math.Path.{sym, ap, ap₂}
-use Rattle.std.proofs.Common.{◌∙◌, inl, inr, arith, eq-eqb, ne_eqb, length-append, length-drop, drop-cons}
+use Rattle.std.proofs.Common.{◌∙◌, inl, inr, arith, eq-eqb, ne_eqb, length-append, drop-cons}
 use mathlib.Core.List.{List, [], ◌∷◌, ◌++◌, append_assoc, append-nil}
 use Rattle.std.proofs.Math.Numerals.{add-one}
 use Rattle.std.proofs.Math.ListN.{length, set, drop, replicate}
@@ -156,10 +156,6 @@ module _ (n p count : ℕ) (cells : List ℕ) (long : count ≤ length cells) wh
           → Sweeping n p count cells result' c' o' j' (i + 1)
       sweep-turn (inl (e, a, b)) = rw (a, b) (turn-full e)
       sweep-turn (inr (e, a, b)) = rw (a, b) (turn-empty e)
-
-    -- no cell is lost
-    pub sweep-length : i ≤ count → length result ≡ length cells
-    sweep-length h = ap length s.holds ∙ simp (length-append, length-replicate, length-drop) (omega (arith, s.kept, s.passed))
 
     pub sweep-end : i ≡ count → Swept n p count cells result c
     unfolding pass turns close_up closed least

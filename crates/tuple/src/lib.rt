@@ -15,10 +15,7 @@ use colour::Colour;
 fn is_marked(x: u16, later: u16) -> bool
     ensures { result ≡ is_marked x later }
 {
-    if x == 0 {
-        return false;
-    }
-    sets::within(x, later)
+    x != 0 && sets::within(x, later)
 }
 
 // What is removed from all later places, after the turn of a place with set x.
@@ -45,16 +42,14 @@ fn advance(table: &[u16], letter: usize, w: &mut [u16]) -> usize
     requires { (letter < 8) × (length w.old ≡ row_cells) }
     ensures { Advanced table.now letter w.old w.new result }
 {
-    let mut i: usize = 0;
-    while i < tuple_record::SETS {
+    for i in 0..tuple_record::SETS {
         let x = w[i];
         if x == 0 {
             return i;
         }
         w[i] = automaton::successors(table, letter, x);
-        i += 1;
     }
-    i
+    tuple_record::SETS
 }
 
 // The members of the places behind each of the first count places.
@@ -63,9 +58,7 @@ fn unions(w: &[u16], count: usize, later: &mut [u16])
     ensures { Unions count w.now later.new }
 {
     let mut all: u16 = 0;
-    let mut i = count;
-    while 0 < i {
-        i -= 1;
+    for i in (0..count).rev() {
         later[i] = all;
         all = sets::union(w[i], all);
     }
@@ -80,8 +73,7 @@ fn sweep(n: usize, p: usize, later: &[u16], w: &mut [u16]) -> Colour
     let mut colour = Colour::neutral(n);
     let mut out: u16 = 0;
     let mut j: usize = 0;
-    let mut i: usize = 0;
-    while i <= p {
+    for i in 0..p + 1 {
         let x = sets::minus(w[i], out);
         w[i] = 0;
         if x != 0 {
@@ -91,7 +83,6 @@ fn sweep(n: usize, p: usize, later: &[u16], w: &mut [u16]) -> Colour
         let mark = is_marked(x, later[i]);
         colour = colour.least(colour::colour_at(n, i, p, x, mark));
         out = out_of(mark, out, x);
-        i += 1;
     }
     colour
 }

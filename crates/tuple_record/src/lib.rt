@@ -35,11 +35,7 @@ fn put(table: &mut [u16], at: usize, row: &[u16])
     requires { (at + row_cells ≤ length table.old) × (length row.now ≡ row_cells) }
     ensures { table.new ≡ sets table.old at row.now }
 {
-    let mut i: usize = 0;
-    while i < row.len() {
-        table[at + i] = row[i];
-        i += 1;
-    }
+    table[at..at + ROW].copy_from_slice(row);
 }
 
 // The row of tuple t, copied.
@@ -48,7 +44,7 @@ pub fn load(table: &[u16], t: usize, row: &mut [u16])
     ensures { row.new ≡ row_at table.now t }
 {
     let at = RECORD * t;
-    put(row, 0, &table[at..at + ROW]);
+    row.copy_from_slice(&table[at..at + ROW]);
 }
 
 // The record of tuple t: a row, and the way back.

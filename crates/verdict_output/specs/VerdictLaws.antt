@@ -1,5 +1,7 @@
 -- `verdict` prints the line of what judging answers, an input that is too long has one answer, and what is read of the input is enough. Assumes nothing.
-use Rattle.std.specs.Prelude.{ℕ, ◌+◌, ◌≤◌, ◌<◌, ◌≡◌, refl, List, [], ◌↔◌, length, take, drop}
+use Rattle.std.specs.Prelude.{ℕ, ◌+◌, ◌≤◌, ◌<◌, ◌≡◌, refl, List, [], ◌↔◌, length, take, drop, Err, Ok, Result}
+use Rattle.passes.specs.declared.Verdict.{Verdict}
+use Rattle.gate.specs.declared.Refusal.{Refusal}
 use Rattle.std.proofs.Common.{ap, subst, ◌∙◌, arith, length-drop, length-take-le}
 use Rattle.gate.specs.Gate.{refusal, lent_text}
 use Rattle.automaton.specs.Automaton.{transition_sets}
@@ -10,8 +12,6 @@ use Rattle.filling.specs.TrackerTables.{tracker_tables}
 use Rattle.tracker.specs.Build.{BuildTables, build_tables, EnoughToBuild}
 use Rattle.passes.specs.Passes.{is_yes}
 use Rattle.plan_verdict.specs.Verdict.{SizesFit, Refusing, Judgement}
-use Rattle.plan_verdict.specs.declared.Outcome.{Outcome}
-use Rattle.plan_verdict.specs.declared.Outcome.TheVariants.{Refused, Judged}
 use Rattle.report.specs.Report.{refusal_line, line_of}
 use Rattle.report.specs.ReportLaws.{refusal-length, verdict-length}
 use Rattle.sheet_end.specs.Split.{SheetEnds}
@@ -54,11 +54,11 @@ verdict-enough = enough too-long-verdict
 
 -- THE ANSWERS OF JUDGING, in tables that are long enough
 
-outcome-length : (o : Outcome) → length (outcome_line o) ≡ 12
-outcome-length (Refused r) = refusal-length r.number r.line
-outcome-length (Judged z) = verdict-length (is_yes z.answer) z.least z.passes
+outcome-length : (o : Result Verdict Refusal) → length (outcome_line o) ≡ 12
+outcome-length (Err r) = refusal-length r.number r.line
+outcome-length (Ok z) = verdict-length (is_yes z.answer) z.least z.passes
 
-judgement-on : {s p : List ℕ} {before after : BuildTables} {o : Outcome} → EnoughToBuild program_room before → Judgement s p program_room before after o
+judgement-on : {s p : List ℕ} {before after : BuildTables} {o : Result Verdict Refusal} → EnoughToBuild program_room before → Judgement s p program_room before after o
     → VerdictOn s p (outcome_line o)
 judgement-on lent (Judgement.short n e same) = absurd (n lent)
 judgement-on {before = before} {after} lent (Judgement.refused l r x e y z) = VerdictOn.refused before after r x (ap outcome_line e)
@@ -66,13 +66,13 @@ judgement-on {before = before} {after} lent (Judgement.judged l fit σ x count h
     VerdictOn.judged fit σ x before.tracker after.tracker count h lead cycle z y (ap outcome_line e)
 
 -- the sheet is what stands before its end, and the plan is the rest
-pub judgement-output : {s : List ℕ} {before after : BuildTables} {o : Outcome} (e : ℕ) → SheetEnds s e → EnoughToBuild program_room before
+pub judgement-output : {s : List ℕ} {before after : BuildTables} {o : Result Verdict Refusal} (e : ℕ) → SheetEnds s e → EnoughToBuild program_room before
     → Judgement (take e s) (stretch s e (length s)) program_room before after o → VerdictOutput s (outcome_line o)
 judgement-output {s} {o = o} e split lent j =
     record { end = e; split = split; on = subst (λ (p : List ℕ). VerdictOn (take e s) p (outcome_line o)) (stretch-end s e) (judgement-on lent j) }
 
 -- the line of an outcome at the front of a buffer
-pub line-prints : {s line b c : List ℕ} {count : ℕ} (o : Outcome) → VerdictOutput s (outcome_line o) → line ≡ outcome_line o → longest_verdict ≤ length b
+pub line-prints : {s line b c : List ℕ} {count : ℕ} (o : Result Verdict Refusal) → VerdictOutput s (outcome_line o) → line ≡ outcome_line o → longest_verdict ≤ length b
     → (count ≡ length line) × (c ≡ lent_text line b) → Prints (VerdictOutput s) longest_verdict b c count
 line-prints {s} {line} {b} o out e long (n, f) =
     let k = outcome-length o in

@@ -6,8 +6,8 @@ ghost use Rattle.report.specs.Output.{Prints};
 ghost use Rattle.verdict_output.specs.Verdict.{longest_verdict, most_input, VerdictOutput};
 ghost use Rattle.verdict_output.specs.Parts.{judged_line, outcome_line};
 
+use gate::Refusal;
 use passes::Verdict;
-use plan_verdict::Outcome;
 
 // How many bytes of the input are read: one more than a sheet and a plan may have together decides question 2, whatever follows.
 pub const INPUT: usize = 45057;
@@ -24,17 +24,17 @@ fn judged_line(v: Verdict) -> [u8; 12]
 }
 
 // The line of an outcome.
-fn outcome_line(o: Outcome) -> [u8; 12]
+fn outcome_line(o: Result<Verdict, Refusal>) -> [u8; 12]
     ensures { result ≡ outcome_line o }
 {
     match o {
-        Outcome::Judged(v) => judged_line(v),
-        Outcome::Refused(r) => report::refusal_line(r),
+        Ok(v) => judged_line(v),
+        Err(r) => report::refusal_line(r),
     }
 }
 
 // The sheet, and behind its END the plan.
-fn judge_input(input: &[u8]) -> Outcome
+fn judge_input(input: &[u8]) -> Result<Verdict, Refusal>
     ensures { VerdictOutput input.now (outcome_line result) }
 {
     let e = sheet_end::sheet_end(input);

@@ -11,22 +11,15 @@ ghost use Rattle.walks.specs.Check.{Checks, ChecksLong, AnsweredTen};
 use automaton::{GraphNumbers, Numbers};
 use gate::Refusal;
 
-// Accepted, or refused with the number of the first question that is answered no.
-#[derive(Clone, Copy)]
-pub enum Checked {
-    Refused(Refusal),
-    Accepted,
-}
-
-// Question 10, for callers that have asked the questions before it and cleared the tables: 0 for yes, or the length of a shortest word with
-// walks that meet at a state that begins an endless path, with the word and two such walks in the tables.
+// Question 10, for callers that have asked the questions before it and cleared the tables: the length of a shortest word with walks that meet
+// at a state that begins an endless path, if there are any, with the word and two such walks in the tables.
 pub fn ask(
     g: GraphNumbers,
     table: &[u16],
     word: &mut [u16],
     one: &mut [u16],
     other: &mut [u16],
-) -> usize
+) -> Option<usize>
     requires { Asked (graph g table.now) (witness_tables word.old one.old other.old) }
     ensures { AnsweredTen (graph g table.now) (witness_tables word.old one.old other.old)
         (witness_tables word.new one.new other.new) result }
@@ -43,29 +36,27 @@ fn check_cleared(
     word: &mut [u16],
     one: &mut [u16],
     other: &mut [u16],
-) -> Checked
+) -> Result<(), Refusal>
     requires { EnoughForSheet (transition_sets table.now marks.now) (witness_tables word.old one.old other.old)
         × (witness_tables word.old one.old other.old ≡ cleared_witness (witness_tables word.old one.old other.old)) }
     ensures { ChecksLong (automaton a table.now marks.now) (witness_tables word.old one.old other.old)
         (witness_tables word.new one.new other.new) result }
 {
-    let number = automaton::first_no(a, table, marks);
-    if number != 0 {
-        return Checked::Refused(Refusal {
+    if let Some(number) = automaton::first_no(a, table, marks) {
+        return Err(Refusal {
             number,
             line: 0,
             length: 0,
         });
     }
-    let length = ask(automaton::graph_of(a), table, word, one, other);
-    if length == 0 {
-        return Checked::Accepted;
+    if let Some(length) = ask(automaton::graph_of(a), table, word, one, other) {
+        return Err(Refusal {
+            number: 10,
+            line: 0,
+            length,
+        });
     }
-    Checked::Refused(Refusal {
-        number: 10,
-        line: 0,
-        length,
-    })
+    Ok(())
 }
 
 // Questions 4, 7, 8 and 10 on a sheet as numbers, in tables that are long enough.
@@ -76,7 +67,7 @@ pub fn check_long(
     word: &mut [u16],
     one: &mut [u16],
     other: &mut [u16],
-) -> Checked
+) -> Result<(), Refusal>
     requires { EnoughForSheet (transition_sets table.now marks.now) (witness_tables word.old one.old other.old) }
     ensures { ChecksLong (automaton a table.now marks.now) (witness_tables word.old one.old other.old)
         (witness_tables word.new one.new other.new) result }
@@ -94,12 +85,12 @@ pub fn check(
     word: &mut [u16],
     one: &mut [u16],
     other: &mut [u16],
-) -> Checked
+) -> Result<(), Refusal>
     ensures { Checks (automaton a table.now marks.now)
         (witness_tables word.old one.old other.old) (witness_tables word.new one.new other.new) result }
 {
     if !lent::long_enough(table, marks, word, one, other) {
-        return Checked::Refused(Refusal {
+        return Err(Refusal {
             number: 1,
             line: 0,
             length: 0,

@@ -21,6 +21,7 @@ fn depth(tuples: &[u16], count: usize, t: usize) -> usize
 {
     let mut at = t;
     let mut d: usize = 0;
+    // A while: how long the way is, is the question.
     while 0 < at {
         at = from(tuples, count, at);
         d += 1;
@@ -34,9 +35,7 @@ fn put_letters(tuples: &[u16], count: usize, t: usize, d: usize, letters: &mut [
     ensures { Spelled tuples.now count t letters.old letters.new d }
 {
     let mut at = t;
-    let mut left = d;
-    while 0 < left {
-        left -= 1;
+    for left in (0..d).rev() {
         letters[left] = tuples[tuple_record::RECORD * at + tuple_record::LETTER];
         at = from(tuples, count, at);
     }

@@ -1,7 +1,8 @@
 -- The withdrawal lines: the phase that reads them passes or refuses as Format says, by induction along the lines.
 -- Fuel never runs out before the file does. Assumes nothing.
+use Rattle.std.proofs.lemmas.Option.{none-some}
 use Prim.Native.Nat.{ℕ, zero, suc, ◌+◌, ◌≤◌}
-use Rattle.std.specs.Prelude.{◌≡◌, Bool, true, false, List, [], ◌∷◌, ◌++◌, length, set, eqb, ltb, leb}
+use Rattle.std.specs.Prelude.{◌≡◌, Bool, true, false, List, [], ◌∷◌, ◌++◌, length, set, eqb, ltb, leb, None, Option, Some}
 use Rattle.std.proofs.Math.Path.{refl, sym}
 use Rattle.std.proofs.Common.{◌∙◌, append_assoc, zero-add, add-zero, suc-add}
 use Rattle.std.proofs.Math.Bool.{and-eq-true_iff}
@@ -14,34 +15,27 @@ use Rattle.text.specs.BytesLaws.{stretch-rest}
 use Rattle.text.specs.WordLaws.{within, first_byte}
 use Rattle.columns.specs.Line.{Narrow}
 use Rattle.columns.specs.Pair.{pair_at}
-use Rattle.columns.specs.PairLaws.{some_pair, two-of, two_is}
+use Rattle.columns.specs.PairLaws.{some_both, some_pair, two-of, two_is}
 use Rattle.format.specs.Format.{Withdrawal, withdrawal_line, withdrawal_lines, WithdrawalRight, WithdrawalsRight, letter_after}
 use Rattle.format.specs.Withdrawals.{withdrawn_by, withdrawn_in}
 use Rattle.format.proofs.FormatLaws.{withdrawal-length, withdrawal-behind}
 use Rattle.frame.specs.Phase.{Phase, refused, passed}
-use Rattle.withdrawal_lines.specs.declared.WithdrawalLine.{WithdrawalLine}
-use Rattle.withdrawal_lines.specs.declared.WithdrawalLine.TheVariants as W
 use Rattle.withdrawal_lines.specs.WithdrawalLines.{Superseded, superseded, withdrawal_of, withdrawal_line_at, with_withdrawal, withdrawals_at}
 
 -- ONE LINE
 
-bad-is-not : (l m : ℕ) → W.Bad ≡ W.Is l m → ⊥
-bad-is-not l m e = let z : ◌≡◌ {A = ℕ} 0 1 = cc in omega arith
-
 module _ (k least : ℕ) where
-  right_of : (w : Withdrawal) → WithdrawalRight k least w → withdrawal_of k least w.letter w.by ≡ W.Is w.letter w.by
+  right_of : (w : Withdrawal) → WithdrawalRight k least w → withdrawal_of k least w.letter w.by ≡ Some (w.letter, w.by)
   unfolding withdrawal_of
   right_of w h = simp (le-leb _ _ h.order, lt-ltb _ _ h.larger, lt-ltb _ _ h.letter)
 
-  right_is : (letter by l m : ℕ) → withdrawal_of k least letter by ≡ W.Is l m → WithdrawalRight k least (withdrawn_by l m) × (letter ≡ l) × (by ≡ m)
+  right_is : (letter by l m : ℕ) → withdrawal_of k least letter by ≡ Some (l, m) → WithdrawalRight k least (withdrawn_by l m) × (letter ≡ l) × (by ≡ m)
   unfolding withdrawal_of
   right_is letter by l m e =
-      let all = test-true (bad-is-not l m) _ (W.Is letter by) e in
+      let all = test-true (none-some {A = ℕ × ℕ} (l, m)) _ (Some (letter, by)) e in
       let e1 = (and-eq-true_iff (leb least letter) _).0 all.0 in
       let e2 = (and-eq-true_iff (ltb letter by) _).0 e1.1 in
-      let same = all.1 in
-      let a : letter ≡ l = cc in
-      let b : by ≡ m = cc in
+      let (a, b) = some_both all.1 in
       let h1 = leb-true least letter e1.0 in
       let h2 = ltb-true letter by e2.0 in
       let h3 = ltb-true by k e2.1 in
@@ -49,18 +43,18 @@ module _ (k least : ℕ) where
 
   module _ (s : List ℕ) (at : ℕ) where
     pub withdrawal-line-of : (w : Withdrawal) (rest : List ℕ) → k ≤ 1000 → WithdrawalRight k least w → drop at s ≡ withdrawal_line w ++ rest →
-        (get_or s at 0 ≡ 87) × (withdrawal_line_at s at k least ≡ W.Is w.letter w.by)
+        (get_or s at 0 ≡ 87) × (withdrawal_line_at s at k least ≡ Some (w.letter, w.by))
     unfolding withdrawal_line_at withdrawal_line
     withdrawal-line-of w rest hk h e =
         let narrow : Narrow (w.letter ∷ w.by ∷ []) = (omega (arith, h.larger, h.letter), (omega (arith, h.letter), tt)) in
         let (first, both) = two-of s at 87 w.letter w.by rest narrow e in
         (first, simp both (right_of w h))
 
-    withdrawal-line-is : (l m : ℕ) → get_or s at 0 ≡ 87 → withdrawal_line_at s at k least ≡ W.Is l m →
+    withdrawal-line-is : (l m : ℕ) → get_or s at 0 ≡ 87 → withdrawal_line_at s at k least ≡ Some (l, m) →
         WithdrawalRight k least (withdrawn_by l m) × (drop at s ≡ withdrawal_line (withdrawn_by l m) ++ drop (at + 8) s)
     unfolding withdrawal_line_at withdrawal_line
     withdrawal-line-is l m first e =
-        let e1 = some_pair (bad-is-not l m) (pair_at s (at + 1)) _ e in
+        let e1 = some_pair (none-some {A = ℕ × ℕ} (l, m)) (pair_at s (at + 1)) _ e in
         let h = right_is e1.0 e1.1 l m e1.3 in
         (h.0, two_is s at 87 l m refl first (e1.2 ∙ rw (h.1, h.2)))
 
@@ -144,14 +138,14 @@ withdrawals-outcome s k hk (suc fuel) line at least cells h =
     Next : Withdrawal → Type 0
     Next w = WithdrawalsOutcome s k (line + 1) (at + 8) (w.letter + 1) (set cells w.letter w.by) (go w)
 
-    line-by : get_or s at 0 ≡ 87 → (v : WithdrawalLine) → withdrawal_line_at s at k least ≡ v → ((w : Withdrawal) → Next w) →
+    line-by : get_or s at 0 ≡ 87 → (v : Option (ℕ × ℕ)) → withdrawal_line_at s at k least ≡ v → ((w : Withdrawal) → Next w) →
         WithdrawalsOutcome s k line at least cells (with_withdrawal v go (refused 15 line))
-    line-by first (W.Is letter by) e ih =
+    line-by first (Some (letter, by)) e ih =
         let f = withdrawal-line-is k least s at letter by first e in
         withdrawals-step s k line at least cells (withdrawn_by letter by) f.0 f.1 (go (withdrawn_by letter by)) (ih (withdrawn_by letter by))
-    line-by first W.Bad e ih =
+    line-by first None e ih =
         wrong-there s k line at least cells first
-        (λ w after r f. bad-is-not w.letter w.by (sym e ∙ (withdrawal-line-of k least s at w after hk r f).1))
+        (λ w after r f. none-some {A = ℕ × ℕ} (w.letter, w.by) (sym e ∙ (withdrawal-line-of k least s at w after hk r f).1))
 
     by : (b : Bool) → eqb (get_or s at 0) 87 ≡ b → ((w : Withdrawal) → Next w) →
         WithdrawalsOutcome s k line at least cells
@@ -194,12 +188,12 @@ module _ (s : List ℕ) (k fuel line at least : ℕ) (cells : List ℕ) where
       by (suc f) = simp (ne_eqb _ _ other)
 
   withdrawal-none : get_or s at 0 ≡ 87 → ((w : Withdrawal) (after : List ℕ) → WithdrawalRight k least w → drop at s ≡ withdrawal_line w ++ after → ⊥) →
-      withdrawal_line_at s at k least ≡ W.Bad
+      withdrawal_line_at s at k least ≡ None
   withdrawal-none first none = by (withdrawal_line_at s at k least) refl
     where
-      by : (v : WithdrawalLine) → withdrawal_line_at s at k least ≡ v → v ≡ W.Bad
-      by (W.Is l m) e = let g = withdrawal-line-is k least s at l m first e in absurd (none (withdrawn_by l m) (drop (at + 8) s) g.0 g.1)
-      by W.Bad e = refl
+      by : (v : Option (ℕ × ℕ)) → withdrawal_line_at s at k least ≡ v → v ≡ None
+      by (Some (l, m)) e = let g = withdrawal-line-is k least s at l m first e in absurd (none (withdrawn_by l m) (drop (at + 8) s) g.0 g.1)
+      by None e = refl
 
   pub withdrawals-fault : get_or (drop at s) 0 0 ≡ 87 → ((w : Withdrawal) (after : List ℕ) → WithdrawalRight k least w → drop at s ≡ withdrawal_line w ++ after → ⊥) →
       withdrawals_at s k line at least cells (suc fuel) ≡ refused 15 line

@@ -1,10 +1,10 @@
 -- A text begins with the withdrawal lines of one list of withdrawals at most, where no such line stands behind them. Assumes nothing.
-use Rattle.std.specs.Prelude.{ℕ, ◌+◌, ◌≤◌, ◌≡◌, refl, List, [], ◌∷◌, ◌++◌, get_or}
+use Rattle.std.specs.Prelude.{ℕ, ◌+◌, ◌≤◌, ◌≡◌, refl, List, [], ◌∷◌, ◌++◌, get_or, Some}
+use Rattle.columns.specs.PairLaws.{some_both}
 use Rattle.std.proofs.Common.{sym, ap, ap₂, ◌∙◌, append_assoc, arith}
 use Rattle.lists.specs.AppendLaws.{append-same}
 use Rattle.format.specs.Format.{Withdrawal, withdrawal_line, withdrawal_lines, WithdrawalRight, WithdrawalsRight}
 use Rattle.format.proofs.FormatLaws.{withdrawal-length}
-use Rattle.withdrawal_lines.specs.declared.WithdrawalLine.TheVariants as W
 use Rattle.withdrawal_lines.specs.WithdrawalLines.{withdrawal_line_at}
 use Rattle.withdrawal_lines.specs.WithdrawalLaws.{withdrawal-line-of}
 
@@ -17,10 +17,9 @@ module _ (r t : List ℕ) where
   withdrawal-same : (k : ℕ) (u v : Withdrawal) → k ≤ 1000 → WithdrawalRight k 0 u → WithdrawalRight k 0 v → withdrawal_line u ++ r ≡ withdrawal_line v ++ t → (u ≡ v) × (r ≡ t)
   withdrawal-same k u v hk h g e =
       let s : List ℕ = withdrawal_line u ++ r in
-      let a : withdrawal_line_at s 0 k 0 ≡ W.Is u.letter u.by = (withdrawal-line-of k 0 s 0 u r hk h refl).1 in
-      let b : withdrawal_line_at s 0 k 0 ≡ W.Is v.letter v.by = (withdrawal-line-of k 0 s 0 v t hk g e).1 in
-      let c : u.letter ≡ v.letter = cc in
-      let d : u.by ≡ v.by = cc in
+      let a : withdrawal_line_at s 0 k 0 ≡ Some (u.letter, u.by) = (withdrawal-line-of k 0 s 0 u r hk h refl).1 in
+      let b : withdrawal_line_at s 0 k 0 ≡ Some (v.letter, v.by) = (withdrawal-line-of k 0 s 0 v t hk g e).1 in
+      let (c, d) = some_both (sym a ∙ b) in
       (λ i. record { letter = c i; by = d i }, (append-same (withdrawal_line u) (withdrawal_line v) r t (withdrawal-length u ∙ sym (withdrawal-length v)) e).1)
 
 -- a withdrawal line begins with W

@@ -5,42 +5,25 @@ ghost use Rattle.std.specs.Prelude.{◌≡◌, ◌+◌, ◌<◌, ◌≤◌, ◌^
 ghost use Rattle.superseding.specs.Superseding.{superseding_in};
 ghost use Rattle.withdrawal_lines.specs.WithdrawalLines.{withdrawal_line_at, withdrawals_at, WithdrawalFits, WithdrawalsRead};
 
-use columns::Pair;
 use frame::Position;
 use gate::Refusal;
 
-// Letter and superseding letter of a withdrawal line.
-#[derive(Clone, Copy)]
-pub enum WithdrawalLine {
-    Is(usize, usize),
-    Bad,
-}
-
-// The answer of the withdrawal lines.
-#[derive(Clone, Copy)]
-pub enum Withdrawals {
-    Refused(Refusal),
-    Are(Position),
-}
-
-// The line at `at`, which begins with W: a letter not below `least` and a larger one, both below k.
-fn withdrawal_line(s: &[u8], at: usize, k: usize, least: usize) -> WithdrawalLine
+// The line at `at`, which begins with W: a letter not below `least` and a larger one, which supersedes it, both below k.
+fn withdrawal_line(s: &[u8], at: usize, k: usize, least: usize) -> Option<(usize, usize)>
     requires { (at < 2 ^ 30) × (k ≤ 8) }
     ensures { (result ≡ withdrawal_line_at s.now at k least) × WithdrawalFits least result }
 {
-    let Pair::Are(letter, by) = columns::pair_at(s, at + 1) else {
-        return WithdrawalLine::Bad;
-    };
+    let (letter, by) = columns::pair_at(s, at + 1)?;
     if letter < least {
-        return WithdrawalLine::Bad;
+        return None;
     }
     if by <= letter {
-        return WithdrawalLine::Bad;
+        return None;
     }
     if k <= by {
-        return WithdrawalLine::Bad;
+        return None;
     }
-    WithdrawalLine::Is(letter, by)
+    Some((letter, by))
 }
 
 // The withdrawal lines behind the names, the first of which, where there is one, is line `first` and stands at `start`. Each superseding
@@ -51,7 +34,7 @@ pub fn read_withdrawals(
     first: usize,
     start: usize,
     rows: &mut [u8],
-) -> Withdrawals
+) -> Result<Position, Refusal>
     requires { (first ≤ 10) × (start ≤ 252) × (k ≤ 8) × (224 ≤ length rows.old) }
     ensures { WithdrawalsRead (withdrawals_at s.now k first start 0 (superseding_in rows.old) (length s.now + 1))
         rows.old rows.new result }
@@ -59,9 +42,10 @@ pub fn read_withdrawals(
     let mut line = first;
     let mut at = start;
     let mut least = 0;
+    // A while: how many lines there are, the lines tell.
     while text::reader::opening(s, at) == b'W' {
-        let WithdrawalLine::Is(letter, by) = withdrawal_line(s, at, k, least) else {
-            return Withdrawals::Refused(Refusal {
+        let Some((letter, by)) = withdrawal_line(s, at, k, least) else {
+            return Err(Refusal {
                 number: 15,
                 line,
                 length: 0,
@@ -72,5 +56,5 @@ pub fn read_withdrawals(
         line += 1;
         at += 8;
     }
-    Withdrawals::Are(Position { at, line })
+    Ok(Position { at, line })
 }

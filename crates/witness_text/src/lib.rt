@@ -33,10 +33,8 @@ fn put_cells(out: &mut [u8], start: usize, table: &[u16], count: usize) -> usize
     ensures { WrittenAt (spaced_cells table.now count) out.old start out.new result }
 {
     let mut at = start;
-    let mut i = 0;
-    while i < count {
-        at = put_cell(out, at, table[i] as usize);
-        i += 1;
+    for cell in &table[..count] {
+        at = put_cell(out, at, *cell as usize);
     }
     at
 }

@@ -1,15 +1,14 @@
 -- The end of writing from numbers behind question 1: the last question is asked with the letters that the rows hold. Assumes nothing.
-use Rattle.std.specs.Prelude.{ℕ, ◌≤◌, ◌≡◌, List, map}
+use Rattle.std.specs.Prelude.{ℕ, ◌≤◌, ◌≡◌, List, map, Ok, Result}
+use Rattle.gate.specs.declared.Refusal.{Refusal}
 use Rattle.std.proofs.Common.{ap₂, ◌∙◌, subst, arith}
 use Rattle.std.proofs.lemmas.List.{length-map}
 use Rattle.gate.specs.Gate.{Put}
-use Rattle.gate.specs.declared.Written.{Written}
 use Rattle.names.specs.Name.{compose}
 use Rattle.automaton.specs.Automaton.{Automaton, sets_of_automaton, Fits}
 use Rattle.lent.specs.Lent.{EnoughForSets, EnoughForSheet}
 use Rattle.format.specs.Format.{Sheet, WithdrawalsRight}
 use Rattle.format.specs.Written.{written}
-use Rattle.walks.specs.declared.Checked.TheVariants as K
 use Rattle.parser.specs.LettersOf.{LettersIn}
 use Rattle.named_numbers.specs.Ask.{Asks}
 use Rattle.sheet_text.specs.Text.{text_of, rows_text, Writable}
@@ -34,7 +33,7 @@ pub writable : {A : Automaton} → Fits A → EnoughForSets (sets_of_automaton A
 writable fits long = record { states = omega (arith, fits.range); letters = omega (arith, fits.range); table = long.cells; marks = long.marks }
 
 -- the last question behind the others
-pub numbers-finishes : (A : Automaton) {s rows : List ℕ} {before after : WriteTables} {r : Written} → EnoughForSheet (sets_of_automaton A) before.witness
-    → Asks A s rows before.witness after.witness K.Accepted → Put (rows_text A rows) before.output after.output r → WritesNumbers A s before after r
+pub numbers-finishes : (A : Automaton) {s rows : List ℕ} {before after : WriteTables} {r : Result ℕ Refusal} → EnoughForSheet (sets_of_automaton A) before.witness
+    → Asks A s rows before.witness after.witness (Ok tt) → Put (rows_text A rows) before.output after.output r → WritesNumbers A s before after r
 numbers-finishes A {before = before} {after} {r} long (σ, ok, names, z) put =
     WritesNumbers.asked long σ ok z (subst (λ (text : List ℕ). Put text before.output after.output r) (named-text A ok.fits.range.3 names) put)

@@ -1,11 +1,7 @@
 -- `found` holds the successors of the members passed; from the first 2^q above the set on there is none left. Assumes nothing.
-use Prim.Native.Nat.{◌-◌, ◌≤◌}
 use mathlib.Core.Path.{◌≡◌}
 use Rattle.automaton.specs.Successors.{successors_below}
 use Rattle.automaton.proofs.successors_of.Given as goal
 
 abbrev pub invariant-loop-q : goal.invariant-loop-q
-invariant-loop-q l = (l.q ≤ 16) × (l.found ≡ successors_below l.table l.letter l.q l.set)
-
-abbrev pub decreases-loop-q : goal.decreases-loop-q
-decreases-loop-q l = 16 - l.q
+invariant-loop-q l = l.found ≡ successors_below l.table l.letter l.q l.set

@@ -1,11 +1,10 @@
 -- `columns::number_of` meets its contract: the value is `value_of`'s, and each test compares with its writing. Assumes nothing.
+use Rattle.std.specs.Prelude.{None, Option, Some}
 use Rattle.lists.specs.Choice.{choose}
 use Rattle.columns.specs.Column.{digit_byte}
 use Rattle.columns.specs.Number.{value_of, number_of}
 use Rattle.columns.specs.NumberLaws.{ones-byte}
 use Rattle.lists.specs.ChoiceLaws.{eqb_yes, eqb_no}
-use Rattle.columns.specs.declared.Number.{Number}
-use Rattle.columns.specs.declared.Number.TheVariants.{Is, Bad}
 use Prim.Native.Nat.{ℕ, ◌+◌, ◌*◌}
 use mathlib.Core.Path.{◌≡◌}
 use lib.Dec.{eqb}
@@ -13,21 +12,21 @@ use Rattle.columns.proofs.number_of.Goals as goal
 use Rattle.columns.proofs.number_of.Goals.{After-digit-2, Else-a-digit_byte, Else-b-digit_byte}
 
 -- the number of the three bytes, and their value
-abbrev number : After-digit-2 → Number
+abbrev number : After-digit-2 → Option ℕ
 number c = let x = c.args in number_of x.a x.b x.c
 
 abbrev value : After-digit-2 → ℕ
 value c = c.digit.result * 100 + c.digit-2.result * 10 + c.digit-ones.result
 
 -- what is asked from each test on
-abbrev ones : After-digit-2 → Number
-ones c = choose (eqb c.args.c (digit_byte 0 (value c))) (Is (value c)) Bad
+abbrev ones : After-digit-2 → Option ℕ
+ones c = choose (eqb c.args.c (digit_byte 0 (value c))) (Some (value c)) None
 
-abbrev tens : After-digit-2 → Number
-tens c = choose (eqb c.args.b (digit_byte 1 (value c))) (ones c) Bad
+abbrev tens : After-digit-2 → Option ℕ
+tens c = choose (eqb c.args.b (digit_byte 1 (value c))) (ones c) None
 
-abbrev hundreds : After-digit-2 → Number
-hundreds c = choose (eqb c.args.a (digit_byte 2 (value c))) (tens c) Bad
+abbrev hundreds : After-digit-2 → Option ℕ
+hundreds c = choose (eqb c.args.a (digit_byte 2 (value c))) (tens c) None
 
 -- at each test, what is left to ask gives the number
 left1 : (c : After-digit-2) → hundreds c ≡ number c

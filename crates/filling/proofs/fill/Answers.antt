@@ -41,7 +41,7 @@ expand-m-requires c =
 pub returns-then-room-m : goal.returns-then-room-m
 returns-then-room-m c =
     let g = c.args in
-    fills-over {A = automaton g.a g.table.now g.marks.now} (c.loop-c.c + 1) c.if-room-m.true (c.expand-m.ensures.over c.if-room-m.true)
+    fills-over {A = automaton g.a g.table.now g.marks.now} (c.loop-c.c + 1) (c.expand-m.ensures.over c.if-room-m.true)
 
 pub overflow_add-c : goal.overflow_add-c
 overflow_add-c c = let h = few (goal.at.overflow_add-c c).In-loop-c in omega arith

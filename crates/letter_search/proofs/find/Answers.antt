@@ -1,18 +1,19 @@
 -- The lengths are asked before a table is touched; then the file is read, and the name looked up among its names. Assumes nothing.
+use Rattle.std.specs.Prelude.{Ok}
 use mathlib.Core.Path.{refl}
 use mathlib.Core.List.{List}
 use Prim.Native.Nat.{ℕ}
 use native.Mathlib.Omega.{arith}
 use lib.ListN.{replicate}
+use Rattle.gate.specs.GateLaws.{passed-up}
 use Rattle.automaton.specs.Automaton.{transition_sets}
 use Rattle.lent.specs.Lent.{witness_tables, EnoughForWitness}
-use Rattle.reading.specs.declared.Read.TheVariants as R
 use Rattle.reading.specs.Read.{ReadTables, read_tables, ReadsNamed}
 use Rattle.letter_search.specs.Find.{Finds}
 use Rattle.reading.proofs.ReadLaws.{few-letters}
 use Rattle.letter_search.specs.FindLaws.{find-asks}
 use Rattle.letter_search.proofs.find.Goals as goal
-use Rattle.letter_search.proofs.find.Goals.{Else-not-long_enough, In-Is}
+use Rattle.letter_search.proofs.find.Goals.{Else-not-long_enough, In_ok-a}
 
 -- question 1 is passed
 enough : (c : Else-not-long_enough) → EnoughForWitness (witness_tables c.args.word.now c.args.one.now c.args.other.now)
@@ -22,12 +23,12 @@ enough c = (c.long_enough.ensures.0 c.if-not-long_enough.false).long
 abbrev before : (rows word one other : List ℕ) → ReadTables
 before rows word one other = read_tables (transition_sets (replicate 128 0) (replicate 128 0)) rows (witness_tables word one other)
 
-accepted : (c : In-Is) →
+accepted : (c : In_ok-a) →
     let a = c.args in
     let w = c.read_long.new in
     ReadsNamed a.sheet.now (before (replicate 224 0) a.word.now a.one.now a.other.now)
-    (read_tables (transition_sets w.table w.marks) w.rows (witness_tables w.word w.one w.other)) (R.Is c.in-Is.a)
-accepted c = rw c.in-Is.is at c.read_long.ensures
+    (read_tables (transition_sets w.table w.marks) w.rows (witness_tables w.word w.one w.other)) (Ok c.in_ok-a.a)
+accepted c = rw c.in_ok-a.was at c.read_long.ensures
 
 pub shape_of-word-then-not-long_enough : goal.shape_of-word-then-not-long_enough
 shape_of-word-then-not-long_enough c = refl
@@ -48,32 +49,33 @@ read_long-requires c =
 
 pub letter_named-requires : goal.letter_named-requires
 letter_named-requires c =
-    let k = few-letters (accepted (goal.at.letter_named-requires c).In-Is) in
+    let k = few-letters (accepted (goal.at.letter_named-requires c).In_ok-a) in
     (k, omega (arith, k, c.read_long.auto.rows))
 
-pub shape_of-word-in-Refused : goal.shape_of-word-in-Refused
-shape_of-word-in-Refused c = c.read_long.auto.word
+pub shape_of-word-in_err-a : goal.shape_of-word-in_err-a
+shape_of-word-in_err-a c = c.read_long.auto.word
 
-pub shape_of-one-in-Refused : goal.shape_of-one-in-Refused
-shape_of-one-in-Refused c = c.read_long.auto.one
+pub shape_of-one-in_err-a : goal.shape_of-one-in_err-a
+shape_of-one-in_err-a c = c.read_long.auto.one
 
-pub shape_of-other-in-Refused : goal.shape_of-other-in-Refused
-shape_of-other-in-Refused c = c.read_long.auto.other
+pub shape_of-other-in_err-a : goal.shape_of-other-in_err-a
+shape_of-other-in_err-a c = c.read_long.auto.other
 
-pub returns-in-Refused : goal.returns-in-Refused
-returns-in-Refused c =
-    let refused = rw c.in-Refused.is at c.read_long.ensures in
-    Finds.refused (enough (goal.at.returns-in-Refused c).Else-not-long_enough) c.in-Refused.r refused.0 refl
+pub returns-in_err-a : goal.returns-in_err-a
+returns-in_err-a c =
+    let refused = rw c.in_err-a.was at c.read_long.ensures in
+    Finds.refused (enough (goal.at.returns-in_err-a c).Else-not-long_enough) c.in_err-a.field-0.0 refused.0
+    (passed-up c.from_residual.result c.in_err-a.field-0.0 c.from_residual.ensures.1)
 
-pub shape_of-word-in-Is : goal.shape_of-word-in-Is
-shape_of-word-in-Is c = c.read_long.auto.word
+pub shape_of-word : goal.shape_of-word
+shape_of-word c = c.read_long.auto.word
 
-pub shape_of-one-in-Is : goal.shape_of-one-in-Is
-shape_of-one-in-Is c = c.read_long.auto.one
+pub shape_of-one : goal.shape_of-one
+shape_of-one c = c.read_long.auto.one
 
-pub shape_of-other-in-Is : goal.shape_of-other-in-Is
-shape_of-other-in-Is c = c.read_long.auto.other
+pub shape_of-other : goal.shape_of-other
+shape_of-other c = c.read_long.auto.other
 
-pub returns-in-Is : goal.returns-in-Is
-returns-in-Is c =
-    find-asks (accepted (goal.at.returns-in-Is c).In-Is) (enough (goal.at.returns-in-Is c).Else-not-long_enough) c.letter_named.ensures.0
+pub returns : goal.returns
+returns c =
+    find-asks (accepted (goal.at.returns c).In_ok-a) (enough (goal.at.returns c).Else-not-long_enough) c.letter_named.ensures.0

@@ -2,32 +2,19 @@
 use mathlib.Core.Path.{refl, sym, subst}
 use mathlib.Core.List.{List}
 use Prim.Native.Nat.{ℕ}
-use native.Mathlib.Omega.{arith}
 use Rattle.letters.specs.Letters.{NoName, NameIs}
-use Rattle.parser.specs.LettersOf.{LettersOf}
 use Rattle.letters.specs.LettersLaws.{name-given, no-letter}
 use Rattle.letters.proofs.name.Goals as goal
-use Rattle.letters.proofs.name.Goals.{In-Is}
+use Rattle.letters.proofs.name.Goals.{in_default-via-in-Ok+else-letter-a, in_default-via-in_default}
 
--- the letters are read
-letters : (c : In-Is) → LettersOf c.args.sheet.now c.read_rows.new.rows c.in-Is.a
-letters c = (rw c.in-Is.is at c.read_rows.ensures).0
-
-pub spelled-requires : goal.spelled-requires
-spelled-requires c = omega (arith, (letters (goal.at.spelled-requires c).In-Is).range)
-
-pub returns-in-Refused : goal.returns-in-Refused
-returns-in-Refused c =
-    let (e, zero) = rw c.in-Refused.is at c.read_rows.ensures in
-    NameIs.nothing e.0 e.1 (NoName.faulty e.2) refl
-
-pub returns-then-letter-a : goal.returns-then-letter-a
-returns-then-letter-a c =
+pub returns-in-Ok : goal.returns-in-Ok
+returns-in-Ok c =
     let a = c.args in
-    subst (λ (x : List ℕ). NameIs a.sheet.now a.letter x) (sym c.spelled.ensures)
-    (name-given (letters (goal.at.returns-then-letter-a c).In-Is) a.letter c.if-letter-a.true)
+    subst (λ (x : List ℕ). NameIs a.sheet.now a.letter x) (sym c.spelled.ensures) (name-given c.in-Ok.ensures.0 a.letter c.if-letter-a.true)
 
-pub returns-else-letter-a : goal.returns-else-letter-a
-returns-else-letter-a c =
-    NameIs.nothing 14 0
-    (no-letter (letters (goal.at.returns-else-letter-a c).In-Is) c.args.letter c.if-letter-a.false) refl
+pub returns-in_default : goal.returns-in_default
+returns-in_default c =
+    elim c.in_default.branch [
+      | in_default-via-in-Ok+else-letter-a w ↦ NameIs.nothing 14 0 (no-letter w.in-Ok.ensures.0 c.args.letter w.if-letter-a.false) refl
+      | in_default-via-in_default w ↦ let (e, zero) = w.in_default.ensures in NameIs.nothing e.0 e.1 (NoName.faulty e.2) refl
+    ]

@@ -2,27 +2,19 @@
 use mathlib.Core.Path.{refl}
 use native.Mathlib.Omega.{arith}
 use Rattle.letters.specs.Letters.{NoName, NumberIs}
-use Rattle.parser.specs.LettersOf.{LettersOf}
 use Rattle.letters.specs.LettersLaws.{letters-are, no-letter}
 use Rattle.letters.proofs.name_number.Goals as goal
-use Rattle.letters.proofs.name_number.Goals.{In-Is}
 
--- the letters are read
-letters : (c : In-Is) → LettersOf c.args.sheet.now c.read_rows.new.rows c.in-Is.a
-letters c = (rw c.in-Is.is at c.read_rows.ensures).0
-
-pub returns-in-Refused : goal.returns-in-Refused
-returns-in-Refused c =
-    let (e, zero) = rw c.in-Refused.is at c.read_rows.ensures in
+pub returns-in-Err : goal.returns-in-Err
+returns-in-Err c =
+    let (e, zero) = c.in-Err.ensures in
     NumberIs.refused e.0 e.1 (NoName.faulty e.2) e.3
 
-pub returns-then-letter-a : goal.returns-then-letter-a
-returns-then-letter-a c =
-    let h = letters (goal.at.returns-then-letter-a c).In-Is in
+pub returns-in-Ok : goal.returns-in-Ok
+returns-in-Ok c =
+    let h = c.in-Ok.ensures.0 in
     let k = letters-are h in
     NumberIs.named h.sheet h.file (omega arith) refl
 
-pub returns-else-letter-a : goal.returns-else-letter-a
-returns-else-letter-a c =
-    NumberIs.refused 14 0
-    (no-letter (letters (goal.at.returns-else-letter-a c).In-Is) c.args.letter c.if-letter-a.false) refl
+pub returns-in-Ok-2 : goal.returns-in-Ok-2
+returns-in-Ok-2 c = NumberIs.refused 14 0 (no-letter c.in-Ok.ensures.0 c.args.letter c.if-letter-a.false) refl

@@ -21,12 +21,12 @@ built c =
     let w = c.build_numbers.new in
     build_numbers_tables (witness_tables w.word w.one w.other) (tracker_tables w.tuples w.nexts)
 
-pub returns-in-Refused : goal.returns-in-Refused
-returns-in-Refused c =
-    let at = (goal.at.returns-in-Refused c).After-build_numbers in
-    list-numbers-refused {A = given at} {before = lent at} {built = built at} c.build_numbers.ensures c.in-Refused.is c.refuse.ensures
+pub returns-in-Err : goal.returns-in-Err
+returns-in-Err c =
+    let at = (goal.at.returns-in-Err c).After-build_numbers in
+    list-numbers-refused {A = given at} {before = lent at} {built = built at} c.build_numbers.ensures c.in-Err.is c.refuse.ensures
 
-pub returns-in-Is : goal.returns-in-Is
-returns-in-Is c =
-    let at = (goal.at.returns-in-Is c).After-build_numbers in
-    numbers-finished {A = given at} {before = lent at} {built = built at} c.build_numbers.ensures c.in-Is.is c.finish.result c.finish.ensures
+pub returns-in-Ok : goal.returns-in-Ok
+returns-in-Ok c =
+    let at = (goal.at.returns-in-Ok c).After-build_numbers in
+    numbers-finished {A = given at} {before = lent at} {built = built at} c.build_numbers.ensures c.in-Ok.is c.finish.result c.finish.ensures

@@ -1,8 +1,7 @@
 -- What is left to write gives the whole. Assumes nothing.
-use Prim.Native.Nat.{ℕ, ◌+◌}
+use Prim.Native.Nat.{ℕ}
 use mathlib.Core.Path.{◌≡◌}
 use mathlib.Core.List.{List}
-use native.Mathlib.Omega.{arith}
 use lib.ListN.{length}
 use Rattle.columns.specs.Column.{column}
 use Rattle.columns.specs.ColumnLaws.{column-length}
@@ -22,9 +21,6 @@ wide c i = column-length c.args.w (cells_from c.args.table.now c.args.from i)
 pub loop-i-init : goal.loop-i-init
 loop-i-init c =
     put-none (rw (columns-length c.args.w (cells_from c.args.table.now c.args.from) c.args.count) c.requires.bytes)
-
-pub overflow_cast-table : goal.overflow_cast-table
-overflow_cast-table c = omega (arith, c.type_inv.table (c.args.from + c.loop-i.i))
 
 pub put_column-requires : goal.put_column-requires
 put_column-requires c =

@@ -1,6 +1,6 @@
--- The invariant: the tables hold the walks from time t on, where they are in pair i. The measure is t. Assumes nothing.
+-- The invariant: the tables hold the walks from time t on, where they are in pair i. Assumes nothing.
 use Prim.Native.Nat.{ℕ, suc, ◌/◌, ◌-◌, ◌<◌}
-use mathlib.Core.Path.{◌≡◌, refl, subst, ◌∙◌}
+use mathlib.Core.Path.{◌≡◌, subst, ◌∙◌}
 use native.Mathlib.Omega.{arith}
 use Rattle.lent.specs.Lent.{witness_tables}
 use Rattle.queue.specs.Queue.{pair, depth}
@@ -17,31 +17,6 @@ back : (c : After-number-o) →
 back c =
     let l = c.loop-t in
     rw c.number-o.ensures (c.requires.linked l.i l.invariant.0 (omega arith))
-
-pub loop-t-init : goal.loop-t-init
-loop-t-init c =
-    let p = c.requires in
-    (omega arith, omega arith, p.deep, refl, refl, refl, λ G counts s x. x)
-
-pub number-o-requires : goal.number-o-requires
-number-o-requires c =
-    let p = c.requires in
-    let h = c.loop-t.invariant.0 in
-    omega arith
-
-pub number-requires : goal.number-requires
-number-requires c =
-    let p = c.requires in
-    let l = c.loop-t in
-    let z = back (goal.at.number-requires c).After-number-o in
-    omega arith
-
-pub note-requires : goal.note-requires
-note-requires c =
-    let p = c.requires in
-    let l = c.loop-t in
-    let t = l.invariant.1 in
-    (omega arith, omega arith, omega arith, omega arith)
 
 pub loop-t-preserved : goal.loop-t-preserved
 loop-t-preserved c =

@@ -1,6 +1,6 @@
 -- The loop's invariant: what is left of the definition, from the place and the names reached, is the whole of it; the rows hold these names.
 -- Assumes nothing.
-use Prim.Native.Nat.{◌+◌, ◌-◌, ◌*◌, ◌≤◌}
+use Prim.Native.Nat.{◌+◌, ◌*◌, ◌≤◌}
 use mathlib.Core.Path.{◌≡◌}
 use lib.ListN.{length}
 use Rattle.name_lines.specs.NameStepLaws.{NamesSoFar}
@@ -8,7 +8,4 @@ use Rattle.name_lines.proofs.read_names.Given as goal
 
 abbrev pub invariant-loop-l : goal.invariant-loop-l
 invariant-loop-l l =
-    (l.l ≤ l.k) × (l.line ≡ 2 + l.l) × (l.at ≤ 12 + 30 * l.l) × (length l.rows ≡ length l.initial.rows) × NamesSoFar l.s l.k l.initial.rows l.rows l.line l.at l.l
-
-abbrev pub decreases-loop-l : goal.decreases-loop-l
-decreases-loop-l l = l.k - l.l
+    (l.line ≡ 2 + l.l) × (l.at ≤ 12 + 30 * l.l) × (length l.rows ≡ length l.initial.rows) × NamesSoFar l.s l.k l.initial.rows l.rows l.line l.at l.l

@@ -1,26 +1,22 @@
--- `names::one_of` meets its contract. The loop's invariant: whether b is one of the bytes left is the answer. Assumes nothing.
-use mathlib.Core.Path.{refl, sym, ◌∙◌}
-use native.Mathlib.Omega.{arith}
-use Rattle.names.specs.PartLaws.{one-here, one_later, one-nowhere}
+-- That some byte equals b is what `one_of` says, test by test. Assumes nothing.
+use Rattle.std.proofs.Common.{◌≡◌, ℕ, ◌||◌, Bool, true, false, List, [], ◌∷◌, eqb, refl, ◌∙◌, arith}
+use Rattle.std.proofs.lemmas.Bool.Decides.{nat_tests}
+use Rattle.std.specs.List.{list_any}
+use Rattle.lists.specs.Choice.{choose}
+use Rattle.names.specs.Name.{one_of}
 use Rattle.names.proofs.one_of.Goals as goal
 
-pub loop-i-init : goal.loop-i-init
-loop-i-init c = refl
+either-way : (x b : ℕ) → eqb x b ≡ eqb b x
+either-way x b = grind (arith, nat_tests)
 
-pub returns-then-b-bytes : goal.returns-then-b-bytes
-returns-then-b-bytes c =
-    let l = c.loop-i in
-    let a = c.args in
-    sym (one-here a.bytes.now a.b l.i (omega arith) c.if-b-bytes.true) ∙ l.invariant
+or-choose : (t : Bool) {a b : Bool} → a ≡ b → (t || a) ≡ choose t true b
+or-choose true e = refl
+or-choose false e = e
 
-pub loop-i-preserved : goal.loop-i-preserved
-loop-i-preserved c =
-    let l = c.loop-i in
-    let a = c.args in
-    sym (one_later a.bytes.now a.b l.i (omega arith) c.if-b-bytes.false) ∙ l.invariant
+any-one_of : (b : ℕ) (bytes : List ℕ) → list_any (λ y. eqb y b) bytes ≡ one_of bytes b
+unfolding one_of
+any-one_of b [] = refl
+any-one_of b (x ∷ bytes) = rw (either-way x b) (or-choose (eqb b x) (any-one_of b bytes))
 
 pub returns : goal.returns
-returns c =
-    let l = c.loop-i in
-    let a = c.args in
-    sym (one-nowhere a.bytes.now a.b l.i (omega arith)) ∙ l.invariant
+returns c = c.contains.ensures.value ∙ any-one_of c.args.b c.args.bytes.now

@@ -6,7 +6,4 @@ use Rattle.names.proofs.parts_end.Given as goal
 
 abbrev pub invariant-loop-turn : goal.invariant-loop-turn
 invariant-loop-turn l =
-    (l.turn ≤ 25) × (l.start ≤ l.at) × (l.at ≤ l.start + 3 * l.turn) × (parts_end l.s l.at (25 - l.turn) ≡ parts_end l.s l.start 25)
-
-abbrev pub decreases-loop-turn : goal.decreases-loop-turn
-decreases-loop-turn l = 25 - l.turn
+    (l.start ≤ l.at) × (l.at ≤ l.start + 3 * l.turn) × (parts_end l.s l.at (25 - l.turn) ≡ parts_end l.s l.start 25)

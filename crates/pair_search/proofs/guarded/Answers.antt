@@ -1,9 +1,6 @@
--- The two cases of the test. Assumes nothing.
+-- Where p is no member of x, the answer is the empty set, which has no member. Assumes nothing.
 use Rattle.sets.specs.SetLaws.{no_member}
 use Rattle.pair_search.proofs.guarded.Goals as goal
-
-pub returns-then-contains : goal.returns-then-contains
-returns-then-contains c = λ q. (λ h. (c.contains.ensures.0 c.if-contains.true, h), λ h. h.1)
 
 pub returns : goal.returns
 returns c =

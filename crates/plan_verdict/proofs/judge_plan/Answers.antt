@@ -9,16 +9,16 @@ use Rattle.plan_verdict.proofs.judge_plan.Goals as goal
 few : (k : ℕ) (rows : List ℕ) → k ≤ 8 → (σ : Sheet) → LettersIn σ k rows → σ.k ≤ 8
 few k rows most σ names = let e = names.letters in omega arith
 
-pub judge_letters-v-requires : goal.judge_letters-v-requires
-judge_letters-v-requires c =
+pub judge_letters-requires : goal.judge_letters-requires
+judge_letters-requires c =
     let (σ, names) = c.requires.in_bounds.2 in
-    let (lead, cycle, plan, m, k, is) = (c.in-Is.ensures.1 σ names).1 in
+    let (lead, cycle, plan, m, k, is) = (c.in_ok-z.ensures.1 σ names).1 in
     (c.requires.plan_len_bound.1, letters-fit σ (few _ _ c.requires.in_bounds.1 σ names) names.withdrawals _ lead cycle plan 400 _ _ _ m k is)
 
-pub returns-in-Is : goal.returns-in-Is
-returns-in-Is c = (
+pub returns : goal.returns
+returns c = (
   λ σ names.
-      (let (lead, cycle, plan, m, k, is) = (c.in-Is.ensures.1 σ names).1 in
-      (lead, cycle, plan, judged-plan σ (few _ _ c.requires.in_bounds.1 σ names) names.withdrawals _ lead cycle plan 400 _ _ _ m k is _ _ _ _ c.judge_letters-v.ensures)),
-  c.in-Is.ensures.2,
+      (let (lead, cycle, plan, m, k, is) = (c.in_ok-z.ensures.1 σ names).1 in
+      (lead, cycle, plan, judged-plan σ (few _ _ c.requires.in_bounds.1 σ names) names.withdrawals _ lead cycle plan 400 _ _ _ m k is _ _ _ _ c.judge_letters.ensures)),
+  c.in_ok-z.ensures.2,
 )

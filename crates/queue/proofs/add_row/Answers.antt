@@ -1,4 +1,4 @@
--- The invariant: the pairs of p and the members below q are in the queue. The measure is what is left of 16. Assumes nothing.
+-- The invariant: the pairs of p and the members below q are in the queue. Assumes nothing.
 use Prim.Native.Nat.{ℕ}
 use mathlib.Core.Path.{◌≡◌, sym, ◌∙◌, subst}
 use native.Mathlib.Omega.{arith}
@@ -20,24 +20,19 @@ returns-then-within c =
     unchanged (Below a.set 16) c.requires.0 (λ r s. w r s.1)
 
 pub loop-q-init : goal.loop-q-init
-loop-q-init c =
-    let a = c.args in
-    (omega arith, unchanged (Below a.set 0) c.requires.0 (λ r s. absurd (omega (arith, s.0))))
+loop-q-init c = unchanged (Below c.args.set 0) c.requires.0 (λ r s. absurd (omega (arith, s.0)))
 
 pub add-reached-requires : goal.add-reached-requires
 add-reached-requires c =
     let p = c.requires in
-    (open-longer p.0.state p.0.deep c.loop-q.invariant.1, omega arith, p.1)
+    (open-longer p.0.state p.0.deep c.loop-q.invariant, omega arith, p.1)
 
 pub loop-q-preserved : goal.loop-q-preserved
-loop-q-preserved c =
-    let a = c.args in
-    let l = c.loop-q in
-    (omega arith, row_more a.set l.q l.invariant.1 c.add-reached.ensures)
+loop-q-preserved c = row_more c.args.set c.loop-q.q c.loop-q.invariant c.add-reached.ensures
 
 pub returns : goal.returns
 returns c =
     let a = c.args in
     let l = c.loop-q in
     let e : l.q ≡ 16 = omega arith in
-    subst (λ (q : ℕ). Longer a.queue.now a.count a.depth a.p (Below a.set q) a.origin l.queue l.reached) e l.invariant.1
+    subst (λ (q : ℕ). Longer a.queue.now a.count a.depth a.p (Below a.set q) a.origin l.queue l.reached) e l.invariant

@@ -3,7 +3,7 @@ use mathlib.Core.Path.{◌≡◌}
 use Rattle.automaton.specs.Automaton.{transition_sets}
 use Rattle.lent.specs.Lent.{witness_tables}
 use Rattle.reading.specs.Read.{ReadTables, read_tables, lent_cleared}
-use Rattle.reading.proofs.ReadLaws.{ready-to-read, reads-cleared}
+use Rattle.reading.proofs.ReadLaws.{reads-cleared}
 use Rattle.reading.proofs.read_long.Goals as goal
 use Rattle.reading.proofs.read_long.Goals.{After-clear_witness, Start}
 
@@ -17,11 +17,6 @@ empty : (c : After-clear_witness) →
     read_tables (transition_sets t.table t.marks) a.rows.now (witness_tables w.word w.one w.other)
     ≡ lent_cleared (read_tables (transition_sets a.table.now a.marks.now) a.rows.now (witness_tables a.word.now a.one.now a.other.now))
 empty c = λ i. read_tables (c.clear_sets.ensures i) c.args.rows.now (c.clear_witness.ensures i)
-
-pub read_cleared-requires : goal.read_cleared-requires
-read_cleared-requires c =
-    let at = goal.at.read_cleared-requires c in
-    ready-to-read (lent at.Start) (empty at.After-clear_witness) c.requires
 
 pub returns : goal.returns
 returns c =

@@ -1,8 +1,9 @@
 -- The output is the text that is written, or its refusal in the cleared buffer. Assumes nothing.
+use Rattle.std.specs.Prelude.{Result, ℕ}
+use Rattle.gate.specs.declared.Refusal.{Refusal}
 use mathlib.Core.Path.{refl, subst}
 use lib.ListN.{replicate}
 use native.Mathlib.Omega.{arith}
-use Rattle.gate.specs.declared.Written.{Written}
 use Rattle.lent.specs.Lent.{WitnessTables, witness_tables, EnoughForWitness}
 use Rattle.writer.specs.Write.{write_tables}
 use Rattle.file_writer.specs.FileWrite.{Writes}
@@ -20,7 +21,7 @@ long : EnoughForWitness lent
 long = record { word = omega arith; one = omega arith; other = omega arith }
 
 -- the sheet is written
-abbrev Wrote-as : After-write → Written → Type 0
+abbrev Wrote-as : After-write → Result ℕ Refusal → Type 0
 Wrote-as c x =
     let a = c.args in
     let w = c.write.new in
@@ -32,14 +33,14 @@ returns-then-out-lt-OUTPUT-clause-prints c = Prints.short (omega arith) refl ref
 pub put_refusal_text-requires : goal.put_refusal_text-requires
 put_refusal_text-requires c =
     let room = c.if-out-lt-OUTPUT.false in
-    record { letters = refused-short (subst (Wrote-as (goal.at.put_refusal_text-requires c).After-write) c.in-Refused.is c.write.ensures) long room; long = search rules; room = search rules }
+    record { letters = refused-short (subst (Wrote-as (goal.at.put_refusal_text-requires c).After-write) c.in-Err.is c.write.ensures) long room; long = search rules; room = search rules }
 
-pub returns-in-Bytes-clause-prints : goal.returns-in-Bytes-clause-prints
-returns-in-Bytes-clause-prints c =
+pub returns-in-Ok-clause-prints : goal.returns-in-Ok-clause-prints
+returns-in-Ok-clause-prints c =
     let room = c.if-out-lt-OUTPUT.false in
-    bytes-printed (subst (Wrote-as (goal.at.returns-in-Bytes-clause-prints c).After-write) c.in-Bytes.is c.write.ensures) room
+    bytes-printed (subst (Wrote-as (goal.at.returns-in-Ok-clause-prints c).After-write) c.in-Ok.is c.write.ensures) room
 
-pub returns-in-Refused-clause-prints : goal.returns-in-Refused-clause-prints
-returns-in-Refused-clause-prints c =
+pub returns-in-Err-clause-prints : goal.returns-in-Err-clause-prints
+returns-in-Err-clause-prints c =
     let room = c.if-out-lt-OUTPUT.false in
-    refused-printed (subst (Wrote-as (goal.at.returns-in-Refused-clause-prints c).After-write) c.in-Refused.is c.write.ensures) long room c.put_refusal_text.ensures
+    refused-printed (subst (Wrote-as (goal.at.returns-in-Err-clause-prints c).After-write) c.in-Err.is c.write.ensures) long room c.put_refusal_text.ensures

@@ -8,7 +8,7 @@ use Rattle.sheet_lines.specs.RowNameLaws.{rest-whole, rest-zero, rest-byte, rest
 use Rattle.sheet_lines.proofs.name_length.Goals as goal
 
 pub loop-i-init : goal.loop-i-init
-loop-i-init c = (omega arith, zero-add _ ∙ ap length (rest-whole c.args.rows.now c.args.l))
+loop-i-init c = zero-add _ ∙ ap length (rest-whole c.args.rows.now c.args.l)
 
 pub returns-then-rows-l-eq0 : goal.returns-then-rows-l-eq0
 returns-then-rows-l-eq0 c =
@@ -20,7 +20,7 @@ pub loop-i-preserved : goal.loop-i-preserved
 loop-i-preserved c =
     let a = c.args in
     let more = rest-byte a.rows.now a.l c.loop-i.i (omega arith) (omega arith) c.if-rows-l-eq0.false in
-    (omega arith, omega arith)
+    omega arith
 
 pub returns : goal.returns
 returns c =

@@ -1,8 +1,11 @@
--- `sheet_lines::put_head` meets its contract: the parts are stored one behind the other. Assumes nothing.
-use Rattle.sheet_lines.specs.LineLaws.{head-stored}
+-- The word is the edition's. Assumes nothing.
+use Rattle.format.specs.Format.{head_line}
 use Rattle.sheet_lines.proofs.put_head.Goals as goal
 
-pub returns : goal.returns
-returns c =
-    let a = c.args in
-    head-stored a.edition a.out.now a.at a.n a.k c.put_word.ensures c.put_last.ensures
+pub returns-in-StateBased : goal.returns-in-StateBased
+unfolding head_line
+returns-in-StateBased c = rw c.in-StateBased.is c.put_numbers.ensures
+
+pub returns-in-TransitionBased : goal.returns-in-TransitionBased
+unfolding head_line
+returns-in-TransitionBased c = rw c.in-TransitionBased.is c.put_numbers-in-TransitionBased.ensures

@@ -4,4 +4,4 @@ use Rattle.sheet_lines.proofs.put_withdrawal.Goals as goal
 
 pub returns : goal.returns
 unfolding withdrawal_line
-returns c = c.put_two.ensures
+returns c = c.put_numbers.ensures

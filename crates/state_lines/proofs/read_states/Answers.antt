@@ -10,31 +10,30 @@ returns-in_default c =
     let l = c.loop-q in
     let a = c.args in
     let line = sym c.state_line.ensures.0 ∙ c.in_default.is in
-    (ap states_answer (sym (states-turn a.edition a.s.now l.line l.at l.q l.initial' l.recurring a.n (omega arith) line) ∙ l.invariant.6), tt)
+    (ap states_answer (sym (states-turn a.edition a.s.now l.line l.at l.q l.initial' l.recurring a.n (omega arith) line) ∙ l.invariant.5), tt)
 
 pub loop-q-preserved : goal.loop-q-preserved
 loop-q-preserved c =
     let l = c.loop-q in
     let a = c.args in
-    let i = c.in-Is.i in
-    let r = c.in-Is.r in
-    let b : l.bit ≡ 2 ^ l.q = l.invariant.3 in
-    let small : (i ≤ 1) × (r ≤ 1) = rw c.in-Is.is at c.state_line.ensures.1 in
+    let i = c.in-Some.i in
+    let r = c.in-Some.r in
+    let b : l.bit ≡ 2 ^ l.q = l.invariant.2 in
+    let small = c.in-Some.ensures.1 in
     let parts : (i * l.bit ≤ l.bit) × (r * l.bit ≤ l.bit) = (flag-part i l.bit small.0, flag-part r l.bit small.1) in
-    let line = sym c.state_line.ensures.0 ∙ c.in-Is.is in (
-      omega arith,
+    let line = sym c.state_line.ensures.0 ∙ c.in-Some.is in (
       omega arith,
       omega arith,
       rw b (double l.q),
       omega (arith, parts),
       omega (arith, parts),
       rw (b, c.state_width-size.ensures.0)
-          (sym (states-turn a.edition a.s.now l.line l.at l.q l.initial' l.recurring a.n (omega arith) line) ∙ l.invariant.6),
+          (sym (states-turn a.edition a.s.now l.line l.at l.q l.initial' l.recurring a.n (omega arith) line) ∙ l.invariant.5),
     )
 
 pub returns : goal.returns
 returns c =
     let l = c.loop-q in
     let a = c.args in
-    let e = sym (states-done a.edition a.s.now l.line l.at l.q l.initial' l.recurring a.n (omega arith)) ∙ l.invariant.6 in
+    let e = sym (states-done a.edition a.s.now l.line l.at l.q l.initial' l.recurring a.n (omega arith)) ∙ l.invariant.5 in
     (ap states_answer e, (omega arith, omega arith))

@@ -6,8 +6,5 @@ use Rattle.state_lines.proofs.read_states.Given as goal
 
 abbrev pub invariant-loop-q : goal.invariant-loop-q
 invariant-loop-q l =
-    (l.q ≤ l.n) × (l.at ≤ l.start + 11 * l.q) × (l.line ≡ l.first + l.q) × (l.bit ≡ 2 ^ l.q) × (l.initial' < l.bit) × (l.recurring < l.bit) ×
+    (l.at ≤ l.start + 11 * l.q) × (l.line ≡ l.first + l.q) × (l.bit ≡ 2 ^ l.q) × (l.initial' < l.bit) × (l.recurring < l.bit) ×
     (states_at l.edition l.s l.line l.at l.q l.initial' l.recurring (l.n - l.q) ≡ states_at l.edition l.s l.first l.start 0 0 0 l.n)
-
-abbrev pub decreases-loop-q : goal.decreases-loop-q
-decreases-loop-q l = l.n - l.q

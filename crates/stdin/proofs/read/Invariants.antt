@@ -1,9 +1,9 @@
--- What is read so far stands within the buffer, which keeps its length.
-use Rattle.std.proofs.Common.{length, ◌-◌, ◌≤◌, ◌≡◌}
+-- What is read so far stands within the buffer.
+use Rattle.std.proofs.Common.{length, ◌-◌, ◌≤◌}
 use Rattle.stdin.proofs.read.Given as goal
 
 abbrev pub invariant-loop-n : goal.invariant-loop-n
-invariant-loop-n g l = (l.n ≤ length l.buf) × (length l.buf ≡ length l.initial.buf)
+invariant-loop-n g l = l.n ≤ length l.buf
 
 abbrev pub decreases-loop-n : goal.decreases-loop-n
 decreases-loop-n g l = length l.buf - l.n

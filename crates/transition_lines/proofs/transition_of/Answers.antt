@@ -1,4 +1,5 @@
 -- Each answer is what the tests passed make of the definition. Assumes nothing.
+use Rattle.std.specs.Prelude.{None, Some}
 use Prim.Native.Nat.{◌+◌, ◌*◌}
 use mathlib.Core.Path.{◌≡◌}
 use mathlib.Core.Bool.{Bool, true, false}
@@ -6,7 +7,6 @@ use lib.Dec.{leb}
 use native.Mathlib.Omega.{arith}
 use borrow.Author.Tests.{lt-ltb, le-ltb, lt-leb, le-leb}
 use Rattle.lists.specs.Choice.{choose}
-use Rattle.transition_lines.specs.declared.TransitionLine.TheVariants.{Is, Bad}
 use Rattle.transition_lines.specs.TransitionLines.{transition_of}
 use Rattle.transition_lines.proofs.transition_of.Goals as goal
 use Rattle.transition_lines.proofs.transition_of.Goals.{Else-to-n}
@@ -15,7 +15,7 @@ use Rattle.transition_lines.proofs.transition_of.Goals.{Else-to-n}
 ordered : (c : Else-to-n) →
     let a = c.args in
     (t : Bool) → leb a.least ((8 * a.from + a.letter) * 16 + a.to) ≡ t →
-    choose t (Is a.from a.letter a.to a.mark) Bad ≡ transition_of a.n a.k a.least a.from a.letter a.to a.mark
+    choose t (Some (a.from, a.letter, a.to, a.mark)) None ≡ transition_of a.n a.k a.least a.from a.letter a.to a.mark
 unfolding transition_of
 ordered c t e = simp (lt-ltb _ _ c.if-from-n.false, lt-ltb _ _ c.if-letter-k.false, lt-ltb _ _ c.if-to-n.false, e)
 

@@ -3,11 +3,6 @@ use Rattle.automaton.specs.EndlessLaws.{endless-back}
 use Rattle.meeting.specs.AnswerLaws.{backwards-same, answer-same}
 use Rattle.walks.proofs.ask.Goals as goal
 
-pub states-counts-requires : goal.states-counts-requires
-states-counts-requires c =
-    let p = c.requires in
-    (p.fits, p.cells)
-
 pub search-requires : goal.search-requires
 search-requires c = (c.requires, backwards-same c.states-counts.ensures endless-back)
 

@@ -4,6 +4,3 @@ use Rattle.ways.proofs.put_letters.Given as goal
 
 abbrev pub invariant-loop-left : goal.invariant-loop-left
 invariant-loop-left l = Writing l.tuples l.count l.t l.d l.initial.letters l.letters l.at l.left
-
-abbrev pub decreases-loop-left : goal.decreases-loop-left
-decreases-loop-left l = l.left

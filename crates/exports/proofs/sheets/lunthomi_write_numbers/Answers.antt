@@ -1,7 +1,6 @@
 -- The call's answer in the lent table. Assumes nothing.
 use mathlib.Core.Path.{subst}
-use Rattle.automaton.specs.declared.Edition.{Edition}
-use Rattle.answers.specs.Answer.{as_numbers}
+use Rattle.automaton.specs.Automaton.{Automaton}
 use Rattle.lent.specs.Lent.{witness_tables}
 use Rattle.writer.specs.Write.{write_tables, WritesNumbers}
 use Rattle.exports.proofs.sheets.lunthomi_write_numbers.Goals as goal
@@ -12,8 +11,8 @@ returns c =
     let r = c.write_numbers-r in
     record {
       answer = r.result;
-      call = subst (λ (e : Edition). WritesNumbers (as_numbers e a.n a.k a.initial a.recurring a.table.now a.marks.now) a.names.now (write_tables (witness_tables a.word.now a.one.now a.other.now) a.out.now)
+      call = subst (λ (A : Automaton). WritesNumbers A a.names.now (write_tables (witness_tables a.word.now a.one.now a.other.now) a.out.now)
           (write_tables (witness_tables r.new.word r.new.one r.new.other) r.new.out) r.result)
-          c.edition_of.ensures r.ensures;
+          (c.numbers_of-a.ensures a.table.now a.marks.now) r.ensures;
       table = c.put_written.ensures;
     }

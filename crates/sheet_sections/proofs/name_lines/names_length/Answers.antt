@@ -8,14 +8,14 @@ use Rattle.sheet_sections.specs.RowNamesLaws.{names-last, names-length-next}
 use Rattle.sheet_sections.proofs.name_lines.names_length.Goals as goal
 
 pub loop-l-init : goal.loop-l-init
-loop-l-init c = (omega arith, omega arith, zero-add _ ∙ rw sub-zero)
+loop-l-init c = (omega arith, zero-add _ ∙ rw sub-zero)
 
 pub loop-l-preserved : goal.loop-l-preserved
 loop-l-preserved c =
     let l = c.loop-l in
     let a = c.args in
     let next = names-length-next a.rows.now a.k l.l (omega arith) in
-    (omega arith, omega arith, omega arith)
+    (omega arith, omega arith)
 
 pub returns : goal.returns
 returns c =

@@ -9,7 +9,4 @@ use Rattle.sheet_sections.proofs.name_lines.names_length.Given as goal
 
 abbrev pub invariant-loop-l : goal.invariant-loop-l
 invariant-loop-l l =
-    (l.l ≤ l.k) × (l.count ≤ 30 * l.l) × (l.count + length (name_lines l.l (row_names l.rows l.l (l.k - l.l))) ≡ length (name_lines 0 (row_names l.rows 0 l.k)))
-
-abbrev pub decreases-loop-l : goal.decreases-loop-l
-decreases-loop-l l = l.k - l.l
+    (l.count ≤ 30 * l.l) × (l.count + length (name_lines l.l (row_names l.rows l.l (l.k - l.l))) ≡ length (name_lines 0 (row_names l.rows 0 l.k)))

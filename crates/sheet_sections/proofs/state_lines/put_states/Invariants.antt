@@ -1,11 +1,7 @@
 -- `sheet_sections::state_lines::put_states` meets its contract: what is left to write gives the whole. Assumes nothing.
-use Prim.Native.Nat.{◌-◌}
 use Rattle.text.specs.PiecesLaws.{Putting}
 use Rattle.sheet_sections.specs.StatesLaws.{state_text}
 use Rattle.sheet_sections.proofs.state_lines.put_states.Given as goal
 
 abbrev pub invariant-loop-q : goal.invariant-loop-q
 invariant-loop-q l = Putting (state_text l.edition l.initial' l.recurring) l.initial.out l.start l.n l.out l.at l.q
-
-abbrev pub decreases-loop-q : goal.decreases-loop-q
-decreases-loop-q l = l.n - l.q

@@ -1,5 +1,4 @@
 -- `sheet_sections::withdrawal_lines::put_withdrawals` meets its contract: what is left to write gives the whole. Assumes nothing.
-use Prim.Native.Nat.{◌-◌}
 use Rattle.text.specs.PiecesLaws.{Putting}
 use Rattle.superseding.specs.Superseding.{superseding_in}
 use Rattle.sheet_sections.specs.RowWithdrawals.{withdrawal_text}
@@ -7,6 +6,3 @@ use Rattle.sheet_sections.proofs.withdrawal_lines.put_withdrawals.Given as goal
 
 abbrev pub invariant-loop-l : goal.invariant-loop-l
 invariant-loop-l l = Putting (withdrawal_text (superseding_in l.rows)) l.initial.out l.start l.k l.out l.at l.l
-
-abbrev pub decreases-loop-l : goal.decreases-loop-l
-decreases-loop-l l = l.k - l.l

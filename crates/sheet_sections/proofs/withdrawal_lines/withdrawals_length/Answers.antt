@@ -9,7 +9,7 @@ use Rattle.sheet_sections.proofs.withdrawal_lines.withdrawals_length.Goals as go
 use Rattle.sheet_sections.proofs.withdrawal_lines.withdrawals_length.Goals.{then-superseding-ne0, else-superseding-ne0}
 
 pub loop-l-init : goal.loop-l-init
-loop-l-init c = (omega arith, omega arith, zero-add _ ∙ rw sub-zero)
+loop-l-init c = (omega arith, zero-add _ ∙ rw sub-zero)
 
 pub loop-l-preserved : goal.loop-l-preserved
 loop-l-preserved c =
@@ -20,9 +20,9 @@ loop-l-preserved c =
     let next = withdrawals-length-next cells a.k l (omega arith) in
     elim c.if-superseding-ne0.branch [
       | then-superseding-ne0 w ↦
-          (let line = length-withdrawn cells l (λ e. w.if-superseding-ne0.true (cell ∙ e)) in (omega arith, omega arith, omega arith))
+          (let line = length-withdrawn cells l (λ e. w.if-superseding-ne0.true (cell ∙ e)) in (omega arith, omega arith))
       | else-superseding-ne0 w ↦
-          (let none = length-in-force cells l (sym cell ∙ w.if-superseding-ne0.false) in (omega arith, omega arith, omega arith))
+          (let none = length-in-force cells l (sym cell ∙ w.if-superseding-ne0.false) in (omega arith, omega arith))
     ]
 
 pub returns : goal.returns

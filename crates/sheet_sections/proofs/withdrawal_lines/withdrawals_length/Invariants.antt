@@ -10,8 +10,5 @@ use Rattle.sheet_sections.proofs.withdrawal_lines.withdrawals_length.Given as go
 
 abbrev pub invariant-loop-l : goal.invariant-loop-l
 invariant-loop-l l =
-    (l.l ≤ l.k) × (l.count ≤ 8 * l.l)
+    (l.count ≤ 8 * l.l)
     × (l.count + length (withdrawal_lines (withdrawals_of (superseding_in l.rows) l.l (l.k - l.l))) ≡ length (withdrawal_lines (withdrawals_of (superseding_in l.rows) 0 l.k)))
-
-abbrev pub decreases-loop-l : goal.decreases-loop-l
-decreases-loop-l l = l.k - l.l
