@@ -11,7 +11,7 @@ use gate::Refusal;
 use passes::{Answer, Verdict};
 use tracker::Tracker;
 
-// 1 for SHEET, 2 for SHT-2.
+// 1 for SHEET, 2 for SHT-2. No From: the numbers are those of the exported calls alone.
 fn edition_cell(edition: Edition) -> usize
     ensures { result ≡ edition_cell edition }
 {
@@ -21,7 +21,7 @@ fn edition_cell(edition: Edition) -> usize
     }
 }
 
-// The edition that a number names.
+// The edition that a number names; no TryFrom, since every number names one there.
 pub fn edition_of(number: usize) -> Edition
     ensures { result ≡ edition_numbered number }
 {
@@ -132,7 +132,7 @@ pub fn put_way(r: Result<Option<usize>, Refusal>, answer: &mut [usize])
     }
 }
 
-// 1 for yes, 2 for no.
+// 1 for yes, 2 for no. No From, as above.
 fn answer_cell(answer: Answer) -> usize
     ensures { result ≡ answer_cell answer }
 {

@@ -20,7 +20,7 @@ fn show(screen: Stdout, out: &[u8], n: usize) -> io::Result<()> {
     Ok(())
 }
 
-// A line of 12 bytes without its LF.
+// A line of 12 bytes without its LF; no Display, since the bytes are those that the programs print.
 fn say_line(screen: Stdout, line: [u8; 12]) -> io::Result<()> {
     show(screen, &line, 11)
 }
@@ -142,6 +142,7 @@ fn say_judgement(screen: Stdout, sheet: &[u8], plan: &[u8], room: usize) -> io::
     }
 }
 
+// A digit of a case's own first line, which is no number of a file.
 fn digit(b: u8) -> usize
     ensures { result < 16 }
 {
