@@ -1,4 +1,4 @@
--- The answers of the code, as enums, to what the phases of a first and of a last line give, and the facts that come with them.
+-- The answers of the code to what the phases of a first and of a last line give, and the facts that come with them.
 use Rattle.std.specs.Prelude.{ℕ, ◌≤◌, List, Err, Ok, Result}
 use Rattle.gate.specs.declared.Refusal.{Refusal}
 use Rattle.gate.specs.Gate.{refusal}

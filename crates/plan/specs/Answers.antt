@@ -1,4 +1,4 @@
--- The answers of the code, as enums, for what the phases of Parse give; and the facts that come with them.
+-- The answers of the code for what the phases of Parse give; and the facts that come with them.
 use Rattle.std.specs.Prelude.{ℕ, ◌+◌, ◌≡◌, List, ◌++◌, drop, Err, Ok, Result}
 use Rattle.gate.specs.declared.Refusal.{Refusal}
 use Rattle.gate.specs.Gate.{refusal, cleared}
