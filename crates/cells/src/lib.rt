@@ -10,8 +10,12 @@ use gate::Refusal;
 fn copy_filled<T: Copy>(list: &[T], table: &mut [T], filler: T)
     ensures { table.new ≡ filled filler table.old list.now }
 {
-    for (i, cell) in table.iter_mut().enumerate() {
-        *cell = list.get(i).copied().unwrap_or(filler);
+    let n = list.len().min(table.len());
+    for i in 0..n {
+        table[i] = list[i];
+    }
+    for i in n..table.len() {
+        table[i] = filler;
     }
 }
 

@@ -3,4 +3,7 @@ use Rattle.cells.specs.CopyLaws.{Copying}
 use Rattle.cells.proofs.copy_filled.Given as goal
 
 abbrev pub invariant-loop-i : goal.invariant-loop-i
-invariant-loop-i g l = Copying l.filler l.initial.table l.list l.table l.i
+invariant-loop-i g l = Copying l.filler l.fn.table l.list l.table l.i
+
+abbrev pub invariant-loop-i-2 : goal.invariant-loop-i-2
+invariant-loop-i-2 g l = Copying l.filler l.fn.table l.list l.table l.i
