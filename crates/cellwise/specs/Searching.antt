@@ -1,7 +1,8 @@
 -- The questions on numbers and the search for meeting walks, case by case: how the answers are put together, where the search begins, and what the cleared tables
 -- give to the questions behind. Assumes nothing.
-use Rattle.std.specs.Prelude.{ℕ, ◌+◌, ◌%◌, ◌≤◌, ◌<◌, ◌≡◌, refl, List, length, Some, None}
+use Rattle.std.specs.Prelude.{ℕ, ◌+◌, ◌%◌, ◌≤◌, ◌<◌, ◌≡◌, refl, List, length, Option, Some, None}
 use Rattle.std.proofs.Common.{sym, arith}
+use Rattle.std.proofs.lemmas.Bool.{false≢true}
 use Rattle.std.proofs.lemmas.Option.{none-some}
 use Rattle.automaton.specs.declared.Numbers.{Numbers}
 use Rattle.automaton.specs.Automaton.{Automaton, TransitionSets, Fits, FirstNo, Answers}
@@ -12,6 +13,7 @@ use Rattle.lent.proofs.LentLaws.{lengths-cleared, tables-twice, long-cleared, se
 use Rattle.queue.specs.Queue.{pair, depth, Queue, AtMost, Open}
 use Rattle.pair_search.specs.Search.{AllJustified, Grown, Started, Ready, Search, Joining, MeetingFound}
 use Rattle.meeting.specs.Answer.{Answered}
+use Rattle.meeting.specs.WitnessLaws.{found-joins}
 use Rattle.reading.specs.Read.{ReadTables, SheetRead, lent_cleared}
 
 -- THE QUESTIONS 4, 7 and 8: all answered yes, and the first answered no
@@ -39,9 +41,11 @@ answer-witness {r = r} l x s = record {
   lengths = s;
 }
 
--- the letter on which the pair that was found joins is one of the eight
-pub found-letter : {G : Graph} {counts : ℕ} {T : List ℕ} {head e l : ℕ} → MeetingFound G counts T head → e ≡ pair T head → Joining G.table counts e (Some l) → l < 8
-found-letter f h j = j.low
+-- a pair that was found joins, and the letter is one of the eight
+pub found-letter : {G : Graph} {counts : ℕ} {T : List ℕ} {head e : ℕ} {o : Option ℕ} → MeetingFound G counts T head → e ≡ pair T head → Joining G.table counts e o
+    → (l : ℕ) × (o ≡ Some l) × (l < 8)
+found-letter {o = None} f h j = absurd (false≢true (found-joins None f h j))
+found-letter {o = Some l} f h j = (l, refl, j.low)
 
 -- THE SEARCH: where it begins, and what a pair of it may add
 
